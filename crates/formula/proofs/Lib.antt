@@ -1,0 +1,5 @@
+-- Laws that several proofs of this crate cite.
+pub mod Signed
+pub mod Scan
+pub mod Lent
+pub mod SignedWord

@@ -1,0 +1,101 @@
+-- `put_literal` refuses as it is judged, or writes the word and the mark. Assumes nothing.
+use Prim.Native.Nat.{_+_, _≤_}
+use mathlib.Core.Path.{_≡_, refl, sym, _∙_}
+use native.Mathlib.Omega.{arith}
+use lib.ListN.{length, getD}
+use lib.Dec.{ltb, eqb}
+use Rattle.formula.specs.Bounds.{variableBound}
+use Rattle.formula.specs.Text.{literalRefusal}
+use Rattle.formula.specs.Text.Laws.{LiteralFine, literal-fine}
+use Rattle.formula.specs.Stage.{literalStep}
+use Rattle.formula.specs.Stage.ClauseLaws.{literal-none}
+use Rattle.formula.proofs.SignedWord.{signed-back}
+use borrow.Author.Needs.{needs}
+use Rattle.formula.proofs.clauses.put_literal.Statement.{statement}
+use Rattle.formula.proofs.clauses.put_literal.Tie as tie
+
+-- the literal as it is judged, by its variable's mark
+judged-at : (c : tie.After-judge-literal) → let args = c .before .before .before .args in c .judge-literal .result ≡ literalStep (literalRefusal (args .place) (args .variables) (args .n) (ltb 0 (getD (args .marks .now) (args .n) 0)) (eqb (getD (args .marks .now) (args .n) 0) (args .closed + 2)) (args .used) (length (args .clauses .now)))
+judged-at c = rw (← c .before .mark-of .ensures) (c .judge-literal .ensures)
+
+fine-at : (c : tie.After-enum-told2) → let args = c .before .before .before .before .before .args in LiteralFine (args .variables) (args .n) (ltb 0 (getD (args .marks .now) (args .n) 0)) (eqb (getD (args .marks .now) (args .n) 0) (args .closed + 2)) (args .used) (length (args .clauses .now))
+fine-at c =
+    let args = c .before .before .before .before .before .args in
+    literal-fine (args .place) (args .variables) (args .n) _ _ (args .used) _ (literal-none (literalRefusal (args .place) (args .variables) (args .n) (ltb 0 (getD (args .marks .now) (args .n) 0)) (eqb (getD (args .marks .now) (args .n) 0) (args .closed + 2)) (args .used) (length (args .clauses .now))) (sym (c .enum-told2 .given .1) ∙ judged-at (c .before .before)))
+
+small-at : (c : tie.After-enum-told2) → c .before .before .before .before .before .args .n ≤ variableBound
+small-at c = omega (arith, fine-at c .inRange, c .before .before .before .before .before .pre .0)
+
+mark-of-requires : tie.Need-mark-of-requires
+mark-of-requires c κs = search needs
+
+add-judge-literal : tie.Need-add-judge-literal
+add-judge-literal c = search needs
+
+judge-literal-requires : tie.Need-judge-literal-requires
+judge-literal-requires c κs = search needs
+
+enum-known-r : tie.Need-enum-known-r
+enum-known-r c = search needs
+
+enum-told : tie.Need-enum-told
+enum-told c = search needs
+
+enum-told-2 : tie.Need-enum-told-2
+enum-told-2 c = search needs
+
+signed-word-requires : tie.Need-signed-word-requires
+signed-word-requires c κs = small-at c
+
+mul-t19 : tie.Need-mul-t19
+mul-t19 c = omega (arith, fine-at (c .before) .fits)
+
+slice-set-from-clauses : tie.Need-slice-set-from-clauses
+slice-set-from-clauses c = omega (arith, fine-at (c .before) .fits)
+
+add-marks : tie.Need-add-marks
+add-marks c = search needs
+
+mul-marks : tie.Need-mul-marks
+mul-marks c = omega (arith, small-at (c .before))
+
+element-write-marks : tie.Need-element-write-marks
+element-write-marks c = omega (arith, small-at (c .before))
+
+returns : tie.Need-returns
+returns c = record { answers = sym (c .before .r .given .1) ∙ judged-at (c .before .before .before); stores = tt }
+
+returns-2 : tie.Need-returns-2
+returns-2 c = record { answers = sym (c .enum-told .given .1) ∙ judged-at (c .before .before); stores = tt }
+
+same-length : tie.Need-same-length
+same-length c = search needs
+
+returns-3 : tie.Need-returns-3
+returns-3 c =
+    let args = c .before .before .before .before .before .before .args in
+    record {
+      answers = sym (c .before .enum-told2 .given .1) ∙ judged-at (c .before .before .before);
+      stores = (rw (c .signed-word .ensures, signed-back (args .positive) (args .n) (small-at (c .before))), refl, fine-at (c .before) .fits, small-at (c .before));
+    }
+
+pub put-literal-spec : {M : Type 1} → statement M
+put-literal-spec =
+    tie.close
+    (tie.spec
+    mark-of-requires
+    add-judge-literal
+    judge-literal-requires
+    enum-known-r
+    enum-told
+    enum-told-2
+    signed-word-requires
+    mul-t19
+    slice-set-from-clauses
+    add-marks
+    mul-marks
+    element-write-marks
+    returns
+    returns-2
+    same-length
+    returns-3)

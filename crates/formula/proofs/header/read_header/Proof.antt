@@ -1,0 +1,64 @@
+-- `read_header` reads `p` and `cnf`, then the numbers. Assumes nothing.
+use mathlib.Core.Path.{sym, _∙_}
+use Rattle.formula.specs.Stage.Laws.{p-read, cnf-read, header-before}
+use borrow.Author.Needs.{needs}
+use Rattle.formula.proofs.header.read_header.Statement.{statement}
+use Rattle.formula.proofs.header.read_header.Tie as tie
+
+first-token-requires : tie.Need-first-token-requires
+first-token-requires c κs = search needs
+
+header-word-requires : tie.Need-header-word-requires
+header-word-requires c κs = search needs
+
+enum-known-r : tie.Need-enum-known-r
+enum-known-r c = search needs
+
+enum-known-at : tie.Need-enum-known-at
+enum-known-at c = search needs
+
+header-word-requires-2 : tie.Need-header-word-requires-2
+header-word-requires-2 c κs = search needs
+
+enum-known-r-2 : tie.Need-enum-known-r-2
+enum-known-r-2 c = search needs
+
+enum-known-next : tie.Need-enum-known-next
+enum-known-next c = search needs
+
+header-numbers-requires : tie.Need-header-numbers-requires
+header-numbers-requires c κs = search needs
+
+returns : tie.Need-returns
+returns c =
+    let text = c .before .before .before .before .before .before .args .text .now in
+    λ rp rc. rw (← c .before .before .before .before .first-token .ensures) (p-read rp rc text _ _ (sym (c .before .r .given .1) ∙ c .before .before .before .header-word .ensures))
+
+returns-2 : tie.Need-returns-2
+returns-2 c =
+    let text = c .before .before .before .before .before .before .before .before .before .before .args .text .now in
+    λ rp rc.
+    rw (← c .before .before .before .before .before .before .before .before .first-token .ensures) (p-read rp rc text _ _ (sym (c .before .before .before .before .before .at .given .1) ∙ c .before .before .before .before .before .before .before .header-word .ensures) ∙ cnf-read rp rc text _ _ (sym (c .before .r2 .given .1) ∙ c .before .before .before .header-word2 .ensures))
+
+returns-3 : tie.Need-returns-3
+returns-3 c =
+    let text = c .before .before .before .before .before .before .before .before .before .before .before .args .text .now in
+    let e = sym (c .before .before .before .before .before .before .at .given .1) ∙ c .before .before .before .before .before .before .before .before .header-word .ensures in
+    let f = sym (c .before .before .next .given .1) ∙ c .before .before .before .before .header-word2 .ensures in
+    rw (← c .before .before .before .before .before .before .before .before .before .first-token .ensures) (header-before text _ _ _ _ (λ rp rc. p-read rp rc text _ _ e ∙ cnf-read rp rc text _ _ f) (c .header-numbers .result) (c .header-numbers .ensures))
+
+pub read-header-spec : {M : Type 1} → statement M
+read-header-spec =
+    tie.close
+    (tie.spec
+    first-token-requires
+    header-word-requires
+    enum-known-r
+    enum-known-at
+    header-word-requires-2
+    enum-known-r-2
+    enum-known-next
+    header-numbers-requires
+    returns
+    returns-2
+    returns-3)

@@ -1,0 +1,72 @@
+-- `fill` asks for the length, then reads the header and the rest. Assumes nothing.
+use mathlib.Core.Path.{sym, _∙_}
+use lib.ListN.{length}
+use Rattle.formula.specs.Stage.FillLaws.{text-oversized, text-within, reading-from, reading-long}
+use borrow.Author.Needs.{needs}
+use Rattle.formula.proofs.read.fill.Statement.{statement}
+use Rattle.formula.proofs.read.fill.Tie as tie
+
+new-requires : tie.Need-new-requires
+new-requires c κs = search needs
+
+enum-told : tie.Need-enum-told
+enum-told c = search needs
+
+enum-told-2 : tie.Need-enum-told-2
+enum-told-2 c = search needs
+
+read-header-requires : tie.Need-read-header-requires
+read-header-requires c κs = search needs
+
+enum-known-r : tie.Need-enum-known-r
+enum-known-r c = search needs
+
+enum-known-variables : tie.Need-enum-known-variables
+enum-known-variables c = search needs
+
+fill-tables-requires : tie.Need-fill-tables-requires
+fill-tables-requires c κs =
+    let post = rw (c .before .before .before .variables .given .1) at (c .before .before .before .before .before .read-header .ensures) in
+    (post .1, post .2)
+
+returns : tie.Need-returns
+returns c =
+    let args = c .before .before .before .before .args in
+    reading-long (args .text .now) _ _ (text-oversized _ (length (args .text .now)) (sym (c .before .before .new .ensures) ∙ c .enum-told .given .1))
+
+returns-2 : tie.Need-returns-2
+returns-2 c =
+    let args = c .before .before .before .before .before .before .before .before .args in
+    let short = text-within _ (length (args .text .now)) _ (sym (c .before .before .before .before .before .before .new .ensures) ∙ c .before .before .before .before .enum-told2 .given .1) in
+    let post = rw (c .before .r .given .1) at (c .before .before .before .read-header .ensures) in
+    reading-from (args .text .now) _ _ short ∙ post _ _
+
+same-length : tie.Need-same-length
+same-length c = search needs
+
+same-length-2 : tie.Need-same-length-2
+same-length-2 c = search needs
+
+returns-3 : tie.Need-returns-3
+returns-3 c =
+    let args = c .before .before .before .before .before .before .before .before .before .before .before .before .before .args in
+    let short = text-within _ (length (args .text .now)) _ (sym (c .before .before .before .before .before .before .before .before .before .before .before .new .ensures) ∙ c .before .before .before .before .before .before .before .before .before .enum-told2 .given .1) in
+    let post = rw (c .before .before .before .before .before .before .variables .given .1) at (c .before .before .before .before .before .before .before .before .read-header .ensures) in
+    rw (reading-from (args .text .now) (length (args .prefix .now)) (length (args .clauses .now)) short ∙ post .0 (length (args .prefix .now)) (length (args .clauses .now))) (c .before .before .fill-tables .ensures)
+
+pub fill-spec : {M : Type 1} → statement M
+fill-spec =
+    tie.close
+    (tie.spec
+    new-requires
+    enum-told
+    enum-told-2
+    read-header-requires
+    enum-known-r
+    enum-known-variables
+    fill-tables-requires
+    returns
+    returns-2
+    same-length
+    same-length-2
+    returns-3)

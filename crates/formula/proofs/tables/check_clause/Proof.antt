@@ -1,0 +1,160 @@
+-- `check_clause`: the run of literals, the search for a clash among them, then the word after them; each outcome is a law of
+-- Scan.antt. Assumes nothing.
+use Prim.Native.Nat.{ℕ, _+_, _-_, _≤_, _<_}
+use mathlib.Core.Path.{_≡_}
+use mathlib.Core.List.{[]}
+use native.Mathlib.Omega.{arith}
+use lib.ListN.{length, getD, take, drop, length-drop}
+use lib.IntN.{pos, natAbs}
+use mir.Syntax.{w32}
+use mir.Val.{toZ, ofZ}
+use Rattle.formula.specs.Word.{wordOf}
+use Rattle.formula.specs.Tables.Scan.{magnitudeOf, marked, plainRun, clashFree}
+use Rattle.formula.proofs.Scan.{magnitude-zero, magnitude-large, magnitude-signed, run-within, run-range, clause-clash, clause-unfinished, clause-closed, clause-large, clause-unbound}
+use borrow.Author.Needs.{needs}
+use Rattle.formula.proofs.tables.check_clause.Statement.{statement}
+use Rattle.formula.proofs.tables.check_clause.Tie as tie
+
+literals-end-requires : tie.Need-literals-end-requires
+literals-end-requires c κs = search needs
+
+mul-find-clash : tie.Need-mul-find-clash
+mul-find-clash c = search needs
+
+sub-find-clash : tie.Need-sub-find-clash
+sub-find-clash c = search needs
+
+part-find-clash-start : tie.Need-part-find-clash-start
+part-find-clash-start c = search needs
+
+-- the run from the clause's place, and its length from there on
+abbrev run : (c : tie.After-literals-end) → ℕ
+run c = plainRun (marked (c .before .before .args .listed .now)) (drop (c .before .before .args .from) (c .before .before .args .clauses .now))
+
+run-length : (c : tie.After-literals-end) → c .literals-end .result - c .before .before .args .from ≡ run c
+run-length c = omega (arith, c .literals-end .ensures)
+
+run-fits : (c : tie.After-literals-end) → c .literals-end .result ≤ length (c .before .before .args .clauses .now)
+run-fits c =
+    let a = c .before .before .args in
+    let w : run c ≤ length (a .clauses .now) - a .from =
+    rw (length-drop (a .from) (a .clauses .now)) at (run-within (marked (a .listed .now)) (drop (a .from) (a .clauses .now))) in
+    omega (arith, w, c .literals-end .ensures)
+
+part-find-clash-end : tie.Need-part-find-clash-end
+part-find-clash-end c = run-fits c
+
+find-clash-requires : tie.Need-find-clash-requires
+find-clash-requires c κs =
+    let a = c .before .before .before .args in
+    rw (run-length (c .before)) (run-range (marked (a .listed .now)) (drop (a .from) (a .clauses .now)))
+
+-- where the first clash of the run is
+clash-at :
+    (c : tie.After-find-clash)
+    → c .find-clash .result ≡ clashFree [] (take (run (c .before .before)) (drop (c .before .before .before .before .args .from) (c .before .before .before .before .args .clauses .now)))
+clash-at c = rw (run-length (c .before .before)) at (c .find-clash .ensures)
+
+sub-if1 : tie.Need-sub-if1
+sub-if1 c = search needs
+
+add-t14 : tie.Need-add-t14
+add-t14 c = search needs
+
+returns : tie.Need-returns
+returns c =
+    let k = c .before in
+    let a = k .before .before .before .before .args in
+    let h = rw (run-length (k .before .before), clash-at k) at (c .if1 .taken) in
+    rw (clash-at k) (clause-clash (marked (a .listed .now)) (a .clauses .now) (a .from) h)
+
+returns-2 : tie.Need-returns-2
+returns-2 c =
+    let k = c .before .before in
+    let a = k .before .before .before .before .args in
+    let e = k .before .before .literals-end .ensures in
+    let h = rw (run-length (k .before .before), clash-at k) at (c .before .if1 .left) in
+    rw e (clause-unfinished (marked (a .listed .now)) (a .clauses .now) (a .from) h (search needs) (rw e at (c .if2 .taken)))
+
+-- the magnitude of the word after the run
+magnitude-at :
+    (c : tie.After-magnitude)
+    → c .magnitude .result
+    ≡ magnitudeOf (wordOf (getD (c .before .before .before .before .before .before .before .before .args .clauses .now) (c .before .before .before .before .before .before .before .before .args .from + run (c .before .before .before .before .before .before)) (pos 0)))
+magnitude-at c =
+    let f = c .before .before .before .before .before .before in
+    let w = getD (f .before .before .args .clauses .now) (f .literals-end .result) (pos 0) in
+    let e : toZ w32 (ofZ w32 w) ≡ w = search needs in
+    rw (f .literals-end .ensures) at (rw e at (c .magnitude .ensures))
+
+mul-magnitude : tie.Need-mul-magnitude
+mul-magnitude c = search needs
+
+shared-slice-copy-out-magnitude : tie.Need-shared-slice-copy-out-magnitude
+shared-slice-copy-out-magnitude c = search needs
+
+magnitude-requires : tie.Need-magnitude-requires
+magnitude-requires c κs = search needs
+
+add-t20 : tie.Need-add-t20
+add-t20 c = search needs
+
+returns-3 : tie.Need-returns-3
+returns-3 c =
+    let m = c .before in
+    let k = m .before .before .before .before in
+    let a = k .before .before .before .before .args in
+    let e = k .before .before .literals-end .ensures in
+    let h = rw (run-length (k .before .before), clash-at k) at (m .before .before .before .if1 .left) in
+    let l = rw e at (m .before .before .if2 .left) in
+    let w = getD (a .clauses .now) (a .from + run (k .before .before)) (pos 0) in
+    let z : w ≡ pos 0 = magnitude-zero w (rw (magnitude-at m) at (c .if3 .taken)) in
+    rw e (clause-closed (marked (a .listed .now)) (a .clauses .now) (a .from) h l z)
+
+returns-4 : tie.Need-returns-4
+returns-4 c =
+    let m = c .before .before in
+    let k = m .before .before .before .before in
+    let a = k .before .before .before .before .args in
+    let e = k .before .before .literals-end .ensures in
+    let h = rw (run-length (k .before .before), clash-at k) at (m .before .before .before .if1 .left) in
+    let l = rw e at (m .before .before .if2 .left) in
+    let w = getD (a .clauses .now) (a .from + run (k .before .before)) (pos 0) in
+    let z : 1024 < natAbs w = magnitude-large w (rw (magnitude-at m) at (c .if4 .taken)) in
+    rw e (clause-large (marked (a .listed .now)) (a .clauses .now) (a .from) h l z)
+
+returns-5 : tie.Need-returns-5
+returns-5 c =
+    let m = c .before .before in
+    let k = m .before .before .before .before in
+    let a = k .before .before .before .before .args in
+    let e = k .before .before .literals-end .ensures in
+    let h = rw (run-length (k .before .before), clash-at k) at (m .before .before .before .if1 .left) in
+    let l = rw e at (m .before .before .if2 .left) in
+    let w = getD (a .clauses .now) (a .from + run (k .before .before)) (pos 0) in
+    let b : 1 ≤ magnitudeOf (wordOf w) = rw (magnitude-at m) at (c .before .if3 .left) in
+    let u : magnitudeOf (wordOf w) ≤ 1024 = rw (magnitude-at m) at (c .if4 .left) in
+    let v = magnitude-signed w b u in
+    rw e (clause-unbound (marked (a .listed .now)) (a .clauses .now) (a .from) h l (rw v at b) (rw v at u))
+
+pub check-clause-spec : {M : Type 1} → statement M
+check-clause-spec =
+    tie.close
+    (tie.spec
+    literals-end-requires
+    mul-find-clash
+    sub-find-clash
+    part-find-clash-start
+    part-find-clash-end
+    find-clash-requires
+    sub-if1
+    add-t14
+    returns
+    returns-2
+    mul-magnitude
+    shared-slice-copy-out-magnitude
+    magnitude-requires
+    add-t20
+    returns-3
+    returns-4
+    returns-5)

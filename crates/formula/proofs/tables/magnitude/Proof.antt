@@ -1,0 +1,60 @@
+-- `magnitude` answers by the word's kind, arm by arm. Assumes nothing.
+use mathlib.Core.Path.{_≡_, ap, sym, _∙_}
+use borrow.Author.Needs.{needs}
+use mir.Syntax.{w32}
+use mir.Val.{toZ, ofZ}
+use Rattle.formula.specs.Word.{wordOf}
+use Rattle.formula.specs.Tables.Scan.{magnitudeOf}
+use Rattle.formula.proofs.tables.magnitude.Statement.{statement}
+use Rattle.formula.proofs.tables.magnitude.Tie as tie
+
+of-requires : tie.Need-of-requires
+of-requires c κs = search needs
+
+enum-told : tie.Need-enum-told
+enum-told c = search needs
+
+enum-told-2 : tie.Need-enum-told-2
+enum-told-2 c = search needs
+
+enum-known-v : tie.Need-enum-known-v
+enum-known-v c = search needs
+
+enum-known-v-2 : tie.Need-enum-known-v-2
+enum-known-v-2 c = search needs
+
+-- the word's kind, the word read back from its bits
+kind-at : (c : tie.After-of) → c .of .result ≡ wordOf (c .before .args .word)
+kind-at c =
+    let e : toZ w32 (ofZ w32 (c .before .args .word)) ≡ c .before .args .word = search needs in
+    rw e at (c .of .ensures)
+
+returns : tie.Need-returns
+unfolding magnitudeOf
+returns c = ap magnitudeOf (sym (c .enum-told .given .1) ∙ kind-at (c .before .before))
+
+returns-2 : tie.Need-returns-2
+unfolding magnitudeOf
+returns-2 c = ap magnitudeOf (sym (c .enum-told2 .given .1) ∙ kind-at (c .before .before))
+
+returns-3 : tie.Need-returns-3
+unfolding magnitudeOf
+returns-3 c = ap magnitudeOf (sym (c .before .v .given .1) ∙ kind-at (c .before .before .before))
+
+returns-4 : tie.Need-returns-4
+unfolding magnitudeOf
+returns-4 c = ap magnitudeOf (sym (c .before .v2 .given .1) ∙ kind-at (c .before .before .before))
+
+pub magnitude-spec : {M : Type 1} → statement M
+magnitude-spec =
+    tie.close
+    (tie.spec
+    of-requires
+    enum-told
+    enum-told-2
+    enum-known-v
+    enum-known-v-2
+    returns
+    returns-2
+    returns-3
+    returns-4)

@@ -1,0 +1,82 @@
+-- `grow` answers by the token, then by the byte. Assumes nothing.
+use mathlib.Core.Path.{ap}
+use lib.Dec.{ltb}
+use Rattle.formula.specs.Token.{grow}
+use Rattle.formula.specs.Token.Laws.{and-right, digit-least}
+use Rattle.formula.specs.declared.token.Token.the-variants.{Natural, Negative}
+use borrow.Author.Needs.{needs}
+use Rattle.formula.proofs.token.grow.Statement.{statement}
+use Rattle.formula.proofs.token.grow.Tie as tie
+
+enum-known-token : tie.Need-enum-known-token
+enum-known-token c = search needs
+
+is-digit-requires : tie.Need-is-digit-requires
+is-digit-requires c κs = search needs
+
+numeral-requires : tie.Need-numeral-requires
+numeral-requires c κs =
+    let t = rw (c .before .is-digit .ensures) at (c .if1 .taken) in
+    digit-least (c .before .before .before .before .before .args .b) (and-right (ltb 0 (c .before .before .before .token .given .0 .0)) _ t)
+
+enum-known-token-2 : tie.Need-enum-known-token-2
+enum-known-token-2 c = search needs
+
+is-digit-requires-2 : tie.Need-is-digit-requires-2
+is-digit-requires-2 c κs = search needs
+
+numeral-requires-2 : tie.Need-numeral-requires-2
+numeral-requires-2 c κs =
+    let t = rw (c .before .is-digit2 .ensures) at (c .if2 .taken) in
+    digit-least (c .before .before .before .before .before .args .b) t
+
+enum-known-token-3 : tie.Need-enum-known-token-3
+enum-known-token-3 c = search needs
+
+grow-word-requires : tie.Need-grow-word-requires
+grow-word-requires c κs = search needs
+
+returns : tie.Need-returns
+unfolding grow
+returns c =
+    let t = rw (c .before .before .is-digit .ensures) at (c .before .if1 .taken) in
+    rw (c .before .before .before .before .token .given .1) (simp t (ap Natural (c .numeral .ensures)))
+
+returns-2 : tie.Need-returns-2
+unfolding grow
+returns-2 c =
+    let t = rw (c .before .is-digit .ensures) at (c .if1 .left) in
+    rw (c .before .before .before .token .given .1) (simp t)
+
+returns-3 : tie.Need-returns-3
+unfolding grow
+returns-3 c =
+    let t = rw (c .before .before .is-digit2 .ensures) at (c .before .if2 .taken) in
+    rw (c .before .before .before .before .token2 .given .1) (simp t (ap Negative (c .numeral2 .ensures)))
+
+returns-4 : tie.Need-returns-4
+unfolding grow
+returns-4 c =
+    let t = rw (c .before .is-digit2 .ensures) at (c .if2 .left) in
+    rw (c .before .before .before .token2 .given .1) (simp t)
+
+returns-5 : tie.Need-returns-5
+returns-5 c = rw (c .before .before .token3 .given .1) (c .grow-word .ensures)
+
+pub grow-spec : {M : Type 1} → statement M
+grow-spec =
+    tie.close
+    (tie.spec
+    enum-known-token
+    is-digit-requires
+    numeral-requires
+    enum-known-token-2
+    is-digit-requires-2
+    numeral-requires-2
+    enum-known-token-3
+    grow-word-requires
+    returns
+    returns-2
+    returns-3
+    returns-4
+    returns-5)

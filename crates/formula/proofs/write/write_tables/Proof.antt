@@ -1,0 +1,94 @@
+-- `write_tables` stores the header, the prefix lines and the clause lines. Assumes nothing.
+use Prim.Native.Nat.{_+_, _^_, _<_}
+use mathlib.Core.Path.{_≡_}
+use mathlib.Core.List.{_++_}
+use native.Mathlib.Omega.{arith}
+use lib.ListN.{length}
+use Rattle.formula.specs.Store.Laws.{stores-append, below-first, below-rest}
+use Rattle.formula.specs.Written.{written, headerText}
+use Rattle.formula.specs.Writing.{prefixText, clausesText}
+use Rattle.formula.specs.Written.Lines.{written-parts}
+use Rattle.formula.specs.Written.Length.{prefix-bounded, clauses-bounded, written-below}
+use borrow.Author.Needs.{needs}
+use Rattle.formula.proofs.write.write_tables.Statement.{statement}
+use Rattle.formula.proofs.write.write_tables.Tie as tie
+
+largest-variable-requires : tie.Need-largest-variable-requires
+largest-variable-requires c κs = let s = c .before in prefix-bounded (s .args .prefix .now) (s .args .clauses .now) (s .pre .0)
+
+-- the text in its parts, from the largest variable on
+parts-at :
+    (c : tie.After-largest-variable)
+    → written (c .before .before .args .prefix .now) (c .before .before .args .clauses .now)
+    ≡ headerText (c .largest-variable .result) (c .before .before .args .count)
+    ++ (prefixText 0 (c .before .before .args .prefix .now) ++ clausesText (c .before .before .args .clauses .now))
+parts-at c =
+    let s = c .before .before in
+    written-parts (s .args .prefix .now) (s .args .clauses .now) (c .largest-variable .result) (s .args .count) (s .pre .0) (c .largest-variable .ensures) (s .pre .1)
+
+-- all of it stays below what a place can be
+below-at :
+    (c : tie.After-largest-variable)
+    → 0
+    + length
+    (headerText (c .largest-variable .result) (c .before .before .args .count)
+    ++ (prefixText 0 (c .before .before .args .prefix .now) ++ clausesText (c .before .before .args .clauses .now)))
+    < 2 ^ 64
+below-at c = let s = c .before .before in rw (parts-at c) at (written-below (s .args .prefix .now) (s .args .clauses .now) (s .pre .0))
+
+write-header-requires : tie.Need-write-header-requires
+write-header-requires c κs =
+    let s = c .before .before .before in
+    let l = c .before in
+    omega (
+      arith,
+      below-first 0
+          (headerText (l .largest-variable .result) (s .args .count))
+          (prefixText 0 (s .args .prefix .now) ++ clausesText (s .args .clauses .now))
+          (below-at l),
+    )
+
+write-prefix-requires : tie.Need-write-prefix-requires
+write-prefix-requires c κs =
+    let header = c .before .before .before in
+    let l = header .before .before in
+    let s = l .before .before in
+    let p = s .args .prefix .now in
+    let q = s .args .clauses .now in (
+      prefix-bounded p q (s .pre .0),
+      below-first (header .write-header .result) (prefixText 0 p) (clausesText q)
+          (below-rest (prefixText 0 p ++ clausesText q) (below-at l) (header .write-header .ensures)),
+    )
+
+write-clauses-requires : tie.Need-write-clauses-requires
+write-clauses-requires c κs =
+    let lines = c .before .before .before in
+    let header = lines .before .before .before .before in
+    let l = header .before .before in
+    let s = l .before .before in
+    let p = s .args .prefix .now in
+    let q = s .args .clauses .now in (
+      clauses-bounded p q (s .pre .0),
+      below-rest (clausesText q) (below-rest (prefixText 0 p ++ clausesText q) (below-at l) (header .write-header .ensures)) (lines .write-prefix .ensures),
+    )
+
+same-length : tie.Need-same-length
+same-length c = search needs
+
+returns : tie.Need-returns
+returns c =
+    let lines = c .before .before .before .before .before .before in
+    let header = lines .before .before .before .before in
+    rw (parts-at (header .before .before))
+    (stores-append (header .write-header .ensures) (stores-append (lines .write-prefix .ensures) (c .before .before .write-clauses .ensures)))
+
+pub write-tables-spec : {M : Type 1} → statement M
+write-tables-spec =
+    tie.close
+    (tie.spec
+    largest-variable-requires
+    write-header-requires
+    write-prefix-requires
+    write-clauses-requires
+    same-length
+    returns)

@@ -1,0 +1,18 @@
+-- The definitions that layer 1's contracts cite. What a reader must believe: Bounds, Word, Refusal, Tables, Decode (tables),
+-- Token, Text (reading), Decimal, Written (writing), Clear, ClauseWord, RoundTrip. For inner contracts: Store, Writing, Stage.
+pub mod Bounds
+pub mod Word
+pub mod Refusal
+pub mod Tables
+pub mod Decode
+pub mod Clear
+pub mod ClauseWord
+pub mod ClauseWordLaws
+pub mod Decimal
+pub mod Store
+pub mod Written
+pub mod Writing
+pub mod Token
+pub mod Text
+pub mod RoundTrip
+pub mod Stage

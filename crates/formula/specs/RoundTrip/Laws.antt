@@ -1,0 +1,153 @@
+-- The round trip: `written-read`, of the definitions, and `round-trip`, of the two entries' contracts. Assumes nothing.
+use Prim.Native.Nat.{ℕ, _-_, _≤_, max}
+use mathlib.Core.Path.{_≡_, refl, ap, sym, _∙_}
+use mathlib.Core.Logic.{_⊎_, inl, inr}
+use mathlib.Core.Bool.{Bool, true, false}
+use mathlib.Core.Option.{Option, none, some}
+use mathlib.Core.List.{List, [], _∷_, map, append-nil, List·Memᴰ, List·Memᴰ·not-nil, List·Memᴰ·cases-cons, Memᴰ·of-map}
+use native.Mathlib.Omega.{arith}
+use borrow.Author.Tests.{le-leb, le-ltb}
+use lib.ListN.{length, take, replicate}
+use lib.Seq.{take-at}
+use lib.Dec.{leb}
+use lib.IntN.{ℤ, natAbs}
+use Rattle.formula.specs.Bounds.{textBound}
+use Rattle.formula.specs.Tables.{zeros, prefixRefusal, clausesRefusal, listedIn, sized, firstRefusal, ifSized, tablesRefusal, Admitted}
+use Rattle.formula.specs.Tables.Laws.{
+  is-in-sound,
+  admitted-clauses-length,
+  admitted-count,
+  admitted-prefix-word,
+  admitted-prefix-distinct,
+}
+use Rattle.formula.specs.Written.{written, headerText, largest, ifRoom, writingRefusal, answerWriting, textAfter, Writes}
+use Rattle.formula.specs.Writing.{clausesText}
+use Rattle.formula.specs.Written.Lines.{written-stream}
+use Rattle.formula.specs.Written.Length.{prefix-bounded, largest-bounded, written-fits}
+use Rattle.formula.specs.Token.{isBlank, leadFrom, between, tokensFrom, tokens}
+use Rattle.formula.specs.Text.{read, wantsP, betweenSets, openFrom, run, ending, reading, ReadPost}
+use Rattle.formula.specs.RoundTrip.{ReadBack}
+use Rattle.formula.specs.RoundTrip.Scan.{Takes, takes-append}
+use Rattle.formula.specs.RoundTrip.Prefix.{Lists, header-takes, prefix-taken}
+use Rattle.formula.specs.RoundTrip.Clauses.{Passes, AllRead, among-sets, clauses-reads}
+use Rattle.formula.specs.declared.refusal.Refusal.{Refusal}
+use Rattle.formula.specs.declared.read.ReadAnswer.{ReadAnswer}
+use Rattle.formula.specs.declared.write.WriteAnswer.the-variants.{Written}
+
+-- No variable of the prefix is above V.
+member-largest : (ws : List ℤ) (w : ℤ) → List·Memᴰ w ws → natAbs w ≤ largest ws
+unfolding largest
+member-largest [] w m = absurd (List·Memᴰ·not-nil m)
+member-largest (u ∷ ws) w m = go (List·Memᴰ·cases-cons m) (λ k. member-largest ws w k)
+  where
+    go : (w ≡ u) ⊎ List·Memᴰ w ws → (List·Memᴰ w ws → natAbs w ≤ largest ws) → natAbs w ≤ max (natAbs u) (largest ws)
+    go (inl e) later = omega (arith, ap natAbs e)
+    go (inr k) later = omega (arith, later k)
+
+listed-largest : (ws : List ℤ) (n : ℕ) → listedIn ws n ≡ true → n ≤ largest ws
+listed-largest ws n h =
+    let t = Memᴰ·of-map natAbs ws (is-in-sound n (map natAbs ws) h) in
+    omega (arith, t .2, member-largest ws (t .0) (t .1))
+
+-- The part of the check that judges the clause words.
+clauses-pass : (p c : List ℤ) → Admitted p c → clausesRefusal (listedIn p) 0 [] c ≡ none
+unfolding tablesRefusal
+clauses-pass p c a = go (sized p c) (prefixRefusal 0 [] p) (a .passes)
+  where
+    go : (b : Bool) (o : Option Refusal) → ifSized b (firstRefusal o (clausesRefusal (listedIn p) 0 [] c)) ≡ none → clausesRefusal (listedIn p) 0 [] c ≡ none
+    go true none h = h
+    go true (some r) h = let z : _≡_ {A = ℕ} 0 1 = cc in absurd (omega arith)
+    go false o h = let z : _≡_ {A = ℕ} 0 1 = cc in absurd (omega arith)
+
+-- A text that begins with `p` has no comment.
+tokens-p : (bytes : List ℕ) → tokens (112 ∷ bytes) ≡ tokensFrom 0 between (112 ∷ bytes)
+unfolding leadFrom isBlank
+tokens-p bytes = refl
+
+module _ (p c : List ℤ) (prefixRoom clauseRoom : ℕ) (a : Admitted p c) (h : length p ≤ prefixRoom) (k : length c ≤ clauseRoom) where
+  prefix-lists : Lists (largest p) prefixRoom [] p
+  prefix-lists =
+      record {
+        range = λ w m. (admitted-prefix-word p c a w m .0, member-largest p w m);
+        distinct = admitted-prefix-distinct p c a;
+        fresh = λ u m n. List·Memᴰ·not-nil m;
+        within = omega arith;
+      }
+
+  clauses-passes : Passes prefixRoom clauseRoom (largest p) (zeros c) p 0 [] c
+  unfolding openFrom zeros
+  clauses-passes =
+      record { passes = clauses-pass p c a; count = omega arith; words = omega (arith, admitted-clauses-length p c a); room = omega arith }
+
+  clauses-read : AllRead prefixRoom clauseRoom (largest p) (zeros c) p (betweenSets (largest p) (zeros c) p) (clausesText c) c
+  clauses-read =
+      clauses-reads prefixRoom clauseRoom (largest p) (zeros c) p
+      (largest-bounded p (prefix-bounded p c a))
+      (listed-largest p)
+      0
+      (betweenSets (largest p) (zeros c) p)
+      []
+      c
+      (among-sets prefixRoom clauseRoom (largest p) (zeros c) p)
+      clauses-passes
+
+  -- The whole text takes the reader from its start to where all is read.
+  text-taken : Takes prefixRoom clauseRoom wantsP (written p c) (clauses-read .after)
+  text-taken =
+      rw (written-stream p c a)
+      (takes-append prefixRoom clauseRoom
+      (header-takes prefixRoom clauseRoom (largest p) (zeros c) (largest-bounded p (prefix-bounded p c a)) (admitted-count p c a))
+      (takes-append prefixRoom clauseRoom
+      (prefix-taken prefixRoom clauseRoom (largest p) (zeros c) p (largest-bounded p (prefix-bounded p c a)) prefix-lists)
+      (clauses-read .taken)))
+
+  tokens-written : tokens (written p c) ≡ tokensFrom 0 between (written p c)
+  unfolding written headerText
+  tokens-written = tokens-p _
+
+  run-written : run prefixRoom clauseRoom wantsP (tokens (written p c)) ≡ clauses-read .after
+  unfolding run tokensFrom
+  run-written =
+      ap (run prefixRoom clauseRoom wantsP) (tokens-written ∙ ap (tokensFrom 0 between) (sym (append-nil (written p c))))
+      ∙ text-taken .takes 0 []
+
+  ending-written : (at : ℕ) → ending at (clauses-read .after) ≡ read p c (zeros c)
+  ending-written at = clauses-read .among .ends at ∙ rw (clauses-read .shut, le-ltb (zeros c) (zeros c) (omega arith))
+
+  -- What is written is read as the tables that it was written from.
+  pub written-read : reading (written p c) prefixRoom clauseRoom ≡ read p c (zeros c)
+  unfolding reading
+  written-read = rw (le-leb (length (written p c)) textBound (written-fits p c a), run-written) (ending-written (length (written p c)))
+
+-- A text that was written: the tables are admitted, and its used part is the written text.
+record WasWritten (p c : List ℤ) (used : ℕ) (text : List ℕ) : Type 0 where
+  admitted : Admitted p c
+  part : take used text ≡ written p c
+
+was-written : (p c : List ℤ) (room used : ℕ) (text : List ℕ) → Writes p c room (Written used) text → WasWritten p c used text
+unfolding writingRefusal
+was-written p c room used text w = go (tablesRefusal p c) refl (leb (length (written p c)) room) (w .answers) (w .leaves)
+  where
+    go :
+        (o : Option Refusal) → tablesRefusal p c ≡ o → (b : Bool)
+        → Written used ≡ answerWriting (firstRefusal o (ifRoom b)) (length (written p c))
+        → text ≡ textAfter (firstRefusal o (ifRoom b)) (written p c) room
+        → WasWritten p c used text
+    go none q true e f =
+        let n : used ≡ length (written p c) = cc in
+        record { admitted = record { passes = q }; part = rw (f, n) (take-at (written p c) (replicate (room - length (written p c)) 0) (length (written p c)) refl) }
+    go none q false e f = let z : _≡_ {A = ℕ} 0 1 = cc in absurd (omega arith)
+    go (some r) q b e f = let z : _≡_ {A = ℕ} 0 1 = cc in absurd (omega arith)
+
+pub round-trip :
+    (p c : List ℤ) (room used : ℕ) (text : List ℕ) (prefix clauses prefix′ clauses′ : List ℤ) (answer : ReadAnswer)
+    → Writes p c room (Written used) text
+    → length p ≤ length prefix
+    → length c ≤ length clauses
+    → ReadPost (take used text) prefix clauses prefix′ clauses′ answer
+    → ReadBack p c prefix clauses prefix′ clauses′ answer
+round-trip p c room used text prefix clauses prefix′ clauses′ answer w h k r =
+    let t = was-written p c room used text w in
+    let e : reading (take used text) (length prefix) (length clauses) ≡ read p c (zeros c) =
+    rw (t .part) (written-read p c (length prefix) (length clauses) (t .admitted) h k) in
+    record { answers = rw e at (r .answers); fillsPrefix = rw e at (r .fillsPrefix); fillsClauses = rw e at (r .fillsClauses) }

@@ -1,0 +1,110 @@
+-- The check of tables (01, "What the checker says no with", order "Tables"): 2 on lengths and clause count, prefix words
+-- (5, 6), clause words (5, 7, 8), 9. Each word is judged from the left by its own rules in order. What tables pass, said
+-- without an order, is in Tables/Proper.antt; the two agree by Tables/Laws.antt.
+pub mod Proper
+pub mod Laws
+pub mod Examples
+pub mod Scan
+use Prim.Native.Nat.{ℕ, zero, suc, _+_}
+use mathlib.Core.Path.{_≡_}
+use mathlib.Core.Bool.{Bool, true, false, _||_, _&&_}
+use mathlib.Core.Option.{Option, none, some}
+use mathlib.Core.List.{List, [], _∷_, map}
+use lib.ListN.{length}
+use lib.Dec.{leb, eqb}
+use lib.IntN.{ℤ, pos, negsuc, natAbs}
+use Rattle.formula.specs.Bounds.{variableBound, countBound, matrixBound}
+use Rattle.formula.specs.Word.{wordOf}
+use Rattle.formula.specs.Refusal.{refusal}
+use Rattle.formula.specs.declared.literal.Word.{Word}
+use Rattle.formula.specs.declared.literal.Word.the-variants.{Zero, TooLarge, Positive, Negative}
+use Rattle.formula.specs.declared.refusal.Refusal.{Refusal}
+use Rattle.formula.specs.declared.refusal.Reason.the-variants.{Oversized, OutOfRange, BoundTwice, Unbound, Clash, Unfinished}
+use Rattle.formula.specs.declared.tables.TablesAnswer.{TablesAnswer}
+use Rattle.formula.specs.declared.tables.TablesAnswer.the-variants.{Admitted as Admits, Refused}
+
+-- A number stands in a list.
+unfoldable pub isIn : ℕ → List ℕ → Bool
+isIn v [] = false
+isIn v (x ∷ xs) = eqb v x || isIn v xs
+
+-- The number of 0 words: 01's clause count of a table.
+unfoldable pub zeros : List ℤ → ℕ
+zeros [] = 0
+zeros (pos zero ∷ ws) = suc (zeros ws)
+zeros (pos (suc n) ∷ ws) = zeros ws
+zeros (negsuc n ∷ ws) = zeros ws
+
+-- A variable is listed at the place `at`, again or for the first time.
+abbrev pub listing : ℕ → Bool → Option Refusal → Option Refusal
+listing at true later = some (refusal BoundTwice at)
+listing at false later = later
+
+-- A prefix word at the place `at`, `seen` being the variables before it; `next` goes on with its variable.
+abbrev pub prefixWord : ℕ → List ℕ → Word → (ℕ → Option Refusal) → Option Refusal
+prefixWord at seen Zero next = some (refusal OutOfRange at)
+prefixWord at seen TooLarge next = some (refusal OutOfRange at)
+prefixWord at seen (Positive v) next = listing at (isIn (v .0) seen) (next (v .0))
+prefixWord at seen (Negative v) next = listing at (isIn (v .0) seen) (next (v .0))
+
+-- The prefix words from the place `at` on.
+unfoldable pub prefixRefusal : ℕ → List ℕ → List ℤ → Option Refusal
+prefixRefusal at seen [] = none
+prefixRefusal at seen (w ∷ ws) = prefixWord at seen (wordOf w) (λ v. prefixRefusal (at + 1) (v ∷ seen) ws)
+
+-- A literal at the place `at`: is its variable in the prefix, and does its clause hold that variable already?
+abbrev pub literalWord : ℕ → Bool → Bool → Option Refusal → Option Refusal
+literalWord at false clash later = some (refusal Unbound at)
+literalWord at true true later = some (refusal Clash at)
+literalWord at true false later = later
+
+-- A clause word at the place `at`, `seen` being the variables of its clause before it: a literal repeats or opposes an
+-- earlier one exactly when its variable is among them. `next` goes on with what its clause then holds.
+abbrev pub clauseWord : (ℕ → Bool) → ℕ → List ℕ → Word → (List ℕ → Option Refusal) → Option Refusal
+clauseWord known at seen Zero next = next []
+clauseWord known at seen TooLarge next = some (refusal OutOfRange at)
+clauseWord known at seen (Positive v) next = literalWord at (known (v .0)) (isIn (v .0) seen) (next (v .0 ∷ seen))
+clauseWord known at seen (Negative v) next = literalWord at (known (v .0)) (isIn (v .0) seen) (next (v .0 ∷ seen))
+
+-- The end of the clause words: a clause with literals and no 0 is unfinished.
+abbrev pub clausesEnd : ℕ → List ℕ → Option Refusal
+clausesEnd at [] = none
+clausesEnd at (v ∷ seen) = some (refusal Unfinished at)
+
+-- The clause words from the place `at` on; `known` says which variables the prefix has.
+unfoldable pub clausesRefusal : (ℕ → Bool) → ℕ → List ℕ → List ℤ → Option Refusal
+clausesRefusal known at seen [] = clausesEnd at seen
+clausesRefusal known at seen (w ∷ ws) = clauseWord known at seen (wordOf w) (λ seen′. clausesRefusal known (at + 1) seen′ ws)
+
+-- The variables that the prefix words list: a word's variable is its magnitude.
+abbrev pub listedIn : List ℤ → ℕ → Bool
+listedIn prefix v = isIn v (map natAbs prefix)
+
+-- Lengths and clause count are within their bounds.
+abbrev pub sized : List ℤ → List ℤ → Bool
+sized prefix clauses = leb (length prefix) variableBound && leb (length clauses) matrixBound && leb (zeros clauses) countBound
+
+-- The first of two refusals, in order.
+abbrev pub firstRefusal : Option Refusal → Option Refusal → Option Refusal
+firstRefusal none later = later
+firstRefusal (some r) later = some r
+
+abbrev pub ifSized : Bool → Option Refusal → Option Refusal
+ifSized true later = later
+ifSized false later = some (refusal Oversized 0)
+
+-- Why the tables are turned away, if they are.
+unfoldable pub tablesRefusal : List ℤ → List ℤ → Option Refusal
+tablesRefusal prefix clauses = ifSized (sized prefix clauses) (firstRefusal (prefixRefusal 0 [] prefix) (clausesRefusal (listedIn prefix) 0 [] clauses))
+
+abbrev pub answerTables : Option Refusal → ℕ → ℕ → TablesAnswer
+answerTables none variables count = Admits variables count
+answerTables (some r) variables count = Refused r
+
+-- What `check_tables` answers: the number of variables and of clauses, or the refusal.
+abbrev pub tablesAnswer : List ℤ → List ℤ → TablesAnswer
+tablesAnswer prefix clauses = answerTables (tablesRefusal prefix clauses) (length prefix) (zeros clauses)
+
+-- The tables pass the check.
+pub record Admitted (prefix clauses : List ℤ) : Type 0 where
+  pub passes : tablesRefusal prefix clauses ≡ none

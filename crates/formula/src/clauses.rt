@@ -1,0 +1,227 @@
+// The clauses of a formula's text: literals, each clause closed by 0. A variable's mark is 0 where no set lists it, and the
+// number of clauses closed so far, plus 2, where the open clause holds it.
+use crate::bounds::MatrixLength;
+use crate::refusal::Reason;
+use crate::refusal::Refusal;
+use crate::token::Next;
+use crate::token::Token;
+use crate::token::next_token;
+use crate::word::signed_word;
+ghost use mathlib.Core.Path.{_≡_};
+ghost use Prim.Native.Nat.{ℕ, _≤_};
+ghost use mathlib.Core.List.{List};
+ghost use lib.IntN.{ℤ};
+ghost use lib.ListN.{length, getD};
+ghost use lib.Dec.{ltb};
+ghost use Rattle.formula.specs.Bounds.{variableBound, countBound};
+ghost use Rattle.formula.specs.Text.{literalRefusal};
+ghost use Rattle.formula.specs.Stage.{literalStep, LiteralPost, ClosingPost, ClauseTokenPost, clausesEnd, Listed, ClausesPost};
+
+// What a token of a clause did.
+pub enum ClauseStep {
+    Literal,
+    Closed,
+    Refused(Refusal),
+}
+
+// The clause words used.
+pub enum ClausesAnswer {
+    Clauses { used: usize },
+    Refused(Refusal),
+}
+
+// The mark of any number: beyond the variables it is 0.
+fn mark_of(marks: &[usize; 1025], n: usize) -> usize
+    requires { ⌜ length (now marks) ≡ 1025 ⌝ }
+    ensures { λ r. ⌜ r ≡ getD (now (marks .entry)) n 0 ⌝ }
+{
+    if n < 1025 { marks[n] } else { 0 }
+}
+
+// The refusals of a literal, in their order.
+fn judge_literal(
+    place: usize,
+    variables: usize,
+    n: usize,
+    bound: bool,
+    clash: bool,
+    used: usize,
+    room: usize,
+) -> ClauseStep
+    ensures { λ r. ⌜ r ≡ literalStep (literalRefusal place variables n bound clash used room) ⌝ }
+{
+    if variables < n {
+        return ClauseStep::Refused(Refusal {
+            reason: Reason::OutOfRange,
+            place,
+        });
+    }
+    if MatrixLength::MAX <= used {
+        return ClauseStep::Refused(Refusal {
+            reason: Reason::Oversized,
+            place: 0,
+        });
+    }
+    if bound {
+        if clash {
+            return ClauseStep::Refused(Refusal {
+                reason: Reason::Clash,
+                place,
+            });
+        }
+        if room <= used {
+            return ClauseStep::Refused(Refusal {
+                reason: Reason::NoRoom,
+                place,
+            });
+        }
+        return ClauseStep::Literal;
+    }
+    ClauseStep::Refused(Refusal {
+        reason: Reason::Unbound,
+        place,
+    })
+}
+
+fn put_literal(
+    n: usize,
+    place: usize,
+    variables: usize,
+    positive: bool,
+    clauses: &mut [i32],
+    used: usize,
+    closed: usize,
+    marks: &mut [usize; 1025],
+) -> ClauseStep
+    requires { ⌜ (variables ≤ variableBound) × (closed ≤ countBound) × (length (now marks) ≡ 1025) ⌝ }
+    ensures { λ r. ⌜ LiteralPost n place variables positive used closed (now (clauses .entry)) (now (marks .entry)) (now (clauses .exit)) (now (marks .exit)) r ⌝ }
+{
+    let mark = mark_of(marks, n);
+    let room = clauses.len();
+    match judge_literal(
+        place,
+        variables,
+        n,
+        0 < mark,
+        mark == closed + 2,
+        used,
+        room,
+    ) {
+        ClauseStep::Refused(r) => ClauseStep::Refused(r),
+        ClauseStep::Closed => ClauseStep::Closed,
+        ClauseStep::Literal => {
+            clauses[used] = signed_word(positive, n);
+            marks[n] = closed + 2;
+            ClauseStep::Literal
+        }
+    }
+}
+
+fn close_clause(place: usize, clauses: &mut [i32], used: usize) -> ClauseStep
+    ensures { λ r. ⌜ ClosingPost place used (now (clauses .entry)) (now (clauses .exit)) r ⌝ }
+{
+    if MatrixLength::MAX <= used {
+        return ClauseStep::Refused(Refusal {
+            reason: Reason::Oversized,
+            place: 0,
+        });
+    }
+    if clauses.len() <= used {
+        return ClauseStep::Refused(Refusal {
+            reason: Reason::NoRoom,
+            place,
+        });
+    }
+    clauses[used] = 0;
+    ClauseStep::Closed
+}
+
+// A token of a clause, while fewer than C clauses are closed.
+fn clause_token(
+    token: Token,
+    place: usize,
+    variables: usize,
+    clauses: &mut [i32],
+    used: usize,
+    closed: usize,
+    marks: &mut [usize; 1025],
+) -> ClauseStep
+    requires { ⌜ (variables ≤ variableBound) × (closed ≤ countBound) × (length (now marks) ≡ 1025) × (used ≤ length (now clauses)) ⌝ }
+    ensures { λ r. ⌜ ClauseTokenPost token place variables used closed (now (clauses .entry)) (now (marks .entry)) (now (clauses .exit)) (now (marks .exit)) r ⌝ }
+{
+    match token {
+        Token::Natural(n) => if n == 0 {
+            close_clause(place, clauses, used)
+        } else {
+            put_literal(n, place, variables, true, clauses, used, closed, marks)
+        },
+        Token::Negative(n) => put_literal(n, place, variables, false, clauses, used, closed, marks),
+        Token::Word(_) => ClauseStep::Refused(Refusal {
+            reason: Reason::BadToken,
+            place,
+        }),
+    }
+}
+
+// The text ends: a clause that is open from `start` on, or fewer clauses than C.
+fn clauses_end(size: usize, start: usize, used: usize, closed: usize, count: usize) -> ClausesAnswer
+    ensures { λ r. ⌜ r ≡ clausesEnd size (ltb start used) (ltb closed count) used ⌝ }
+{
+    if start < used {
+        return ClausesAnswer::Refused(Refusal {
+            reason: Reason::Unfinished,
+            place: size,
+        });
+    }
+    if closed < count {
+        return ClausesAnswer::Refused(Refusal {
+            reason: Reason::Miscount,
+            place: size,
+        });
+    }
+    ClausesAnswer::Clauses { used }
+}
+
+// The clauses, from the byte after the sets on.
+pub fn read_clauses(
+    text: &[u8],
+    from: usize,
+    variables: usize,
+    count: usize,
+    clauses: &mut [i32],
+    marks: &mut [usize; 1025],
+) -> ClausesAnswer
+    requires { ⌜ (variables ≤ variableBound) × (count ≤ countBound) × (length (now marks) ≡ 1025) ⌝ }
+    ensures { λ r. ⌜ ((prefixRoom : ℕ) (prefix : List ℤ) → Listed (now (marks .entry)) prefix → ClausesPost (now (text .entry)) from variables count prefixRoom prefix (now (clauses .entry)) (now (clauses .exit)) r) ⌝ }
+{
+    let mut at = from;
+    let mut used = 0;
+    let mut closed = 0;
+    let mut start = 0;
+    loop {
+        match next_token(text, at) {
+            Next::End => return clauses_end(text.len(), start, used, closed, count),
+            Next::Found { token, place, next } => {
+                if count <= closed {
+                    return ClausesAnswer::Refused(Refusal {
+                        reason: Reason::Miscount,
+                        place,
+                    });
+                }
+                match clause_token(token, place, variables, clauses, used, closed, marks) {
+                    ClauseStep::Refused(r) => return ClausesAnswer::Refused(r),
+                    ClauseStep::Literal => {
+                        used += 1;
+                        at = next;
+                    }
+                    ClauseStep::Closed => {
+                        used += 1;
+                        closed += 1;
+                        start = used;
+                        at = next;
+                    }
+                }
+            }
+        }
+    }
+}

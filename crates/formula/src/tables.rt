@@ -1,0 +1,232 @@
+// The check of tables: sizes, prefix words, clause words, each word from the left by its own rules in order. A clause is
+// judged whole: first where its literals end, then the nested search for a clash among them, then the word they end at.
+// The 0 words are counted, then one pass over the words, beside that search: quadratic in a clause of at most 1,024 words.
+use crate::bounds::MatrixFit;
+use crate::bounds::MatrixLength;
+use crate::literal::ClauseNumber;
+use crate::literal::Literal;
+use crate::literal::Variable;
+use crate::literal::Word;
+use crate::refusal::Reason;
+use crate::refusal::Refusal;
+ghost use mathlib.Core.Path.{_≡_};
+ghost use mathlib.Core.List.{[], List·Memᴰ};
+ghost use Prim.Native.Nat.{_+_, _≤_, _<_};
+ghost use lib.ListN.{length, drop};
+ghost use lib.IntN.{ℤ, natAbs};
+ghost use Rattle.formula.specs.Bounds.{variableBound};
+ghost use Rattle.formula.specs.Word.{wordOf};
+ghost use Rattle.formula.specs.Tables.{zeros, prefixRefusal, clausesRefusal, listedIn, tablesAnswer};
+ghost use Rattle.formula.specs.Tables.Scan.{magnitudeOf, marked, Marks, checkOf, plainRun, clashFree, ClauseStep, wordsRefusal};
+
+// Admitted, with the number of variables and of clauses; or the refusal.
+pub enum TablesAnswer {
+    Admitted { variables: usize, clauses: usize },
+    Refused(Refusal),
+}
+
+// What a part of the check answers.
+enum Check {
+    Passed,
+    Refused(Refusal),
+}
+
+// What the check of one clause answers: the place after its closing 0, or the refusal.
+enum ClauseCheck {
+    Closed(usize),
+    Refused(Refusal),
+}
+
+// A word's magnitude, 1,025 for each above 1,024.
+fn magnitude(word: i32) -> usize
+    ensures { λ r. ⌜ r ≡ magnitudeOf (wordOf word) ⌝ }
+{
+    match Word::of(word) {
+        Word::Zero => 0,
+        Word::TooLarge => 1_025,
+        Word::Positive(v) => v.0,
+        Word::Negative(v) => v.0,
+    }
+}
+
+// The number of 0 words.
+fn count_zeros(clauses: &[i32]) -> usize
+    ensures { λ r. ⌜ r ≡ zeros (now (clauses .entry)) ⌝ }
+{
+    let mut n: usize = 0;
+    let mut i = 0;
+    while i < clauses.len() {
+        if clauses[i] == 0 {
+            n += 1;
+        }
+        i += 1;
+    }
+    n
+}
+
+// The prefix words: 5 and 6, marking each variable that is listed. The marks are 0 before.
+fn check_prefix(prefix: &[i32], listed: &mut [u8]) -> Check
+    requires { ⌜ (length (now listed) ≡ 1025) × Marks (now listed) [] ⌝ }
+    ensures { λ r. ⌜ r ≡ checkOf (prefixRefusal 0 [] (now (prefix .entry))) ⌝ }
+    ensures { λ r. ⌜ (r ≡ Check.Passed → marked (now (listed .exit)) ≡ listedIn (now (prefix .entry))) ⌝ }
+{
+    let mut i = 0;
+    while i < prefix.len() {
+        let v = magnitude(prefix[i]);
+        if v < 1 {
+            return Check::Refused(Refusal {
+                reason: Reason::OutOfRange,
+                place: i,
+            });
+        }
+        if Variable::MAX < v {
+            return Check::Refused(Refusal {
+                reason: Reason::OutOfRange,
+                place: i,
+            });
+        }
+        if listed[v] == 1 {
+            return Check::Refused(Refusal {
+                reason: Reason::BoundTwice,
+                place: i,
+            });
+        }
+        listed[v] = 1;
+        i += 1;
+    }
+    Check::Passed
+}
+
+// Where the literals that begin at `from` end: at the first word that is 0, out of range or unbound, or at the table's end.
+fn literals_end(clauses: &[i32], from: usize, listed: &[u8]) -> usize
+    requires { ⌜ (from ≤ length (now clauses)) × (length (now listed) ≡ 1025) ⌝ }
+    ensures { λ r. ⌜ r ≡ from + plainRun (marked (now (listed .entry))) (drop from (now (clauses .entry))) ⌝ }
+{
+    let mut i = from;
+    while i < clauses.len() {
+        let v = magnitude(clauses[i]);
+        if v < 1 {
+            return i;
+        }
+        if Variable::MAX < v {
+            return i;
+        }
+        if listed[v] != 1 {
+            return i;
+        }
+        i += 1;
+    }
+    i
+}
+
+// The place of the first literal of a clause that repeats or opposes an earlier one, or the clause's length.
+fn find_clash(clause: &[i32]) -> usize
+    requires { ⌜ ((w : ℤ) → List·Memᴰ w (now clause) → natAbs w ≤ variableBound) ⌝ }
+    ensures { λ r. ⌜ r ≡ clashFree [] (now (clause .entry)) ⌝ }
+{
+    let mut i = 0;
+    'search: while i < clause.len() {
+        let literal = Literal(clause[i]);
+        let opposite = literal.negated();
+        let mut j = 0;
+        while j < i {
+            if clause[j] == literal.0 {
+                break 'search;
+            }
+            if clause[j] == opposite.0 {
+                break 'search;
+            }
+            j += 1;
+        }
+        i += 1;
+    }
+    i
+}
+
+// The clause that begins at `from`: 5, 7, 8, and 9 where no 0 closes it.
+fn check_clause(clauses: &[i32], from: usize, listed: &[u8]) -> ClauseCheck
+    requires { ⌜ (from < length (now clauses)) × (length (now listed) ≡ 1025) ⌝ }
+    ensures { λ r. ⌜ ClauseStep (marked (now (listed .entry))) (now (clauses .entry)) from r ⌝ }
+{
+    let end = literals_end(clauses, from, listed);
+    let clash = find_clash(&clauses[from..end]);
+    if clash < end - from {
+        return ClauseCheck::Refused(Refusal {
+            reason: Reason::Clash,
+            place: from + clash,
+        });
+    }
+    if clauses.len() <= end {
+        return ClauseCheck::Refused(Refusal {
+            reason: Reason::Unfinished,
+            place: end,
+        });
+    }
+    let v = magnitude(clauses[end]);
+    if v < 1 {
+        return ClauseCheck::Closed(end + 1);
+    }
+    if Variable::MAX < v {
+        return ClauseCheck::Refused(Refusal {
+            reason: Reason::OutOfRange,
+            place: end,
+        });
+    }
+    ClauseCheck::Refused(Refusal {
+        reason: Reason::Unbound,
+        place: end,
+    })
+}
+
+// The clause words, clause by clause.
+fn check_clauses(clauses: &[i32], listed: &[u8]) -> Check
+    requires { ⌜ length (now listed) ≡ 1025 ⌝ }
+    ensures { λ r. ⌜ r ≡ checkOf (clausesRefusal (marked (now (listed .entry))) 0 [] (now (clauses .entry))) ⌝ }
+{
+    let mut at = 0;
+    while at < clauses.len() {
+        match check_clause(clauses, at, listed) {
+            ClauseCheck::Closed(next) => at = next,
+            ClauseCheck::Refused(r) => return Check::Refused(r),
+        }
+    }
+    Check::Passed
+}
+
+// Prefix and clause words, sizes being checked.
+fn check_words(prefix: &[i32], clauses: &[i32]) -> Check
+    ensures { λ r. ⌜ r ≡ checkOf (wordsRefusal (now (prefix .entry)) (now (clauses .entry))) ⌝ }
+{
+    let mut listed = [0u8; 1025];
+    match check_prefix(prefix, &mut listed) {
+        Check::Refused(r) => Check::Refused(r),
+        Check::Passed => check_clauses(clauses, &listed),
+    }
+}
+
+// The check of tables. Every entry that takes tables begins with it.
+pub fn check_tables(prefix: &[i32], clauses: &[i32]) -> TablesAnswer
+    ensures { λ r. ⌜ r ≡ tablesAnswer (now (prefix .entry)) (now (clauses .entry)) ⌝ }
+{
+    let oversized = Refusal {
+        reason: Reason::Oversized,
+        place: 0,
+    };
+    if Variable::MAX < prefix.len() {
+        return TablesAnswer::Refused(oversized);
+    }
+    let MatrixFit::Within(_) = MatrixLength::new(clauses.len()) else {
+        return TablesAnswer::Refused(oversized);
+    };
+    let count = count_zeros(clauses);
+    if ClauseNumber::MAX_INPUT < count {
+        return TablesAnswer::Refused(oversized);
+    }
+    match check_words(prefix, clauses) {
+        Check::Refused(r) => TablesAnswer::Refused(r),
+        Check::Passed => TablesAnswer::Admitted {
+            variables: prefix.len(),
+            clauses: count,
+        },
+    }
+}

@@ -1,0 +1,218 @@
+// The writer of formulas. Every writing function answers the place behind what it wrote; none asks for room but the last.
+use crate::clear;
+use crate::decimal;
+use crate::literal::Word;
+use crate::refusal::Reason;
+use crate::refusal::Refusal;
+use crate::tables;
+use crate::tables::TablesAnswer;
+ghost use mathlib.Core.Path.{_≡_};
+ghost use mathlib.Core.List.{[], _∷_, _++_};
+ghost use Prim.Native.Nat.{_+_, _^_, _<_, _≤_, max};
+ghost use lib.ListN.{length};
+ghost use lib.Dec.{eqb};
+ghost use lib.IntN.{natAbs};
+ghost use Rattle.formula.specs.Bounds.{variableBound};
+ghost use Rattle.formula.specs.Decimal.{decimal};
+ghost use Rattle.formula.specs.Store.{Stores};
+ghost use Rattle.formula.specs.Tables.{zeros, Admitted};
+ghost use Rattle.formula.specs.Written.{largest, headerText, letterOf, written, Writes};
+ghost use Rattle.formula.specs.Writing.{lineEnd, lineTurn, entryText, prefixText, wordText, clausesText, Bounded, Finishes};
+
+// Written, with the used length; or the refusal.
+pub enum WriteAnswer {
+    Written(usize),
+    Refused(Refusal),
+}
+
+// The variable of a word.
+fn variable(word: i32) -> usize
+    requires { ⌜ natAbs word ≤ variableBound ⌝ }
+    ensures { λ r. ⌜ r ≡ natAbs word ⌝ }
+{
+    match Word::of(word) {
+        Word::Zero => 0,
+        Word::TooLarge => 0,
+        Word::Positive(v) => v.0,
+        Word::Negative(v) => v.0,
+    }
+}
+
+// The letter of a prefix word's quantifier.
+fn letter(word: i32) -> u8
+    requires { ⌜ natAbs word ≤ variableBound ⌝ }
+    ensures { λ r. ⌜ r ≡ letterOf word ⌝ }
+{
+    match Word::of(word) {
+        Word::Zero => b'e',
+        Word::TooLarge => b'e',
+        Word::Positive(_) => b'e',
+        Word::Negative(_) => b'a',
+    }
+}
+
+// The larger of two numbers.
+fn larger(a: usize, b: usize) -> usize
+    ensures { λ r. ⌜ r ≡ max a b ⌝ }
+{
+    if a < b { b } else { a }
+}
+
+// The largest variable number of a prefix.
+fn largest_variable(prefix: &[i32]) -> usize
+    requires { ⌜ Bounded (now prefix) ⌝ }
+    ensures { λ r. ⌜ r ≡ largest (now (prefix .entry)) ⌝ }
+{
+    let mut top = 0;
+    let mut i = 0;
+    while i < prefix.len() {
+        top = larger(top, variable(prefix[i]));
+        i += 1;
+    }
+    top
+}
+
+fn write_header(text: &mut [u8], top: usize, count: usize) -> usize
+    requires { ⌜ length (headerText top count) < 2 ^ 64 ⌝ }
+    ensures { λ r. ⌜ Stores (now (text .entry)) 0 (headerText top count) (now (text .exit)) r ⌝ }
+{
+    let mut at = decimal::write_bytes(text, 0, b"p cnf ");
+    at = decimal::write_number(text, at, top);
+    at = decimal::put(text, at, b' ');
+    at = decimal::write_number(text, at, count);
+    decimal::put(text, at, b'\n')
+}
+
+// The end of the line whose letter is `last`, if one is open.
+fn end_line(text: &mut [u8], at: usize, last: u8) -> usize
+    requires { ⌜ at + length (lineEnd last) < 2 ^ 64 ⌝ }
+    ensures { λ r. ⌜ Stores (now (text .entry)) at (lineEnd last) (now (text .exit)) r ⌝ }
+{
+    if last == 0 {
+        return at;
+    }
+    decimal::write_bytes(text, at, b"0\n")
+}
+
+// A line for the letter: the one that is open, or a new one.
+fn turn_line(text: &mut [u8], at: usize, last: u8, letter: u8) -> usize
+    requires { ⌜ at + length (lineTurn (eqb last letter) last letter) < 2 ^ 64 ⌝ }
+    ensures { λ r. ⌜ Stores (now (text .entry)) at (lineTurn (eqb last letter) last letter) (now (text .exit)) r ⌝ }
+{
+    if last == letter {
+        return at;
+    }
+    let mut next = end_line(text, at, last);
+    next = decimal::put(text, next, letter);
+    decimal::put(text, next, b' ')
+}
+
+// A number and the space behind it.
+fn write_spaced(text: &mut [u8], at: usize, n: usize) -> usize
+    requires { ⌜ at + length (decimal n ++ (32 ∷ [])) < 2 ^ 64 ⌝ }
+    ensures { λ r. ⌜ Stores (now (text .entry)) at (decimal n ++ (32 ∷ [])) (now (text .exit)) r ⌝ }
+{
+    let next = decimal::write_number(text, at, n);
+    decimal::put(text, next, b' ')
+}
+
+fn write_entry(text: &mut [u8], at: usize, last: u8, word: i32) -> usize
+    requires { ⌜ natAbs word ≤ variableBound ⌝ }
+    requires { ⌜ at + length (entryText last word) < 2 ^ 64 ⌝ }
+    ensures { λ r. ⌜ Stores (now (text .entry)) at (entryText last word) (now (text .exit)) r ⌝ }
+{
+    let next = turn_line(text, at, last, letter(word));
+    write_spaced(text, next, variable(word))
+}
+
+fn write_prefix(prefix: &[i32], text: &mut [u8], at: usize) -> usize
+    requires { ⌜ Bounded (now prefix) ⌝ }
+    requires { ⌜ at + length (prefixText 0 (now prefix)) < 2 ^ 64 ⌝ }
+    ensures { λ r. ⌜ Stores (now (text .entry)) at (prefixText 0 (now (prefix .entry))) (now (text .exit)) r ⌝ }
+{
+    let mut next = at;
+    let mut last = 0;
+    let mut i = 0;
+    while i < prefix.len() {
+        next = write_entry(text, next, last, prefix[i]);
+        last = letter(prefix[i]);
+        i += 1;
+    }
+    end_line(text, next, last)
+}
+
+fn write_word(text: &mut [u8], at: usize, word: i32) -> usize
+    requires { ⌜ natAbs word ≤ variableBound ⌝ }
+    requires { ⌜ at + length (wordText word) < 2 ^ 64 ⌝ }
+    ensures { λ r. ⌜ Stores (now (text .entry)) at (wordText word) (now (text .exit)) r ⌝ }
+{
+    match Word::of(word) {
+        Word::Zero => decimal::write_bytes(text, at, b"0\n"),
+        Word::TooLarge => at,
+        Word::Positive(v) => write_spaced(text, at, v.0),
+        Word::Negative(v) => {
+            let next = decimal::put(text, at, b'-');
+            write_spaced(text, next, v.0)
+        }
+    }
+}
+
+fn write_clauses(clauses: &[i32], text: &mut [u8], at: usize) -> usize
+    requires { ⌜ Bounded (now clauses) ⌝ }
+    requires { ⌜ at + length (clausesText (now clauses)) < 2 ^ 64 ⌝ }
+    ensures { λ r. ⌜ Stores (now (text .entry)) at (clausesText (now (clauses .entry))) (now (text .exit)) r ⌝ }
+{
+    let mut next = at;
+    let mut i = 0;
+    while i < clauses.len() {
+        next = write_word(text, next, clauses[i]);
+        i += 1;
+    }
+    next
+}
+
+// The whole text of tables that passed the check.
+fn write_tables(prefix: &[i32], clauses: &[i32], count: usize, text: &mut [u8]) -> usize
+    requires { ⌜ Admitted (now prefix) (now clauses) ⌝ }
+    requires { ⌜ count ≡ zeros (now clauses) ⌝ }
+    ensures { λ r. ⌜ Stores (now (text .entry)) 0 (written (now (prefix .entry)) (now (clauses .entry))) (now (text .exit)) r ⌝ }
+{
+    let top = largest_variable(prefix);
+    let mut at = write_header(text, top, count);
+    at = write_prefix(prefix, text, at);
+    write_clauses(clauses, text, at)
+}
+
+// The end of a writing: room is asked for here, and what was not used is cleared.
+fn finish(text: &mut [u8], used: usize) -> WriteAnswer
+    ensures { λ r. ⌜ Finishes (now (text .entry)) used r (now (text .exit)) ⌝ }
+{
+    if used <= text.len() {
+        clear::clear_bytes(text, used);
+        return WriteAnswer::Written(used);
+    }
+    clear::clear_bytes(text, 0);
+    WriteAnswer::Refused(Refusal {
+        reason: Reason::NoRoom,
+        place: 0,
+    })
+}
+
+// Writes the tables as a text, or says why not: the tables' refusals, then 3 at 0 where the text is too short.
+pub fn write_formula(prefix: &[i32], clauses: &[i32], text: &mut [u8]) -> WriteAnswer
+    ensures { λ r. ⌜ Writes (now (prefix .entry)) (now (clauses .entry)) (length (now (text .entry))) r (now (text .exit)) ⌝ }
+{
+    match tables::check_tables(prefix, clauses) {
+        TablesAnswer::Refused(refusal) => {
+            clear::clear_bytes(text, 0);
+            WriteAnswer::Refused(refusal)
+        }
+        TablesAnswer::Admitted {
+            variables: _,
+            clauses: count,
+        } => {
+            let used = write_tables(prefix, clauses, count, text);
+            finish(text, used)
+        }
+    }
+}
