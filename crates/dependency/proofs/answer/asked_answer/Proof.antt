@@ -1,0 +1,82 @@
+-- `asked_answer` answers by what the number is, by the prefix and by the room. Assumes nothing.
+use Prim.Native.Nat.{ℕ}
+use mathlib.Core.Path.{_≡_, sym, _∙_}
+use mathlib.Core.Bool.{false}
+use native.Mathlib.Omega.{arith}
+use mir.Syntax.{w32}
+use mir.Val.{toZ, ofZ}
+use borrow.Author.Needs.{needs}
+use Rattle.formula.specs.Word.{wordOf}
+use Rattle.formula.specs.declared.literal.Variable.{Variable}
+use Rattle.formula.specs.declared.literal.Word.the-variants.{Positive}
+use Rattle.dependency.specs.Marks.Words.{positive-bounded}
+use Rattle.dependency.specs.Row.{universalAsked, isUniversal}
+use Rattle.dependency.specs.Row.Universal.{not-asked, asked-variable}
+use Rattle.dependency.proofs.answer.asked_answer.Statement.{statement}
+use Rattle.dependency.proofs.answer.asked_answer.Tie as tie
+
+-- what the word is
+told : (c : tie.After-of) → c .of .result ≡ wordOf (c .before .args .variable)
+told c = let e : toZ w32 (ofZ w32 (c .before .args .variable)) ≡ c .before .args .variable = search needs in rw e at (c .of .ensures)
+
+-- a number that is recognised as anything but a variable asks for no universal
+other : (c : tie.After-of) → ((v : Variable) → c .of .result ≡ Positive v → ⊥) → universalAsked (c .before .args .prefix .now) (c .before .args .variable) ≡ false
+other c h = not-asked (c .before .args .prefix .now) (c .before .pre) (c .before .args .variable) (λ v e. h v (told c ∙ e))
+
+-- one that is recognised as a variable asks for that variable
+asked : (c : tie.After-kind) → universalAsked (c .before .before .before .args .prefix .now) (c .before .before .before .args .variable) ≡ isUniversal (c .before .before .before .args .prefix .now) (c .kind .given .0 .0 .0)
+asked c = asked-variable (c .before .before .before .args .prefix .now) (c .before .before .before .args .variable) (c .kind .given .0 .0) (sym (told (c .before .before)) ∙ c .kind .given .1)
+
+of-requires : tie.Need-of-requires
+of-requires c κs = search needs
+
+enum-told : tie.Need-enum-told
+enum-told c = search needs
+
+enum-told-2 : tie.Need-enum-told-2
+enum-told-2 c = search needs
+
+enum-known-kind : tie.Need-enum-known-kind
+enum-known-kind c = search needs
+
+is-universal-requires : tie.Need-is-universal-requires
+is-universal-requires c κs = positive-bounded _ _ (sym (told (c .before .before .before)) ∙ c .before .kind .given .1)
+
+room-answer-requires : tie.Need-room-answer-requires
+room-answer-requires c κs = search needs
+
+returns : tie.Need-returns
+returns c =
+    rw (asked (c .before .before .before .before) ∙ sym (c .before .before .is-universal .ensures) ∙ c .before .if1 .taken) (c .room-answer .ensures)
+
+enum-told-3 : tie.Need-enum-told-3
+enum-told-3 c = search needs
+
+returns-2 : tie.Need-returns-2
+returns-2 c = let e = c .enum-told .given .1 in rw (other (c .before .before) (λ v k. let z : _≡_ {A = ℕ} 0 1 = cc in absurd (omega arith)))
+
+returns-3 : tie.Need-returns-3
+returns-3 c = let e = c .enum-told2 .given .1 in rw (other (c .before .before) (λ v k. let z : _≡_ {A = ℕ} 0 1 = cc in absurd (omega arith)))
+
+returns-4 : tie.Need-returns-4
+returns-4 c = rw (asked (c .before .before .before) ∙ sym (c .before .is-universal .ensures) ∙ c .if1 .left)
+
+returns-5 : tie.Need-returns-5
+returns-5 c = let e = c .enum-told3 .given .1 in rw (other (c .before .before) (λ v k. let z : _≡_ {A = ℕ} 0 1 = cc in absurd (omega arith)))
+
+pub asked-answer-spec : {M : Type 1} → statement M
+asked-answer-spec =
+    tie.close
+    (tie.spec
+    of-requires
+    enum-told
+    enum-told-2
+    enum-known-kind
+    is-universal-requires
+    room-answer-requires
+    returns
+    enum-told-3
+    returns-2
+    returns-3
+    returns-4
+    returns-5)

@@ -1,0 +1,44 @@
+-- `negates` answers by the word's kind. Assumes nothing.
+use mathlib.Core.Path.{_≡_, ap, sym, _∙_}
+use mir.Syntax.{w32}
+use mir.Val.{toZ, ofZ}
+use borrow.Author.Needs.{needs}
+use Rattle.formula.specs.Word.{wordOf}
+use Rattle.dependency.specs.Asked.{negatesIn}
+use Rattle.dependency.proofs.answer.negates.Statement.{statement}
+use Rattle.dependency.proofs.answer.negates.Tie as tie
+
+-- what the word is
+told : (c : tie.After-of) → c .of .result ≡ wordOf (c .before .args .word)
+told c = let e : toZ w32 (ofZ w32 (c .before .args .word)) ≡ c .before .args .word = search needs in rw e at (c .of .ensures)
+
+of-requires : tie.Need-of-requires
+of-requires c κs = search needs
+
+enum-told : tie.Need-enum-told
+enum-told c = search needs
+
+enum-told-2 : tie.Need-enum-told-2
+enum-told-2 c = search needs
+
+enum-told-3 : tie.Need-enum-told-3
+enum-told-3 c = search needs
+
+enum-known-kind : tie.Need-enum-known-kind
+enum-known-kind c = search needs
+
+returns : tie.Need-returns
+returns c = ap (negatesIn (c .before .before .before .args .variable)) (sym (c .enum-told .given .1) ∙ told (c .before .before))
+
+returns-2 : tie.Need-returns-2
+returns-2 c = ap (negatesIn (c .before .before .before .args .variable)) (sym (c .enum-told2 .given .1) ∙ told (c .before .before))
+
+returns-3 : tie.Need-returns-3
+returns-3 c = ap (negatesIn (c .before .before .before .args .variable)) (sym (c .enum-told3 .given .1) ∙ told (c .before .before))
+
+returns-4 : tie.Need-returns-4
+returns-4 c = ap (negatesIn (c .before .before .before .before .before .args .variable)) (sym (c .before .before .kind .given .1) ∙ told (c .before .before .before .before))
+
+pub negates-spec : {M : Type 1} → statement M
+negates-spec =
+    tie.close (tie.spec of-requires enum-told enum-told-2 enum-told-3 enum-known-kind returns returns-2 returns-3 returns-4)

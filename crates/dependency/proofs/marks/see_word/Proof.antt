@@ -1,0 +1,45 @@
+-- `see_word` looks at the byte of the word's literal. Assumes nothing.
+use mathlib.Core.Path.{_≡_, ap, sym, _∙_}
+use native.Mathlib.Omega.{arith}
+use Prim.Native.Nat.{ℕ, _<_, _/_}
+use lib.ListN.{getD}
+use mir.Syntax.{w32}
+use mir.Val.{toZ, ofZ}
+use borrow.Author.Needs.{needs}
+use Rattle.formula.specs.Word.{wordOf}
+use Rattle.dependency.specs.Marks.{slotOf, seeAt}
+use Rattle.dependency.specs.Marks.Slots.{slot-within, see-nothing, see-literal}
+use Rattle.dependency.proofs.marks.see_word.Statement.{statement}
+use Rattle.dependency.proofs.marks.see_word.Tie as tie
+
+-- the byte, and that it is among the marks
+slot-told : (c : tie.After-slot-of) → c .slot-of .result ≡ slotOf 0 1 (wordOf (c .before .before .args .word))
+slot-told c =
+    let w = c .before .before .args .word in
+    let e : toZ w32 (ofZ w32 w) ≡ w = search needs in
+    rw e at (c .slot-of .ensures)
+
+within : (c : tie.After-slot-of) → c .slot-of .result < 2050
+within c = rw (slot-told c) (slot-within (c .before .before .args .word) 0 1 (omega arith) (omega arith))
+
+slot-of-requires : tie.Need-slot-of-requires
+slot-of-requires c κs = search needs
+
+returns : tie.Need-returns
+returns c =
+    let a = c .before .before .before .args in
+    see-nothing (a .word) (a .marks .now) (a .seen) (sym (slot-told (c .before)) ∙ c .if1 .taken)
+
+see-at-requires : tie.Need-see-at-requires
+see-at-requires c κs = omega (arith, within (c .before))
+
+returns-2 : tie.Need-returns-2
+returns-2 c =
+    let a = c .before .before .before .before .args in
+    let at = slot-told (c .before .before) in
+    c .see-at .ensures
+    ∙ ap (λ (n : ℕ). seeAt (getD (a .marks .now) n 0) (n / 2) (a .seen)) at
+    ∙ see-literal (a .word) (a .marks .now) (a .seen) (λ z. c .before .if1 .left (at ∙ z))
+
+pub see-word-spec : {M : Type 1} → statement M
+see-word-spec = tie.close (tie.spec slot-of-requires returns see-at-requires returns-2)

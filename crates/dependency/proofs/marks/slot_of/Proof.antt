@@ -1,0 +1,85 @@
+-- `slot_of` answers by the word's kind. Assumes nothing.
+use mathlib.Core.Path.{_≡_, ap, sym, _∙_}
+use native.Mathlib.Omega.{arith}
+use Prim.Native.Nat.{_≤_}
+use mir.Syntax.{w32}
+use mir.Val.{toZ, ofZ}
+use borrow.Author.Needs.{needs}
+use Rattle.formula.specs.Word.{wordOf}
+use Rattle.formula.specs.Bounds.{variableBound}
+use Rattle.dependency.specs.Marks.{slotOf}
+use Rattle.dependency.specs.Marks.Words.{positive-bounded, negative-bounded}
+use Rattle.dependency.proofs.marks.slot_of.Statement.{statement}
+use Rattle.dependency.proofs.marks.slot_of.Tie as tie
+
+-- what the word is
+told : (c : tie.After-of) → c .of .result ≡ wordOf (c .before .args .word)
+told c = let e : toZ w32 (ofZ w32 (c .before .args .word)) ≡ c .before .args .word = search needs in rw e at (c .of .ensures)
+
+-- the variable that was recognised is in range
+positive-at : (c : tie.After-kind) → c .kind .given .0 .0 .0 ≤ variableBound
+positive-at c = positive-bounded _ _ (sym (told (c .before .before)) ∙ c .kind .given .1)
+
+negative-at : (c : tie.After-kind2) → c .kind2 .given .0 .0 .0 ≤ variableBound
+negative-at c = negative-bounded _ _ (sym (told (c .before .before)) ∙ c .kind2 .given .1)
+
+of-requires : tie.Need-of-requires
+of-requires c κs = search needs
+
+enum-told : tie.Need-enum-told
+enum-told c = search needs
+
+enum-told-2 : tie.Need-enum-told-2
+enum-told-2 c = search needs
+
+enum-known-kind : tie.Need-enum-known-kind
+enum-known-kind c = search needs
+
+mul-result : tie.Need-mul-result
+mul-result c = omega (arith, positive-at (c .before .before))
+
+add-result : tie.Need-add-result
+add-result c = omega (arith, positive-at (c .before .before))
+
+enum-known-kind-2 : tie.Need-enum-known-kind-2
+enum-known-kind-2 c = search needs
+
+mul-result-2 : tie.Need-mul-result-2
+mul-result-2 c = omega (arith, negative-at (c .before .before))
+
+add-result-2 : tie.Need-add-result-2
+add-result-2 c = omega (arith, negative-at (c .before .before))
+
+returns : tie.Need-returns
+returns c = let a = c .before .before .before .args in ap (slotOf (a .plus) (a .minus)) (sym (c .enum-told .given .1) ∙ told (c .before .before))
+
+returns-2 : tie.Need-returns-2
+returns-2 c = let a = c .before .before .before .args in ap (slotOf (a .plus) (a .minus)) (sym (c .enum-told2 .given .1) ∙ told (c .before .before))
+
+returns-3 : tie.Need-returns-3
+returns-3 c =
+    let a = c .before .before .before .before .before .args in
+    ap (slotOf (a .plus) (a .minus)) (sym (c .before .before .kind .given .1) ∙ told (c .before .before .before .before))
+
+returns-4 : tie.Need-returns-4
+returns-4 c =
+    let a = c .before .before .before .before .before .args in
+    ap (slotOf (a .plus) (a .minus)) (sym (c .before .before .kind2 .given .1) ∙ told (c .before .before .before .before))
+
+pub slot-of-spec : {M : Type 1} → statement M
+slot-of-spec =
+    tie.close
+    (tie.spec
+    of-requires
+    enum-told
+    enum-told-2
+    enum-known-kind
+    mul-result
+    add-result
+    enum-known-kind-2
+    mul-result-2
+    add-result-2
+    returns
+    returns-2
+    returns-3
+    returns-4)

@@ -1,0 +1,132 @@
+-- `reach_clause` runs down the clause: what is left of it gives the same marks. Assumes nothing.
+use Prim.Native.Nat.{_≤_, _-_}
+use mathlib.Core.Path.{_≡_, refl, sym, _∙_}
+use mathlib.Core.List.{List}
+use lib.IntN.{ℤ, pos}
+use mir.Syntax.{w32}
+use mir.Val.{toZ, ofZ}
+use borrow.Author.Needs.{needs}
+use lib.ListN.{length, drop, getD}
+use Rattle.formula.specs.Word.{wordOf}
+use Rattle.dependency.specs.Marks.{isZero, reachWord, reachClause}
+use Rattle.dependency.specs.Marks.Place.{
+  first-clause-more,
+  first-clause-closing,
+  first-clause-end,
+  later-words-more,
+  later-words-closing,
+  later-words-end,
+}
+use Rattle.formula.specs.Decode.{firstClause, laterWords}
+use Rattle.dependency.proofs.pass.reach_clause.Statement.{statement}
+use Rattle.dependency.proofs.pass.reach_clause.Tie as tie
+
+-- What is left of the clause gives the same marks, and the same words come after it.
+abbrev Inv-loop : tie.InvT-loop
+Inv-loop clauses from entry marks₀ i₀ marks i =
+    (reachClause entry (firstClause (drop i clauses)) marks ≡ reachClause entry (firstClause (drop from clauses)) marks₀)
+    × (laterWords (drop i clauses) ≡ laterWords (drop from clauses))
+    × (from ≤ i)
+    × (length marks ≡ length marks₀)
+
+abbrev μ-loop : tie.MeasureT-loop
+μ-loop clauses from entry marks₀ i₀ marks i = length clauses - i
+
+abbrev words : (c : tie.At-loop Inv-loop μ-loop) → List ℤ
+words c = c .before .before .args .clauses .now
+
+abbrev word-at : (c : tie.After-word Inv-loop μ-loop) → ℤ
+word-at c = getD (words (c .before .before)) (c .before .before .loop .i) (pos 0)
+
+told : (c : tie.After-closes Inv-loop μ-loop) → c .closes .result ≡ isZero (wordOf (word-at (c .before)))
+told c = let e : toZ w32 (ofZ w32 (word-at (c .before))) ≡ word-at (c .before) = search needs in rw e at (c .closes .ensures)
+
+-- the marks after one word
+reached :
+    (c : tie.After-reach-word Inv-loop μ-loop)
+    → c .reach-word .last .1 .1 .0
+    ≡ reachWord (c .before .before .before .before .before .before .before .before .args .entry) (wordOf (word-at (c .before .before .before .before))) (c .before .before .before .before .before .before .loop .marks)
+reached c =
+    let e : toZ w32 (ofZ w32 (word-at (c .before .before .before .before))) ≡ word-at (c .before .before .before .before) = search needs in
+    rw e at (c .reach-word .ensures)
+
+loop-holds : tie.Need-loop-holds Inv-loop μ-loop
+loop-holds c = (refl, refl, search needs, refl)
+
+mul-word : tie.Need-mul-word Inv-loop μ-loop
+mul-word c = search needs
+
+shared-slice-copy-out-word : tie.Need-shared-slice-copy-out-word Inv-loop μ-loop
+shared-slice-copy-out-word c = search needs
+
+add-i : tie.Need-add-i Inv-loop μ-loop
+add-i c = search needs
+
+closes-requires : tie.Need-closes-requires Inv-loop μ-loop
+closes-requires c κs = search needs
+
+same-length : tie.Need-same-length Inv-loop μ-loop
+same-length c = search needs
+
+returns : tie.Need-returns Inv-loop μ-loop
+unfolding reachClause
+returns c =
+    let k = sym (told (c .before)) ∙ c .if1 .taken in
+    let l = c .before .before .before .before .loop in
+    let ws = words (c .before .before .before .before) in
+    record {
+      marks = rw (first-clause-closing ws (l .i) (pos 0) (search needs) k) at (l .inv .0);
+      later = sym (later-words-closing ws (l .i) (pos 0) (search needs) k) ∙ l .inv .1;
+      further = λ h. search needs;
+    }
+
+reach-word-requires : tie.Need-reach-word-requires Inv-loop μ-loop
+reach-word-requires c κs = c .before .before .before .before .before .loop .inv .3 ∙ c .before .before .before .before .before .before .before .pre
+
+loop-less : tie.Need-loop-less Inv-loop μ-loop
+loop-less c = search needs
+
+loop-again : tie.Need-loop-again Inv-loop μ-loop
+unfolding reachClause
+loop-again c =
+    let k = sym (told (c .before .before .before .before .before)) ∙ c .before .before .before .before .if1 .left in
+    let l = c .before .before .before .before .before .before .before .before .loop in
+    let ws = words (c .before .before .before .before .before .before .before .before) in (
+      rw (reached (c .before .before)) (rw (first-clause-more ws (l .i) (pos 0) (search needs) k) at (l .inv .0)),
+      sym (later-words-more ws (l .i) (pos 0) (search needs) k) ∙ l .inv .1,
+      search needs,
+      c .before .before .reach-word .kept .1 .1 .0 ∙ l .inv .3,
+    )
+
+same-length-2 : tie.Need-same-length-2 Inv-loop μ-loop
+same-length-2 c = search needs
+
+returns-2 : tie.Need-returns-2 Inv-loop μ-loop
+unfolding reachClause
+returns-2 c =
+    let l = c .before .loop in
+    let ws = words (c .before) in
+    record {
+      marks = rw (first-clause-end ws (l .i) (search needs)) at (l .inv .0);
+      later = sym (later-words-end ws (l .i) (search needs)) ∙ l .inv .1;
+      further = λ h. search needs;
+    }
+
+pub reach-clause-spec : {M : Type 1} → statement M
+reach-clause-spec =
+    tie.close
+    (tie.spec
+    Inv-loop
+    μ-loop
+    loop-holds
+    mul-word
+    shared-slice-copy-out-word
+    add-i
+    closes-requires
+    same-length
+    returns
+    reach-word-requires
+    loop-less
+    loop-again
+    same-length-2
+    returns-2)

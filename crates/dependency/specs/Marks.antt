@@ -1,0 +1,83 @@
+-- The marks of one search for paths: a byte a literal. 0: paths do not pass its variable; 1: they may, and have not
+-- reached its opposite; 2: they reached its opposite and go on from it; 3: the literal that the search starts from.
+-- A literal marked 2 or 3 is an entry: in a clause that holds it, the literals of other variables are reached.
+pub mod Words
+pub mod Place
+pub mod Slots
+use Prim.Native.Nat.{ℕ, _+_, _*_, _<_}
+use mathlib.Core.Path.{_≡_}
+use mathlib.Core.Bool.{Bool, true, false}
+use mathlib.Core.List.{List, [], _∷_}
+use lib.ListN.{length, getD, set, drop}
+use lib.Dec.{ltb, eqb}
+use lib.IntN.{ℤ}
+use Rattle.formula.specs.Word.{wordOf}
+use Rattle.formula.specs.Decode.{firstClause, laterWords}
+use Rattle.formula.specs.declared.literal.Word.{Word}
+use Rattle.formula.specs.declared.literal.Word.the-variants.{Zero, TooLarge, Positive, Negative}
+
+abbrev pub select : {A : Type 0} → Bool → A → A → A
+select true a b = a
+select false a b = b
+
+-- A word that closes its clause.
+abbrev pub isZero : Word → Bool
+isZero Zero = true
+isZero TooLarge = false
+isZero (Positive v) = false
+isZero (Negative v) = false
+
+-- The byte of the literal of v with this sign.
+abbrev pub slot : ℕ → Bool → ℕ
+slot v true = 2 * v
+slot v false = 2 * v + 1
+
+-- The same of a word, with what each sign adds; 0 for a word that is no literal.
+abbrev pub slotOf : ℕ → ℕ → Word → ℕ
+slotOf plus minus Zero = 0
+slotOf plus minus TooLarge = 0
+slotOf plus minus (Positive v) = 2 * v .0 + plus
+slotOf plus minus (Negative v) = 2 * v .0 + minus
+
+-- What is known of a clause's entries is one number: 0 for none, the variable of the only ones, or `several` for entries
+-- of two variables. It grows by a literal of v whose byte is `byte`.
+abbrev pub several : ℕ
+several = 1025
+
+unfoldable pub seeAt : ℕ → ℕ → ℕ → ℕ
+seeAt byte v seen = select (ltb byte 2) seen (select (eqb seen 0) v (select (eqb seen v) seen several))
+
+unfoldable pub seeWord : List ℕ → Word → ℕ → ℕ
+seeWord m Zero seen = seen
+seeWord m TooLarge seen = seen
+seeWord m (Positive v) seen = seeAt (getD m (slot (v .0) true) 0) (v .0) seen
+seeWord m (Negative v) seen = seeAt (getD m (slot (v .0) false) 0) (v .0) seen
+
+-- A literal of v is reached from entries of another variable: the byte of its opposite, at `at`, becomes 2.
+unfoldable pub reachAt : ℕ → ℕ → ℕ → List ℕ → List ℕ
+reachAt entry v at m = select (eqb entry 0) m (select (eqb entry v) m (select (eqb (getD m at 0) 1) (set m at 2) m))
+
+unfoldable pub reachWord : ℕ → Word → List ℕ → List ℕ
+reachWord entry Zero m = m
+reachWord entry TooLarge m = m
+reachWord entry (Positive v) m = reachAt entry (v .0) (slot (v .0) false) m
+reachWord entry (Negative v) m = reachAt entry (v .0) (slot (v .0) true) m
+
+-- The words of a clause one after the other, and the clauses of a pass.
+unfoldable pub clauseEntry : List ℕ → ℕ → List ℤ → ℕ
+clauseEntry m seen [] = seen
+clauseEntry m seen (w ∷ C) = clauseEntry m (seeWord m (wordOf w) seen) C
+
+unfoldable pub reachClause : ℕ → List ℤ → List ℕ → List ℕ
+reachClause entry [] m = m
+reachClause entry (w ∷ C) m = reachClause entry C (reachWord entry (wordOf w) m)
+
+-- The marks after the clause of the words at `from` is done, and where the next one begins.
+pub record ClauseReached (ws : List ℤ) (from entry : ℕ) (m m′ : List ℕ) (next : ℕ) : Type 0 where
+  pub marks : m′ ≡ reachClause entry (firstClause (drop from ws)) m
+  pub later : drop next ws ≡ laterWords (drop from ws)
+  pub further : from < length ws → from < next
+
+unfoldable pub pass : List (List ℤ) → List ℕ → List ℕ
+pass [] m = m
+pass (C ∷ Cs) m = pass Cs (reachClause (clauseEntry m 0 C) C m)

@@ -1,0 +1,88 @@
+-- A search for the paths from one literal of a universal: the marks it starts with, passes over the clauses until one
+-- changes nothing, and what the marks then say.
+pub mod Laws
+pub mod Count
+pub mod Shrink
+pub mod Front
+pub mod Entries
+pub mod Kept
+pub mod Closed
+pub mod Start
+pub mod Rows
+use Prim.Native.Nat.{ℕ, zero, suc, _+_, _*_}
+use mathlib.Core.Path.{_≡_}
+use mathlib.Core.Bool.{Bool, true, false, not, _&&_, _||_}
+use mathlib.Core.List.{List, [], _∷_, _++_, List·Memᴰ}
+use lib.ListN.{length, getD, set}
+use lib.Dec.{eqb}
+use lib.IntN.{ℤ}
+use Rattle.qbf.specs.Literal.{literal}
+use Rattle.qbf.specs.Formula.{Formula}
+use Rattle.qbf.specs.Path.{Path}
+use Rattle.qbf.specs.Dependency.{passable}
+use Rattle.formula.specs.Word.{wordOf}
+use Rattle.formula.specs.declared.literal.Word.{Word}
+use Rattle.formula.specs.declared.literal.Word.the-variants.{Zero, TooLarge, Positive, Negative}
+use Rattle.dependency.specs.Marks.{select, slot, pass}
+use Rattle.dependency.specs.Row.{mark}
+
+-- The variable of a prefix word, and the words right of the variable u.
+abbrev pub variableIn : Word → ℕ
+variableIn Zero = 0
+variableIn TooLarge = 0
+variableIn (Positive v) = v .0
+variableIn (Negative v) = v .0
+
+unfoldable pub rightOf : ℕ → List ℤ → List ℤ
+rightOf u [] = []
+rightOf u (w ∷ ws) = select (eqb (variableIn (wordOf w)) u) ws (rightOf u ws)
+
+-- The literals of the existentials among the words may be passed.
+unfoldable pub openWord : Word → List ℕ → List ℕ
+openWord Zero m = m
+openWord TooLarge m = m
+openWord (Positive v) m = set (set m (slot (v .0) true) 1) (slot (v .0) false) 1
+openWord (Negative v) m = m
+
+unfoldable pub openWords : List ℤ → List ℕ → List ℕ
+openWords [] m = m
+openWords (w ∷ ws) m = openWords ws (openWord (wordOf w) m)
+
+-- How many literals may be passed and are not reached.
+unfoldable pub ones : List ℕ → ℕ
+ones [] = 0
+ones (x ∷ m) = select (eqb x 1) 1 0 + ones m
+
+unfoldable pub passes : ℕ → List (List ℤ) → List ℕ → List ℕ
+passes zero Cs m = m
+passes (suc n) Cs m = pass Cs (passes n Cs m)
+
+-- Passes from m have come to m′, which one pass more leaves as it is.
+pub record Settled (Cs : List (List ℤ)) (m m′ : List ℕ) : Type 0 where
+  pub count : ℕ
+  pub passed : m′ ≡ passes count Cs m
+  pub still : pass Cs m′ ≡ m′
+
+-- What the marks say once the search from the literal of u with this sign has ended.
+pub record Searched (F : Formula) (u : ℕ) (sign : Bool) (m : List ℕ) : Type 0 where
+  pub size : length m ≡ 2050
+  -- a literal right of u that a path reaches has a 2 at its opposite
+  pub reached : (e : ℕ) (s : Bool) → List·Memᴰ e (passable F u) → Path (F .matrix) (passable F u) (literal u sign) (literal e s) → getD m (slot e (not s)) 0 ≡ 2
+  -- and there is no other 2
+  pub only : (e : ℕ) (s : Bool) → getD m (slot e (not s)) 0 ≡ 2 → List·Memᴰ e (passable F u) × Path (F .matrix) (passable F u) (literal u sign) (literal e s)
+
+-- The row's byte of e: u is joined to e and −u to −e, or u to −e and −u to e. A 2 says that a search reached the literal.
+unfoldable pub bothReached : ℕ → ℕ → ℕ
+bothReached one other = mark (eqb one 2 && eqb other 2)
+
+unfoldable pub dependsByte : ℕ → ℕ → ℕ → ℕ → ℕ
+dependsByte first second third fourth = mark ((eqb first 2 && eqb second 2) || (eqb third 2 && eqb fourth 2))
+
+-- A literal's reaching is told by its opposite's byte; the search from u has the first 2,050 bytes, the one from −u the next.
+abbrev pub rowByte : List ℕ → ℕ → ℕ
+rowByte work e = dependsByte (getD work (2 * e + 1) 0) (getD work (2050 + 2 * e) 0) (getD work (2 * e) 0) (getD work (2051 + 2 * e) 0)
+
+-- The bytes for the variable numbers below n, from the two searches that stand first in `work`.
+unfoldable pub rowFrom : List ℕ → ℕ → List ℕ
+rowFrom work zero = []
+rowFrom work (suc n) = rowFrom work n ++ (rowByte work n ∷ [])

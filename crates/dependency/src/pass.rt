@@ -1,0 +1,58 @@
+// A pass over the clauses: each clause's entries first, then the literals that they reach.
+ghost use mathlib.Core.Path.{_≡_};
+ghost use lib.ListN.{length, drop};
+ghost use Rattle.formula.specs.Decode.{clausesOf};
+ghost use Rattle.dependency.specs.Marks.{clauseEntry, ClauseReached, pass};
+ghost use Rattle.formula.specs.Decode.{firstClause};
+use crate::marks::closes;
+use crate::marks::reach_word;
+use crate::marks::see_word;
+
+// What is known of the entries of the clause that begins at `from`; entries of two variables settle it.
+fn clause_entry(clauses: &[i32], from: usize, marks: &[u8]) -> usize
+    requires { ⌜ length (now marks) ≡ 2050 ⌝ }
+    ensures { λ r. ⌜ r ≡ clauseEntry (now (marks .entry)) 0 (firstClause (drop from (now (clauses .entry)))) ⌝ }
+{
+    let mut seen = 0;
+    let mut i = from;
+    while i < clauses.len() {
+        let word = clauses[i];
+        if closes(word) {
+            return seen;
+        }
+        seen = see_word(marks, word, seen);
+        if seen == 1_025 {
+            return seen;
+        }
+        i += 1;
+    }
+    seen
+}
+
+// Marks what the clause's entries reach, and answers where the next clause begins.
+fn reach_clause(clauses: &[i32], from: usize, entry: usize, marks: &mut [u8]) -> usize
+    requires { ⌜ length (now marks) ≡ 2050 ⌝ }
+    ensures { λ r. ⌜ ClauseReached (now (clauses .entry)) from entry (now (marks .entry)) (now (marks .exit)) r ⌝ }
+{
+    let mut i = from;
+    while i < clauses.len() {
+        let word = clauses[i];
+        i += 1;
+        if closes(word) {
+            return i;
+        }
+        reach_word(entry, word, marks);
+    }
+    i
+}
+
+pub fn pass(clauses: &[i32], marks: &mut [u8])
+    requires { ⌜ length (now marks) ≡ 2050 ⌝ }
+    ensures { λ r. ⌜ now (marks .exit) ≡ pass (clausesOf (now (clauses .entry))) (now (marks .entry)) ⌝ }
+{
+    let mut at = 0;
+    while at < clauses.len() {
+        let entry = clause_entry(clauses, at, marks);
+        at = reach_clause(clauses, at, entry, marks);
+    }
+}

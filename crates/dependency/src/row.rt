@@ -1,0 +1,68 @@
+// Dependency rows: two searches side by side, then a byte for each variable number.
+ghost use mathlib.Core.Path.{_≡_};
+ghost use mathlib.Core.Bool.{true};
+ghost use mathlib.Core.List.{_++_};
+ghost use lib.ListN.{length, take, replicate};
+ghost use Rattle.formula.specs.Tables.{Admitted};
+ghost use Rattle.formula.specs.Decode.{formulaOf};
+ghost use Rattle.dependency.specs.Row.{rowOf, isUniversal};
+ghost use Rattle.dependency.specs.Search.{bothReached, dependsByte, rowFrom};
+use crate::search::search;
+use formula::clear::clear_bytes;
+
+// 1 where both bytes are 2: each says that a search reached a literal.
+fn both_reached(one: u8, other: u8) -> u8
+    ensures { λ r. ⌜ r ≡ bothReached one other ⌝ }
+{
+    if one == 2 {
+        if other == 2 {
+            return 1;
+        }
+        return 0;
+    }
+    0
+}
+
+// The byte of e: u is joined to e and −u to −e, or u to −e and −u to e.
+fn depends_byte(first: u8, second: u8, third: u8, fourth: u8) -> u8
+    ensures { λ r. ⌜ r ≡ dependsByte first second third fourth ⌝ }
+{
+    if both_reached(first, second) == 1 {
+        return 1;
+    }
+    both_reached(third, fourth)
+}
+
+// The row behind the two searches.
+fn fill_row(work: &mut [u8])
+    requires { ⌜ length (now work) ≡ 5125 ⌝ }
+    ensures { λ r. ⌜ now (work .exit) ≡ take 4100 (now (work .entry)) ++ rowFrom (now (work .entry)) 1025 ⌝ }
+{
+    let mut e: usize = 0;
+    while e < 1_025 {
+        let at = 2 * e;
+        let byte = depends_byte(work[at + 1], work[2_050 + at], work[at], work[2_051 + at]);
+        work[4_100 + e] = byte;
+        e += 1;
+    }
+}
+
+// The row of a universal: the searches' bytes first, 0 at the end, then the row's 1,025.
+pub fn make_row(prefix: &[i32], clauses: &[i32], variable: usize, work: &mut [u8])
+    requires { ⌜ Admitted (now prefix) (now clauses) ⌝ }
+    requires { ⌜ isUniversal (now prefix) variable ≡ true ⌝ }
+    requires { ⌜ length (now work) ≡ 5125 ⌝ }
+    ensures { λ r. ⌜ now (work .exit) ≡ replicate 4100 0 ++ rowOf (formulaOf (now (prefix .entry)) (now (clauses .entry))) variable ⌝ }
+{
+    let positive = 2 * variable;
+    search(prefix, clauses, variable, positive, &mut work[..2_050]);
+    search(
+        prefix,
+        clauses,
+        variable,
+        positive + 1,
+        &mut work[2_050..4_100],
+    );
+    fill_row(work);
+    clear_bytes(&mut work[..4_100], 0);
+}
