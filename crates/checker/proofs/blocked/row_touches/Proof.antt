@@ -1,0 +1,106 @@
+-- `row_touches`: the clause from here on is touched exactly when the whole is. Assumes nothing.
+use Prim.Native.Nat.{_+_, _-_}
+use mathlib.Core.Path.{_≡_, refl, ap, sym, _∙_}
+use mathlib.Core.List.{_∷_}
+use borrow.Author.Needs.{needs}
+use lib.Dec.{eqb}
+use lib.ListN.{length, getD}
+use lib.IntN.{pos, natAbs}
+use mir.Syntax.{w32}
+use mir.Val.{toZ, ofZ}
+use Rattle.checker.specs.Words.Places.{clauseAt, clause-past, clause-zero, clause-literal}
+use Rattle.checker.specs.Blocking.{touches}
+use Rattle.checker.proofs.Signed.{read-zero, read-back}
+use Rattle.checker.proofs.blocked.row_touches.Statement.{statement}
+use Rattle.checker.proofs.blocked.row_touches.Tie as tie
+
+abbrev Inv-loop : tie.InvT-loop
+Inv-loop words from row i₀ i = touches row (clauseAt words from) ≡ touches row (clauseAt words i)
+
+abbrev μ-loop : tie.MeasureT-loop
+μ-loop words from row i₀ i = length words - i
+
+loop-holds : tie.Need-loop-holds Inv-loop μ-loop
+loop-holds c = refl
+
+mul-word : tie.Need-mul-word Inv-loop μ-loop
+mul-word c = search needs
+
+shared-slice-copy-out-word : tie.Need-shared-slice-copy-out-word Inv-loop μ-loop
+shared-slice-copy-out-word c = search needs
+
+is-zero-requires : tie.Need-is-zero-requires Inv-loop μ-loop
+is-zero-requires c κs = tt
+
+returns : tie.Need-returns Inv-loop μ-loop
+unfolding touches
+returns c =
+    let at = c .before .before .before .before in
+    let start = at .before .before in
+    let words = start .args .words .now in
+    let z = read-zero (getD words (at .loop .i) (pos 0)) (c .before .before .word .given) (c .before .is-zero .ensures) (c .if1 .taken) in
+    sym (at .loop .inv ∙ ap (touches (start .args .row .now)) (clause-zero words (at .loop .i) (search needs) z))
+
+word-touches-requires : tie.Need-word-touches-requires Inv-loop μ-loop
+word-touches-requires c κs = c .before .before .before .before .before .before .pre
+
+-- the word at the place, and its byte
+literal-at :
+    (c : tie.After-word-touches Inv-loop μ-loop)
+    → clauseAt (c .before .before .before .before .before .before .before .args .words .now) (c .before .before .before .before .before .loop .i) ≡ getD (c .before .before .before .before .before .before .before .args .words .now) (c .before .before .before .before .before .loop .i) (pos 0) ∷ clauseAt (c .before .before .before .before .before .before .before .args .words .now) (c .before .before .before .before .before .loop .i + 1)
+literal-at c =
+    let at = c .before .before .before .before .before in
+    let words = at .before .before .args .words .now in
+    clause-literal words (at .loop .i) (search needs) (read-zero (getD words (at .loop .i) (pos 0)) (c .before .before .before .word .given) (c .before .before .is-zero .ensures) (c .before .if1 .left))
+
+byte-at :
+    (c : tie.After-word-touches Inv-loop μ-loop)
+    → c .word-touches .result ≡ eqb (getD (c .before .before .before .before .before .before .before .args .row .now) (natAbs (getD (c .before .before .before .before .before .before .before .args .words .now) (c .before .before .before .before .before .loop .i) (pos 0))) 0) 1
+byte-at c =
+    let at = c .before .before .before .before .before in
+    let word = getD (at .before .before .args .words .now) (at .loop .i) (pos 0) in
+    let e : toZ w32 (ofZ w32 word) ≡ word = read-back word (c .before .before .before .word .given) in
+    rw e at (c .word-touches .ensures)
+
+returns-2 : tie.Need-returns-2 Inv-loop μ-loop
+unfolding touches
+returns-2 c =
+    let at = c .before .before .before .before .before .before in
+    sym (at .loop .inv ∙ rw (literal-at (c .before), ← byte-at (c .before), c .if2 .taken))
+
+add-i : tie.Need-add-i Inv-loop μ-loop
+add-i c = search needs
+
+loop-less : tie.Need-loop-less Inv-loop μ-loop
+loop-less c = search needs
+
+loop-again : tie.Need-loop-again Inv-loop μ-loop
+unfolding touches
+loop-again c =
+    let at = c .before .before .before .before .before .before in
+    at .loop .inv ∙ rw (literal-at (c .before), ← byte-at (c .before), c .if2 .left)
+
+returns-3 : tie.Need-returns-3 Inv-loop μ-loop
+unfolding touches
+returns-3 c =
+    let at = c .before in
+    let start = at .before .before in
+    sym (at .loop .inv ∙ ap (touches (start .args .row .now)) (clause-past (start .args .words .now) (at .loop .i) (search needs)))
+
+pub row-touches-spec : {M : Type 1} → statement M
+row-touches-spec =
+    tie.close
+    (tie.spec
+    Inv-loop
+    μ-loop
+    loop-holds
+    mul-word
+    shared-slice-copy-out-word
+    is-zero-requires
+    returns
+    word-touches-requires
+    returns-2
+    add-i
+    loop-less
+    loop-again
+    returns-3)

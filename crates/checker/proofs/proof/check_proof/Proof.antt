@@ -1,0 +1,51 @@
+-- `check_proof` judges and clears. Assumes nothing.
+use Prim.Native.Nat.{ℕ}
+use mathlib.Core.Path.{ap, sym, _∙_}
+use lib.ListN.{length, replicate}
+use borrow.Author.Needs.{needs}
+use Rattle.checker.specs.Verdict.Accuracy.{accepted-lost}
+use Rattle.checker.specs.Verdict.Parts.{cleared-whole}
+use Rattle.checker.proofs.proof.check_proof.Statement.{statement}
+use Rattle.checker.proofs.proof.check_proof.Tie as tie
+
+judge-proof-requires : tie.Need-judge-proof-requires
+judge-proof-requires c κs = search needs
+
+clear-bytes-requires : tie.Need-clear-bytes-requires
+clear-bytes-requires c κs = search needs
+
+clear-numbers-requires : tie.Need-clear-numbers-requires
+clear-numbers-requires c κs = search needs
+
+same-length : tie.Need-same-length
+same-length c = search needs
+
+same-length-2 : tie.Need-same-length-2
+same-length-2 c = search needs
+
+returns : tie.Need-returns
+returns c =
+    let numbers = c .before .before in
+    let bytes = numbers .before .before .before .before in
+    let judged = bytes .before .before .before .before .before .before in
+    let start = judged .before .before .before .before .before in
+    let prefix = start .args .prefix .now in
+    let clauses = start .args .clauses .now in
+    let steps = start .args .steps .now in
+    record {
+      verdict = judged .judge-proof .ensures;
+      scratch-cleared = bytes .clear-bytes .ensures ∙ cleared-whole (judged .judge-proof .last .1 .1 .1 .0) ∙ ap (λ (n : ℕ). replicate {A = ℕ} n 0) (judged .judge-proof .kept .1 .1 .1 .0);
+      starts-cleared = numbers .clear-numbers .ensures ∙ cleared-whole (judged .judge-proof .last .1 .1 .1 .1 .0) ∙ ap (λ (n : ℕ). replicate {A = ℕ} n 0) (judged .judge-proof .kept .1 .1 .1 .1 .0);
+      lost = λ empty count e. accepted-lost prefix clauses steps (length (start .args .scratch .now)) (length (start .args .starts .now)) (empty .0) count (sym (judged .judge-proof .ensures) ∙ e);
+    }
+
+pub check-proof-spec : {M : Type 1} → statement M
+check-proof-spec =
+    tie.close
+    (tie.spec
+    judge-proof-requires
+    clear-bytes-requires
+    clear-numbers-requires
+    same-length
+    same-length-2
+    returns)

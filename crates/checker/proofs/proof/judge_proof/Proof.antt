@@ -1,0 +1,60 @@
+-- `judge_proof`: the tables first. Assumes nothing.
+use mathlib.Core.Path.{_≡_, sym, _∙_}
+use lib.ListN.{length}
+use Rattle.formula.specs.Tables.{Admitted, zeros}
+use Rattle.formula.specs.Tables.Laws.{answer-admitted, answer-refused}
+use borrow.Author.Needs.{needs}
+use Rattle.checker.specs.Verdict.{verdictOf}
+use Rattle.checker.proofs.proof.judge_proof.Statement.{statement}
+use Rattle.checker.proofs.proof.judge_proof.Tie as tie
+
+-- the tables passed
+admitted-at : (c : tie.After-known-told2) → Admitted (c .before .before .before .before .before .before .args .prefix .now) (c .before .before .before .before .before .before .args .clauses .now) × (c .before .inputs .given .0 .0 ≡ length (c .before .before .before .before .before .before .args .prefix .now)) × (c .before .inputs .given .0 .1 .0 ≡ zeros (c .before .before .before .before .before .before .args .clauses .now))
+admitted-at c =
+    let start = c .before .before .before .before .before .before in
+    answer-admitted (start .args .prefix .now) (start .args .clauses .now) (c .before .inputs .given .0 .0) (c .before .inputs .given .0 .1 .0) (sym (c .before .before .before .check-tables .ensures) ∙ c .before .inputs .given .1)
+
+check-tables-requires : tie.Need-check-tables-requires
+check-tables-requires c κs = search needs
+
+enum-known-refusal : tie.Need-enum-known-refusal
+enum-known-refusal c = search needs
+
+enum-known-inputs : tie.Need-enum-known-inputs
+enum-known-inputs c = search needs
+
+judge-sized-requires : tie.Need-judge-sized-requires
+judge-sized-requires c κs =
+    let a = admitted-at (c .before .before) in
+    (a .0, a .2)
+
+returns : tie.Need-returns
+unfolding verdictOf
+returns c =
+    let start = c .before .before .before .before .before .before in
+    rw (answer-refused (start .args .prefix .now) (start .args .clauses .now) (c .before .refusal .given .0 .0) (sym (c .before .before .before .check-tables .ensures) ∙ c .before .refusal .given .1))
+
+same-length : tie.Need-same-length
+same-length c = search needs
+
+same-length-2 : tie.Need-same-length-2
+same-length-2 c = search needs
+
+returns-2 : tie.Need-returns-2
+unfolding verdictOf
+returns-2 c =
+    let called = c .before .before .before .before in
+    rw (admitted-at (called .before .before .before) .0 .passes) (called .judge-sized .ensures)
+
+pub judge-proof-spec : {M : Type 1} → statement M
+judge-proof-spec =
+    tie.close
+    (tie.spec
+    check-tables-requires
+    enum-known-refusal
+    enum-known-inputs
+    judge-sized-requires
+    returns
+    same-length
+    same-length-2
+    returns-2)

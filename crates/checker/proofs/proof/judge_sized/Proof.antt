@@ -1,0 +1,86 @@
+-- `judge_sized`: the tests before the steps, in order. Assumes nothing.
+use Prim.Native.Nat.{_<_, _≤_}
+use mathlib.Core.Path.{_≡_, sym, _∙_}
+use mathlib.Core.Bool.{true}
+use native.Mathlib.Numerals.{add-one}
+use native.Mathlib.Omega.{arith}
+use borrow.Author.Tests.{leb-true, le-leb, lt-leb}
+use lib.Dec.{leb}
+use lib.ListN.{length}
+use Rattle.formula.specs.Tables.{zeros}
+use borrow.Author.Needs.{needs}
+use Rattle.checker.specs.Verdict.{sizedVerdict}
+use Rattle.checker.specs.Verdict.Parts.{proof-within, proof-oversized}
+use Rattle.checker.proofs.proof.judge_sized.Statement.{statement}
+use Rattle.checker.proofs.proof.judge_sized.Tie as tie
+
+-- the step words are within their bound
+within-at : (c : tie.After-enum-told2) → leb (length (c .before .before .before .before .before .args .steps .now)) 1048576 ≡ true
+within-at c = proof-within _ (length (c .before .before .before .before .before .args .steps .now)) _ (sym (c .enum-told2 .given .1) ∙ c .before .before .new .ensures)
+
+new-requires : tie.Need-new-requires
+new-requires c κs = search needs
+
+enum-told : tie.Need-enum-told
+enum-told c = search needs
+
+enum-told-2 : tie.Need-enum-told-2
+enum-told-2 c = search needs
+
+returns : tie.Need-returns
+unfolding sizedVerdict
+returns c =
+    let start = c .before .before .before .before .before .before in
+    rw (within-at (c .before), lt-leb 8200 (length (start .args .scratch .now)) (c .if1 .taken))
+
+add-t18 : tie.Need-add-t18
+add-t18 c = search needs
+
+returns-2 : tie.Need-returns-2
+unfolding sizedVerdict
+returns-2 c =
+    let start = c .before .before .before .before .before .before .before in
+    let few : length (start .args .starts .now) < zeros (start .args .clauses .now) = omega (arith, c .if2 .taken, start .pre .1) in
+    rw (within-at (c .before .before), le-leb 8200 (length (start .args .scratch .now)) (c .before .if1 .left), lt-leb (zeros (start .args .clauses .now)) (length (start .args .starts .now)) few, add-one (length (start .args .starts .now)))
+
+judge-steps-requires : tie.Need-judge-steps-requires
+judge-steps-requires c κs =
+    let start = c .before .before .before .before .before .before .before .before .before in
+    (start .pre .0, (start .pre .1, (leb-true (length (start .args .steps .now)) 1048576 (within-at (c .before .before .before .before)), (c .before .before .before .if1 .left, c .before .before .if2 .left))))
+
+returns-3 : tie.Need-returns-3
+unfolding sizedVerdict
+returns-3 c =
+    let start = c .before .before .before .before .before in
+    rw (proof-oversized (leb (length (start .args .steps .now)) 1048576) (length (start .args .steps .now)) (sym (c .enum-told .given .1) ∙ c .before .before .new .ensures))
+
+same-length : tie.Need-same-length
+same-length c = search needs
+
+same-length-2 : tie.Need-same-length-2
+same-length-2 c = search needs
+
+returns-4 : tie.Need-returns-4
+unfolding sizedVerdict
+returns-4 c =
+    let called = c .before .before .before .before in
+    let start = called .before .before .before .before .before .before .before .before .before .before in
+    let enough : zeros (start .args .clauses .now) ≤ length (start .args .starts .now) = omega (arith, called .before .before .before .if2 .left, start .pre .1) in
+    rw (within-at (called .before .before .before .before .before), le-leb 8200 (length (start .args .scratch .now)) (called .before .before .before .before .if1 .left), le-leb (zeros (start .args .clauses .now)) (length (start .args .starts .now)) enough, ← start .pre .1)
+    (called .judge-steps .ensures)
+
+pub judge-sized-spec : {M : Type 1} → statement M
+judge-sized-spec =
+    tie.close
+    (tie.spec
+    new-requires
+    enum-told
+    enum-told-2
+    returns
+    add-t18
+    returns-2
+    judge-steps-requires
+    returns-3
+    same-length
+    same-length-2
+    returns-4)

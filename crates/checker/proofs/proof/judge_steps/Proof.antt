@@ -1,0 +1,137 @@
+-- `judge_steps`: the scratch is made ready, the starts are filled, the run is concluded. Assumes nothing.
+use mathlib.Core.Path.{_≡_, sym, _∙_}
+use mathlib.Core.List.{_++_}
+use native.Mathlib.Omega.{arith}
+use lib.ListN.{length, take, drop}
+use Rattle.formula.specs.Decode.{clausesOf}
+use Rattle.formula.specs.Tables.Laws.{admitted-clauses-length, admitted-closed}
+use borrow.Author.Needs.{needs}
+use Rattle.checker.specs.declared.run.Run.the-variants.{Ended}
+use Rattle.checker.specs.Stepping.{Ready}
+use Rattle.checker.specs.Running.{RunDone}
+use Rattle.checker.specs.Verdict.Parts.{cleared-whole, made-ready}
+use Rattle.checker.proofs.proof.judge_steps.Statement.{statement}
+use Rattle.checker.proofs.proof.judge_steps.Tie as tie
+
+-- the scratch before the run
+ready-at : (c : tie.After-fill-starts) → Ready (c .before .before .before .before .before .before .before .before .before .before .before .before .args .prefix .now) (take 8200 (take 7175 (c .before .before .before .before .before .before .before .before .clear-bytes .last .0) ++ (c .before .before .before .before .fill-kinds .last .1 .0 ++ drop 1025 (drop 7175 (c .before .before .before .before .before .before .before .before .clear-bytes .last .0)))))
+ready-at c =
+    let start = c .before .before .before .before .before .before .before .before .before .before .before .before in
+    made-ready (start .args .prefix .now) (start .args .scratch .now) (c .before .before .before .before .before .before .before .before .clear-bytes .last .0) (c .before .before .before .before .fill-kinds .last .1 .0) (start .pre .1 .1 .1 .0) (c .before .before .before .before .before .before .before .before .clear-bytes .ensures ∙ cleared-whole (start .args .scratch .now)) (c .before .before .before .before .fill-kinds .ensures)
+
+-- the starts keep their length
+room-at : (c : tie.After-run-steps) → length (c .run-steps .last .1 .1 .1 .1 .1 .0) ≡ length (c .before .before .before .before .before .before .before .before .before .before .before .before .before .before .before .before .before .args .starts .now)
+room-at c = c .run-steps .kept .1 .1 .1 .1 .1 .0 ∙ c .before .before .before .before .before .fill-starts .kept .1 .0
+
+-- the run ended
+ended-at : (c : tie.After-known-told2) → RunDone (c .before .before .before .before .before .before .before .before .before .before .before .before .before .before .before .before .before .before .before .before .before .before .before .before .args .prefix .now) (c .before .before .before .before .before .before .before .before .before .before .before .before .before .before .before .before .before .before .before .before .before .before .before .before .args .clauses .now) (c .before .before .before .before .before .before .before .before .before .before .before .before .before .before .before .before .before .before .before .before .before .before .before .before .args .steps .now) (c .before .before .before .before .before .before .before .before .before .before .before .before .before .before .before .before .before .before .before .before .before .before .before .before .args .inputs) (Ended (c .before .known .given .0 .0)) (c .before .before .before .before .before .before .before .run-steps .last .1 .1 .1 .1 .1 .0)
+ended-at c = rw (c .before .known .given .1) at (c .before .before .before .before .before .before .before .run-steps .ensures)
+
+clear-bytes-requires : tie.Need-clear-bytes-requires
+clear-bytes-requires c κs = search needs
+
+sub-fill-kinds : tie.Need-sub-fill-kinds
+sub-fill-kinds c = search needs
+
+part-fill-kinds-start : tie.Need-part-fill-kinds-start
+part-fill-kinds-start c = search needs
+
+part-fill-kinds-end : tie.Need-part-fill-kinds-end
+part-fill-kinds-end c = search needs
+
+fill-kinds-requires : tie.Need-fill-kinds-requires
+fill-kinds-requires c κs = search needs
+
+fill-starts-requires : tie.Need-fill-starts-requires
+fill-starts-requires c κs =
+    let start = c .before .before .before .before .before .before .before .before .before .before .before in
+    let prefix = start .args .prefix .now in
+    let clauses = start .args .clauses .now in
+    (admitted-clauses-length prefix clauses (start .pre .0), omega (arith, admitted-closed prefix clauses (start .pre .0), start .pre .1 .0, start .pre .1 .1 .1 .1))
+
+slice-relend-prefix-run-steps : tie.Need-slice-relend-prefix-run-steps
+slice-relend-prefix-run-steps c = search needs
+
+slice-aggregate-run-steps : tie.Need-slice-aggregate-run-steps
+slice-aggregate-run-steps c = sym (ready-at (c .before .before .before) .size)
+
+run-steps-requires : tie.Need-run-steps-requires
+run-steps-requires c κs =
+    let filled = c .before .before .before .before in
+    let start = filled .before .before .before .before .before .before .before .before .before .before .before .before in
+    let prefix = start .args .prefix .now in
+    let clauses = start .args .clauses .now in
+    let count : length (clausesOf clauses) ≡ start .args .inputs = admitted-closed prefix clauses (start .pre .0) ∙ sym (start .pre .1 .0) in (
+      ready-at filled,
+      (
+        start .pre .0,
+        (
+          start .pre .1 .1 .0,
+          (
+            omega (arith, filled .fill-starts .kept .1 .0, start .pre .1 .1 .1 .1),
+            rw count at (filled .fill-starts .ensures .input-clauses (start .args .steps .now)),
+          ),
+        ),
+      ),
+    )
+
+enum-known-refusal : tie.Need-enum-known-refusal
+enum-known-refusal c = search needs
+
+enum-known-known : tie.Need-enum-known-known
+enum-known-known c = search needs
+
+conclude-run-requires : tie.Need-conclude-run-requires
+conclude-run-requires c κs =
+    let done = ended-at (c .before) in
+    (done .counted, done .grown)
+
+same-length : tie.Need-same-length
+same-length c = search needs
+
+same-length-2 : tie.Need-same-length-2
+same-length-2 c = search needs
+
+returns : tie.Need-returns
+returns c =
+    let ran = c .before .before .before .before .before .before .before in
+    let start = ran .before .before .before .before .before .before .before .before .before .before .before .before .before .before .before .before .before in
+    let e = sym (c .before .refusal .given .1) in
+    let outcome = rw (room-at ran, c .before .refusal .given .1) at (ran .run-steps .ensures .outcome) in
+    rw outcome
+
+same-length-3 : tie.Need-same-length-3
+same-length-3 c = search needs
+
+same-length-4 : tie.Need-same-length-4
+same-length-4 c = search needs
+
+returns-2 : tie.Need-returns-2
+returns-2 c =
+    let told = c .before .before in
+    let ran = told .before .before .before .before .before .before .before in
+    let outcome = rw (room-at ran) at (ended-at told .outcome) in
+    rw outcome (c .conclude-run .ensures)
+
+pub judge-steps-spec : {M : Type 1} → statement M
+judge-steps-spec =
+    tie.close
+    (tie.spec
+    clear-bytes-requires
+    sub-fill-kinds
+    part-fill-kinds-start
+    part-fill-kinds-end
+    fill-kinds-requires
+    fill-starts-requires
+    slice-relend-prefix-run-steps
+    slice-aggregate-run-steps
+    run-steps-requires
+    enum-known-refusal
+    enum-known-known
+    conclude-run-requires
+    same-length
+    same-length-2
+    returns
+    same-length-3
+    same-length-4
+    returns-2)

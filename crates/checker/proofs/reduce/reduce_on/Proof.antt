@@ -1,0 +1,108 @@
+-- `reduce_on` makes the row in the first part of the scratch, looks the clause up in it, and judges the result. Assumes nothing.
+use mathlib.Core.Path.{_≡_, refl, ap, sym, _∙_}
+use mathlib.Core.List.{_++_}
+use lib.ListN.{take, drop}
+use Rattle.dependency.specs.Row.{rowOf}
+use Rattle.formula.specs.Decode.{formulaOf}
+use borrow.Author.Needs.{needs}
+use Rattle.checker.specs.Words.Places.{clauseAt}
+use Rattle.checker.specs.Steps.{blocked}
+use Rattle.checker.specs.Verdict.{scopeOf}
+use Rattle.checker.specs.Blocking.Laws.{row-blocked}
+use Rattle.checker.specs.Stepping.Laws.{part-back, front-kept, row-in, first-part}
+use Rattle.checker.proofs.reduce.reduce_on.Statement.{statement}
+use Rattle.checker.proofs.reduce.reduce_on.Tie as tie
+
+-- what follows the first part stays
+kept-at : (c : tie.After-make-row) → drop 5125 (c .make-row .last .1 .1 .1 .0 ++ drop 5125 (c .before .before .before .args .scratch .now)) ≡ drop 5125 (c .before .before .before .args .scratch .now)
+kept-at c =
+    let start = c .before .before .before in
+    front-kept (c .make-row .last .1 .1 .1 .0) (start .args .scratch .now) 5125 (c .make-row .kept .1 .1 .1 .0 ∙ first-part (start .args .scratch .now) (start .pre .0))
+
+-- the row touches the clause exactly when the clause is blocked
+blocked-at : (c : tie.After-row-touches) → c .row-touches .result ≡ blocked (scopeOf (c .before .before .before .before .before .before .before .before .args .prefix .now) (c .before .before .before .before .before .before .before .before .args .clauses .now)) (c .before .before .before .before .before .before .before .before .args .variable .0) (clauseAt (c .before .before .before .before .before .before .before .before .args .words .now) (c .before .before .before .before .before .before .before .before .args .from))
+blocked-at c =
+    let made = c .before .before .before .before .before in
+    let start = made .before .before .before in
+    let F = formulaOf (start .args .prefix .now) (start .args .clauses .now) in
+    let row : take 1025 (drop 4100 (made .make-row .last .1 .1 .1 .0 ++ drop 5125 (start .args .scratch .now))) ≡ rowOf F (start .args .variable .0) = row-in F (start .args .variable .0) (made .make-row .last .1 .1 .1 .0) (drop 5125 (start .args .scratch .now)) (made .make-row .ensures) in
+    (rw row at (c .row-touches .ensures))
+    ∙ row-blocked (start .args .prefix .now) (start .args .clauses .now) (start .args .variable .0) (clauseAt (start .args .words .now) (start .args .from)) (start .pre .1 .1 .1)
+
+slice-relend-prefix-make-row : tie.Need-slice-relend-prefix-make-row
+slice-relend-prefix-make-row c = search needs
+
+slice-aggregate-make-row : tie.Need-slice-aggregate-make-row
+slice-aggregate-make-row c = sym (first-part (c .before .before .args .scratch .now) (c .before .before .pre .0))
+
+make-row-requires : tie.Need-make-row-requires
+make-row-requires c κs =
+    let start = c .before .before in
+    (start .pre .1 .0, (start .pre .1 .1 .0, first-part (start .args .scratch .now) (start .pre .0)))
+
+sub-row-touches : tie.Need-sub-row-touches
+sub-row-touches c = search needs
+
+part-row-touches-start : tie.Need-part-row-touches-start
+part-row-touches-start c = search needs
+
+part-row-touches-end : tie.Need-part-row-touches-end
+part-row-touches-end c = search needs
+
+row-touches-requires : tie.Need-row-touches-requires
+row-touches-requires c κs = search needs
+
+same-length : tie.Need-same-length
+same-length c = search needs
+
+returns : tie.Need-returns
+returns c =
+    let start = c .before .before .before .before .before .before .before .before .before in
+    rw (← blocked-at (c .before), c .if1 .taken) (record { answer = refl; kept = kept-at (c .before .before .before .before .before .before) })
+
+sub-judge-reduct : tie.Need-sub-judge-reduct
+sub-judge-reduct c = search needs
+
+part-judge-reduct-start : tie.Need-part-judge-reduct-start
+part-judge-reduct-start c = search needs
+
+part-judge-reduct-end : tie.Need-part-judge-reduct-end
+part-judge-reduct-end c = search needs
+
+judge-reduct-requires : tie.Need-judge-reduct-requires
+judge-reduct-requires c κs =
+    let start = c .before .before .before .before .before .before .before .before .before .before in
+    (ap (take 2050) (kept-at (c .before .before .before .before .before .before .before)) ∙ start .pre .0 .marks, start .pre .1 .1 .1)
+
+same-length-2 : tie.Need-same-length-2
+same-length-2 c = search needs
+
+returns-2 : tie.Need-returns-2
+returns-2 c =
+    let judged = c .before .before in
+    let touched = judged .before .before .before in
+    let made = touched .before .before .before .before .before in
+    let start = made .before .before .before in
+    let mid = made .make-row .last .1 .1 .1 .0 ++ drop 5125 (start .args .scratch .now) in
+    let back = part-back mid (judged .judge-reduct .last .1 .1 .1 .1 .1 .0) 5125 2050 (judged .judge-reduct .ensures .wiped ∙ sym (ap (take 2050) (kept-at made) ∙ start .pre .0 .marks)) in
+    rw (← blocked-at touched, judged .before .before .if1 .left) (record { answer = judged .judge-reduct .ensures .answer; kept = ap (drop 5125) back ∙ kept-at made })
+
+pub reduce-on-spec : {M : Type 1} → statement M
+reduce-on-spec =
+    tie.close
+    (tie.spec
+    slice-relend-prefix-make-row
+    slice-aggregate-make-row
+    make-row-requires
+    sub-row-touches
+    part-row-touches-start
+    part-row-touches-end
+    row-touches-requires
+    same-length
+    returns
+    sub-judge-reduct
+    part-judge-reduct-start
+    part-judge-reduct-end
+    judge-reduct-requires
+    same-length-2
+    returns-2)

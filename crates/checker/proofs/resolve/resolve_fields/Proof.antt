@@ -1,0 +1,117 @@
+-- `resolve_fields` looks up the pivot's kind and lends the marks. Assumes nothing.
+use Prim.Native.Nat.{_+_}
+use mathlib.Core.Path.{_≡_, refl, ap, sym, _∙_}
+use lib.ListN.{getD, drop}
+use lib.IntN.{pos}
+use mir.Syntax.{w32}
+use mir.Val.{toZ, ofZ}
+use Rattle.formula.specs.Word.{wordOf}
+use Rattle.formula.specs.declared.literal.VariableFit.the-variants.{Within}
+use borrow.Author.Needs.{needs}
+use Rattle.checker.specs.Kinds.{existentialOf}
+use Rattle.checker.specs.Kinds.Laws.{existential-bound}
+use Rattle.checker.specs.Stepping.{kindsIn}
+use Rattle.checker.specs.Stepping.Laws.{part-back}
+use Rattle.checker.proofs.Signed.{read-back}
+use Rattle.checker.proofs.resolve.resolve_fields.Statement.{statement}
+use Rattle.checker.proofs.resolve.resolve_fields.Tie as tie
+
+-- what the pivot's word was found to be
+fit-at : (c : tie.After-existential-of) → c .existential-of .result ≡ existentialOf (kindsIn (c .before .before .before .before .before .before .args .scratch .now)) (wordOf (getD (c .before .before .before .before .before .before .args .steps .now) (c .before .before .before .before .before .before .args .at + 3) (pos 0)))
+fit-at c =
+    let start = c .before .before .before .before .before .before in
+    let word = getD (start .args .steps .now) (start .args .at + 3) (pos 0) in
+    let e : toZ w32 (ofZ w32 word) ≡ word = read-back word (c .before .before .before .word .given) in
+    rw e at (c .existential-of .ensures)
+
+add-word : tie.Need-add-word
+add-word c = search needs
+
+mul-word : tie.Need-mul-word
+mul-word c = search needs
+
+shared-slice-copy-out-word : tie.Need-shared-slice-copy-out-word
+shared-slice-copy-out-word c = search needs
+
+sub-existential-of : tie.Need-sub-existential-of
+sub-existential-of c = search needs
+
+part-existential-of-start : tie.Need-part-existential-of-start
+part-existential-of-start c = search needs
+
+part-existential-of-end : tie.Need-part-existential-of-end
+part-existential-of-end c = search needs
+
+existential-of-requires : tie.Need-existential-of-requires
+existential-of-requires c κs = search needs
+
+enum-told : tie.Need-enum-told
+enum-told c = search needs
+
+enum-known-pivot : tie.Need-enum-known-pivot
+enum-known-pivot c = search needs
+
+add-resolve-numbered : tie.Need-add-resolve-numbered
+add-resolve-numbered c = search needs
+
+sub-resolve-numbered : tie.Need-sub-resolve-numbered
+sub-resolve-numbered c = search needs
+
+part-resolve-numbered-start : tie.Need-part-resolve-numbered-start
+part-resolve-numbered-start c = search needs
+
+part-resolve-numbered-end : tie.Need-part-resolve-numbered-end
+part-resolve-numbered-end c = search needs
+
+resolve-numbered-requires : tie.Need-resolve-numbered-requires
+resolve-numbered-requires c κs =
+    let start = c .before .before .before .before .before .before .before .before .before .before in
+    let fit = sym (c .before .before .pivot .given .1) ∙ fit-at (c .before .before .before .before) in
+    (start .pre .0 .marks, (existential-bound _ _ (c .before .before .pivot .given .0 .0) fit, start .pre .1 .1))
+
+same-length : tie.Need-same-length
+same-length c = search needs
+
+returns : tie.Need-returns
+returns c =
+    let fit = sym (c .enum-told .given .1) ∙ fit-at (c .before .before) in
+    rw (← fit) (record { answer = refl; kept = refl })
+
+same-length-2 : tie.Need-same-length-2
+same-length-2 c = search needs
+
+returns-2 : tie.Need-returns-2
+returns-2 c =
+    let called = c .before .before in
+    let found = called .before .before .before .before .before in
+    let start = found .before .before .before .before .before .before in
+    let fit : Within (called .before .before .before .pivot .given .0 .0) ≡ existentialOf (kindsIn (start .args .scratch .now)) (wordOf (getD (start .args .steps .now) (start .args .at + 3) (pos 0))) = sym (called .before .before .before .pivot .given .1) ∙ fit-at found in
+    let judged = called .resolve-numbered .ensures in
+    rw (← fit)
+    (record {
+      answer = judged .answer;
+      kept = ap (drop 5125) (part-back (start .args .scratch .now) (called .resolve-numbered .last .1 .1 .1 .1 .1 .1 .1 .1 .0) 5125 2050 (judged .wiped ∙ sym (start .pre .0 .marks)));
+    })
+
+pub resolve-fields-spec : {M : Type 1} → statement M
+resolve-fields-spec =
+    tie.close
+    (tie.spec
+    add-word
+    mul-word
+    shared-slice-copy-out-word
+    sub-existential-of
+    part-existential-of-start
+    part-existential-of-end
+    existential-of-requires
+    enum-told
+    enum-known-pivot
+    add-resolve-numbered
+    sub-resolve-numbered
+    part-resolve-numbered-start
+    part-resolve-numbered-end
+    resolve-numbered-requires
+    same-length
+    returns
+    same-length-2
+    returns-2)

@@ -1,0 +1,37 @@
+-- `clause_is_empty` looks at the first word. Assumes nothing.
+use mathlib.Core.Path.{_≡_, refl, ap, sym}
+use mathlib.Core.Bool.{Bool, true, false}
+use borrow.Author.Needs.{needs}
+use lib.ListN.{getD}
+use lib.IntN.{ℤ, pos}
+use Rattle.checker.specs.Words.{isZero}
+use Rattle.checker.specs.Words.Places.{clauseAt, clause-past, clause-zero, clause-literal}
+use Rattle.checker.specs.Running.{isEmpty}
+use Rattle.checker.proofs.Signed.{read-zero}
+use Rattle.checker.proofs.run.clause_is_empty.Statement.{statement}
+use Rattle.checker.proofs.run.clause_is_empty.Tie as tie
+
+mul-word : tie.Need-mul-word
+mul-word c = search needs
+
+shared-slice-copy-out-word : tie.Need-shared-slice-copy-out-word
+shared-slice-copy-out-word c = search needs
+
+is-zero-requires : tie.Need-is-zero-requires
+is-zero-requires c κs = search needs
+
+returns : tie.Need-returns
+returns c = go (c .is-zero .result) (read-zero word (c .before .word .given) (c .is-zero .ensures) refl)
+  where
+    word : ℤ
+    word = getD (c .before .before .before .args .words .now) (c .before .before .before .args .from) (pos 0)
+
+    go : (b : Bool) → isZero word ≡ b → b ≡ isEmpty (clauseAt (c .before .before .before .args .words .now) (c .before .before .before .args .from))
+    go true e = sym (ap isEmpty (clause-zero (c .before .before .before .args .words .now) (c .before .before .before .args .from) (c .before .before .if1 .taken) e))
+    go false e = sym (ap isEmpty (clause-literal (c .before .before .before .args .words .now) (c .before .before .before .args .from) (c .before .before .if1 .taken) e))
+
+returns-2 : tie.Need-returns-2
+returns-2 c = sym (ap isEmpty (clause-past (c .before .args .words .now) (c .before .args .from) (c .if1 .left)))
+
+pub clause-is-empty-spec : {M : Type 1} → statement M
+clause-is-empty-spec = tie.close (tie.spec mul-word shared-slice-copy-out-word is-zero-requires returns returns-2)

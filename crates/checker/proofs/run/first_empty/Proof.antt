@@ -1,0 +1,57 @@
+-- `first_empty`: the search from here on finds the same. Assumes nothing.
+use Prim.Native.Nat.{suc, _-_}
+use mathlib.Core.Path.{_≡_, refl, ap, sym, _∙_}
+use native.Mathlib.Numerals.{add-one}
+use native.Mathlib.Omega.{arith}
+use lib.ListN.{drop}
+use Rattle.checker.specs.Verdict.{firstEmpty}
+use Rattle.checker.specs.Numbered.{stored}
+use Rattle.checker.specs.Running.{foundOf}
+use Rattle.checker.specs.Running.Laws.{empty-found, empty-later, empty-none}
+use Rattle.checker.proofs.run.first_empty.Statement.{statement}
+use Rattle.checker.proofs.run.first_empty.Tie as tie
+
+abbrev Inv-loop : tie.InvT-loop
+Inv-loop clauses steps starts inputs known k₀ k =
+    firstEmpty 1 (stored inputs clauses steps starts known) ≡ firstEmpty (suc k) (drop k (stored inputs clauses steps starts known))
+
+abbrev μ-loop : tie.MeasureT-loop
+μ-loop clauses steps starts inputs known k₀ k = known - k
+
+loop-holds : tie.Need-loop-holds Inv-loop μ-loop
+loop-holds c = refl
+
+number-is-empty-requires : tie.Need-number-is-empty-requires Inv-loop μ-loop
+number-is-empty-requires c κs = omega (arith, c .loop-test .taken, c .before .before .before .pre)
+
+add-t9 : tie.Need-add-t9 Inv-loop μ-loop
+add-t9 c = let h = c .before .before .loop-test .taken in let f = c .before .before .before .before .before .fits .known .fits in omega arith
+
+returns : tie.Need-returns Inv-loop μ-loop
+returns c =
+    let at = c .before .before .before in
+    let start = at .before .before in
+    let e = empty-found (start .args .inputs) (start .args .clauses .now) (start .args .steps .now) (start .args .starts .now) (start .args .known) (at .loop .k) (c .before .before .loop-test .taken) (sym (c .before .number-is-empty .ensures) ∙ c .if1 .taken) in
+    rw (add-one (at .loop .k)) (ap foundOf (sym (at .loop .inv ∙ e)))
+
+add-k : tie.Need-add-k Inv-loop μ-loop
+add-k c = let h = c .before .before .loop-test .taken in let f = c .before .before .before .before .before .fits .known .fits in omega arith
+
+loop-less : tie.Need-loop-less Inv-loop μ-loop
+loop-less c = let h = c .before .before .loop-test .taken in omega arith
+
+loop-again : tie.Need-loop-again Inv-loop μ-loop
+loop-again c =
+    let at = c .before .before .before in
+    let start = at .before .before in
+    rw (add-one (at .loop .k)) (at .loop .inv ∙ empty-later (start .args .inputs) (start .args .clauses .now) (start .args .steps .now) (start .args .starts .now) (start .args .known) (at .loop .k) (c .before .before .loop-test .taken) (sym (c .before .number-is-empty .ensures) ∙ c .if1 .left))
+
+returns-2 : tie.Need-returns-2 Inv-loop μ-loop
+returns-2 c =
+    let at = c .before in
+    let start = at .before .before in
+    ap foundOf (sym (at .loop .inv ∙ empty-none (start .args .inputs) (start .args .clauses .now) (start .args .steps .now) (start .args .starts .now) (start .args .known) (at .loop .k) (c .loop-test .left)))
+
+pub first-empty-spec : {M : Type 1} → statement M
+first-empty-spec =
+    tie.close (tie.spec Inv-loop μ-loop loop-holds number-is-empty-requires add-t9 returns add-k loop-less loop-again returns-2)

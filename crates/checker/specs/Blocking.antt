@@ -1,0 +1,14 @@
+-- A row against a clause, as the code looks it up. That this is `blocked` is in Blocking/Laws.antt.
+pub mod Laws
+use Prim.Native.Nat.{ℕ}
+use mathlib.Core.Bool.{Bool, false, _||_}
+use mathlib.Core.List.{List, [], _∷_}
+use lib.ListN.{getD}
+use lib.Dec.{eqb}
+use lib.IntN.{natAbs}
+use Rattle.checker.specs.Words.{Words}
+
+-- The byte of some word's variable is 1.
+unfoldable pub touches : List ℕ → Words → Bool
+touches row [] = false
+touches row (x ∷ C) = eqb (getD row (natAbs x) 0) 1 || touches row C

@@ -1,0 +1,171 @@
+-- Numbered clauses and derivations (01, "Steps"; wish 3): a clause of words with a valid derivation whose conclusion is its
+-- literals. Lawful steps keep this, so every numbered clause has one, and an empty clause makes the game lost.
+use mathlib.Core.Path.{_≡_, ap, sym, _∙_, subst}
+use mathlib.Core.Logic.{_⊎_, inl, inr, _≢_}
+use mathlib.Core.Bool.{Bool, true, false}
+use mathlib.Core.List.{List, [], _∷_, _++_, List·Memᴰ, List·Memᴰ·not-nil, List·Memᴰ·append-cases, List·Memᴰ·eq-of-singleton, Memᴰ·cast}
+use lib.IntN.{ℤ, pos, negℤ, negℤ-negℤ, natAbs}
+use Rattle.qbf.specs.Literal.{Literal, literal, neg}
+use Rattle.qbf.specs.Formula.{Formula, Existential, Universal, RightOf, Proper}
+use Rattle.qbf.specs.Dependency.{Depends}
+use Rattle.qbf.specs.Derivation.{Derivation, resolve, reduce, Concludes, Valid}
+use Rattle.qbf.specs.Play.{Lost}
+use Rattle.qbf.specs.Soundness.{soundness}
+use Rattle.formula.specs.Decode.{literalOf}
+use Rattle.formula.specs.Decode.Laws.{magnitude-same, literal-variable, literal-negated, literal-injective}
+use Rattle.checker.specs.Words.{Words}
+use Rattle.checker.specs.Steps.{Step, resolution, reduction, statedBy}
+use Rattle.checker.specs.Lawful.{Resolvent, LawfulResolution, LawfulReduction, Lawful, Written, finished, step}
+use Rattle.checker.specs.Lawful.Deciding.{numbered-member}
+
+-- A valid derivation whose conclusion is the clause's literals; the clause holds no 0 and no literal with its opposite.
+pub record Derived (F : Formula) (C : Words) : Type 0 where
+  pub derivation : Derivation
+  pub valid : Valid F derivation
+  pub concluded : (x : ℤ) → List·Memᴰ x C → Concludes derivation (literalOf x)
+  pub conclusion : (l : Literal) → Concludes derivation l → (x : ℤ) × List·Memᴰ x C × (literalOf x ≡ l)
+  pub nonzero : (x : ℤ) → List·Memᴰ x C → x ≢ pos 0
+  pub one-sign : (x : ℤ) → List·Memᴰ x C → List·Memᴰ (negℤ x) C → ⊥
+
+abbrev pub AllDerived : Formula → List Words → Type 0
+AllDerived F known = (C : Words) → List·Memᴰ C known → Derived F C
+
+-- The premises of a resolution by the pivot's sign.
+abbrev premise : Derivation → Derivation → Bool → Derivation
+premise s t true = s
+premise s t false = t
+
+opposite-injective : (x y : ℤ) → negℤ x ≡ negℤ y → x ≡ y
+opposite-injective x y e = sym (negℤ-negℤ x) ∙ ap negℤ e ∙ negℤ-negℤ y
+
+module _ (F : Formula) (known : List Words) (all : AllDerived F known) where
+  resolution-derived : (i j e : ℤ) (L : Words) → LawfulResolution F known i j e L → Derived F L
+  resolution-derived i j e L l =
+      record {
+        derivation = resolve (premise s t) (l .variable);
+        valid = (both-valid, l .existential, pivots, apart);
+        concluded = λ x m. concluded x (l .states .only x m);
+        conclusion = conclusion;
+        nonzero = λ x m. nonzero x (l .states .only x m);
+        one-sign = λ x m k. l .one-sign x (l .states .only x m) (l .states .only (negℤ x) k);
+      }
+    where
+      left : Derived F (l .left)
+      left = all (l .left) (numbered-member known i (l .left) (l .left-numbered))
+
+      right : Derived F (l .right)
+      right = all (l .right) (numbered-member known j (l .right) (l .right-numbered))
+
+      s : Derivation
+      s = left .derivation
+
+      t : Derivation
+      t = right .derivation
+
+      -- the pivot's literals as words
+      positive : literalOf e ≡ literal (l .variable) true
+      positive = ap literalOf (l .positive)
+
+      negative : literalOf (negℤ e) ≡ literal (l .variable) false
+      negative = literal-negated e (left .nonzero e (l .in-left)) ∙ ap neg positive
+
+      both-valid : (b : Bool) → Valid F (premise s t b)
+      both-valid true = left .valid
+      both-valid false = right .valid
+
+      pivots : (b : Bool) → Concludes (premise s t b) (literal (l .variable) b)
+      pivots true = subst (Concludes s) positive (left .concluded e (l .in-left))
+      pivots false = subst (Concludes t) negative (right .concluded (negℤ e) (l .in-right))
+
+      apart-words :
+          (m : Literal) → m ≢ literal (l .variable) true
+          → (x : ℤ) × List·Memᴰ x (l .left) × (literalOf x ≡ m)
+          → (y : ℤ) × List·Memᴰ y (l .right) × (literalOf y ≡ neg m)
+          → ⊥
+      apart-words m n x y =
+          let z : x .0 ≢ pos 0 = left .nonzero (x .0) (x .1) in
+          let differs : x .0 ≢ e = λ q. n (sym (x .2) ∙ ap literalOf q ∙ positive) in
+          let opposite : y .0 ≡ negℤ (x .0) =
+          literal-injective (y .0) (negℤ (x .0)) (y .2 ∙ ap neg (sym (x .2)) ∙ sym (literal-negated (x .0) z)) in
+          l .one-sign (x .0)
+          (inl (x .1, differs))
+          (inr (Memᴰ·cast (sym opposite) (y .1), λ q. differs (opposite-injective (x .0) e q)))
+
+      apart :
+          (m : Literal) → Concludes s m → m ≢ literal (l .variable) true → Concludes t (neg m)
+          → Universal (F .prefix) (m .variable) × RightOf (F .prefix) (l .variable) (m .variable)
+      apart m c n d = absurd (apart-words m n (left .conclusion m c) (right .conclusion (neg m) d))
+
+      concluded : (x : ℤ) → Resolvent (l .left) (l .right) e x → Concludes (resolve (premise s t) (l .variable)) (literalOf x)
+      concluded x (inl r) = (true, left .concluded x (r .0), λ q. r .1 (literal-injective x e (q ∙ sym positive)))
+      concluded x (inr r) = (false, right .concluded x (r .0), λ q. r .1 (literal-injective x (negℤ e) (q ∙ sym negative)))
+
+      conclusion : (m : Literal) → Concludes (resolve (premise s t) (l .variable)) m → (x : ℤ) × List·Memᴰ x L × (literalOf x ≡ m)
+      conclusion m c = go (c .0) (c .1) (c .2)
+        where
+          go : (b : Bool) → Concludes (premise s t b) m → m ≢ literal (l .variable) b → (x : ℤ) × List·Memᴰ x L × (literalOf x ≡ m)
+          go true d n =
+              let x = left .conclusion m d in
+              (x .0, l .states .all (x .0) (inl (x .1, λ q. n (sym (x .2) ∙ ap literalOf q ∙ positive))), x .2)
+          go false d n =
+              let x = right .conclusion m d in
+              (x .0, l .states .all (x .0) (inr (x .1, λ q. n (sym (x .2) ∙ ap literalOf q ∙ negative))), x .2)
+
+      nonzero : (x : ℤ) → Resolvent (l .left) (l .right) e x → x ≢ pos 0
+      nonzero x (inl r) = left .nonzero x (r .0)
+      nonzero x (inr r) = right .nonzero x (r .0)
+
+  reduction-derived : (i a : ℤ) (L : Words) → LawfulReduction F known i a L → Derived F L
+  reduction-derived i a L l =
+      record {
+        derivation = reduce (premises .derivation) (natAbs a);
+        valid = (premises .valid, l .universal, independent);
+        concluded = λ x m. let r = l .states .only x m in (premises .concluded x (r .0), λ q. other-sign x (r .0) (r .1) (sym (literal-variable x) ∙ q));
+        conclusion = λ m c. conclusion m (premises .conclusion m (c .0)) (c .1);
+        nonzero = λ x m. premises .nonzero x (l .states .only x m .0);
+        one-sign = λ x m k. premises .one-sign x (l .states .only x m .0) (l .states .only (negℤ x) k .0);
+      }
+    where
+      premises : Derived F (l .clause)
+      premises = all (l .clause) (numbered-member known i (l .clause) (l .numbered))
+
+      -- the clause holds one sign of the reduced variable
+      other-sign : (x : ℤ) → List·Memᴰ x (l .clause) → x ≢ a → natAbs x ≡ natAbs a → ⊥
+      other-sign x m n e = go (magnitude-same x a e)
+        where
+          go : (x ≡ a) ⊎ (x ≡ negℤ a) → ⊥
+          go (inl q) = n q
+          go (inr q) = premises .one-sign a (l .in-clause) (Memᴰ·cast (sym q) m)
+
+      independent :
+          (m : Literal) → Concludes (premises .derivation) m → Existential (F .prefix) (m .variable) → Depends F (natAbs a) (m .variable) → ⊥
+      independent m c q d =
+          let x = premises .conclusion m c in
+          let v : natAbs (x .0) ≡ m .variable = sym (literal-variable (x .0)) ∙ ap (λ (k : Literal). k .variable) (x .2) in
+          l .independent (x .0) (x .1) (subst (Existential (F .prefix)) (sym v) q) (subst (Depends F (natAbs a)) (sym v) d)
+
+      conclusion : (m : Literal) → (x : ℤ) × List·Memᴰ x (l .clause) × (literalOf x ≡ m) → m .variable ≢ natAbs a → (x : ℤ) × List·Memᴰ x L × (literalOf x ≡ m)
+      conclusion m x n =
+          (x .0, l .states .all (x .0) (x .1, λ q. n (sym (ap (λ (k : Literal). k .variable) (x .2)) ∙ literal-variable (x .0) ∙ ap natAbs q)), x .2)
+
+  -- A lawful step states a derived clause.
+  pub lawful-derived : (s : Step) → Lawful F known s → Derived F (statedBy s)
+  lawful-derived (resolution i j e L) l = resolution-derived i j e L l
+  lawful-derived (reduction i a L) l = reduction-derived i a L l
+
+  pub derived-snoc : (L : Words) → Derived F L → AllDerived F (known ++ (L ∷ []))
+  derived-snoc L d C m = go (List·Memᴰ·append-cases known m)
+    where
+      go : List·Memᴰ C known ⊎ List·Memᴰ C (L ∷ []) → Derived F C
+      go (inl i) = all C i
+      go (inr i) = subst (Derived F) (sym (List·Memᴰ·eq-of-singleton i)) d
+
+-- After lawful steps every numbered clause is derived.
+pub written-derived : {F : Formula} {final known : List Words} {ws : Words} → Written F final known ws → AllDerived F known → AllDerived F final
+written-derived {F} {final} {known} (finished e q) all = rw (← q) all
+written-derived {F} {final} {known} (step s rest e l w) all =
+    written-derived w (derived-snoc F known all (statedBy s) (lawful-derived F known all s l))
+
+-- A derived empty clause: the game is lost.
+pub derived-lost : (F : Formula) → Proper F → Derived F [] → Lost F
+derived-lost F proper d = soundness F proper (d .derivation) (d .valid) (λ l c. let x = d .conclusion l c in List·Memᴰ·not-nil (x .1))

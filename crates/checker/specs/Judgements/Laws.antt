@@ -1,0 +1,65 @@
+-- Marking, ticking and wiping a result, and what is decided from it, is the judgement of the result. Assumes nothing.
+use Prim.Native.Nat.{ℕ}
+use mathlib.Core.Path.{_≡_, ap, ap₂, sym, _∙_}
+use mathlib.Core.Logic.{_⊎_, inl, inr}
+use mathlib.Core.Bool.{Bool, false, not, _&&_, _||_}
+use mathlib.Core.List.{List, [], List·Memᴰ, List·Memᴰ·append-cases}
+use lib.IntN.{ℤ, negℤ}
+use Rattle.checker.specs.declared.result.Judgement.{Judgement}
+use Rattle.checker.specs.Words.{Words, without}
+use Rattle.checker.specs.Words.Laws.{without-member}
+use Rattle.checker.specs.Steps.{resolvent, opposed, states, judgeStatement}
+use Rattle.checker.specs.Marks.{markAll, tickAll, wipeAll, meets, ticks, leaves, Marked, Ticked, Wiped}
+use Rattle.checker.specs.Marks.Laws.{mark-append, meets-append, wipe-append, leaves-append}
+use Rattle.checker.specs.Marks.Judging.{InRange, AllInRange, clean, clean-meets, clean-states, clean-wiped}
+use Rattle.checker.specs.Judgements.{resultReason, decided, JudgedClean}
+
+module _ (e : ℤ) (C D : Words) (m m₁ m₂ : List ℕ) (first second : Bool) where
+  pub both-marked : Marked m (without e C) first m₁ → Marked m₁ (without (negℤ e) D) second m₂ → Marked m (resolvent e C D) (first || second) m₂
+  both-marked h k =
+      record {
+        told = rw (h .told, k .told, h .left) (sym (meets-append m (without e C) (without (negℤ e) D)));
+        left = rw (k .left, h .left) (sym (mark-append m (without e C) (without (negℤ e) D)));
+      }
+
+  pub both-wiped : Wiped m (without e C) first m₁ → Wiped m₁ (without (negℤ e) D) second m₂ → Wiped m (resolvent e C D) (first || second) m₂
+  both-wiped h k =
+      record {
+        told = rw (h .told, k .told, h .left) (sym (leaves-append m (without e C) (without (negℤ e) D)));
+        left = rw (k .left, h .left) (sym (wipe-append m (without e C) (without (negℤ e) D)));
+      }
+
+pub without-in-range : (e : ℤ) (C : Words) → AllInRange C → AllInRange (without e C)
+without-in-range e C h x m = h x (without-member x e C m .0)
+
+pub resolvent-in-range : (e : ℤ) (C D : Words) → AllInRange C → AllInRange D → AllInRange (resolvent e C D)
+resolvent-in-range e C D h k x m = go (List·Memᴰ·append-cases (without e C) m)
+  where
+    go : List·Memᴰ x (without e C) ⊎ List·Memᴰ x (without (negℤ e) D) → InRange x
+    go (inl i) = without-in-range e C h x i
+    go (inr i) = without-in-range (negℤ e) D k x i
+
+module _ (R L : Words) (range : AllInRange R) (met ticked left : Bool) (m m₁ m₂ m₃ : List ℕ) (start : m ≡ clean)
+    (h : Marked m R met m₁) (k : Ticked m₁ L ticked m₂) (l : Wiped m₂ R left m₃) where
+  met-is : met ≡ opposed [] R
+  met-is = h .told ∙ ap (λ (n : List ℕ). meets n R) start ∙ clean-meets R L range
+
+  marked-is : m₁ ≡ markAll clean R
+  marked-is = h .left ∙ ap (λ (n : List ℕ). markAll n R) start
+
+  ticked-is : m₂ ≡ tickAll (markAll clean R) L
+  ticked-is = k .left ∙ ap (λ (n : List ℕ). tickAll n L) marked-is
+
+  wiped-is : m₃ ≡ clean
+  wiped-is = l .left ∙ ap (λ (n : List ℕ). wipeAll n R) ticked-is ∙ clean-wiped R L range
+
+  states-is : (ticked && not left) ≡ states R L
+  states-is =
+      ap₂ (λ (a b : Bool). a && not b) (k .told ∙ ap (λ (n : List ℕ). ticks n L) marked-is) (l .told ∙ ap (λ (n : List ℕ). leaves n R) ticked-is)
+      ∙ clean-states R L range
+
+  pub judged-result : (r : Judgement) → r ≡ decided met ticked left → JudgedClean (resultReason R L) r m₃
+  judged-result r e = record { answer = e ∙ rw (met-is, states-is); wiped = wiped-is }
+
+  pub judged-statement : (r : Judgement) → r ≡ decided false ticked left → JudgedClean (judgeStatement R L) r m₃
+  judged-statement r e = record { answer = e ∙ rw states-is; wiped = wiped-is }

@@ -1,0 +1,81 @@
+-- Lawful steps (01, "Steps"; 000, section 3) on membership and on dependence, with no order of tests: a true statement of a
+-- result, a resolution, a reduction, and words that are lawful steps one after the other. Steps.antt has the tests.
+pub mod Deciding
+pub mod Running
+use Prim.Native.Nat.{ℕ, suc}
+use mathlib.Core.Path.{_≡_}
+use mathlib.Core.Logic.{_⊎_, _≢_}
+use mathlib.Core.List.{List, [], _∷_, _++_, List·Memᴰ}
+use mathlib.Core.Option.{some}
+use lib.ListN.{getElem?}
+use lib.IntN.{ℤ, pos, negℤ, natAbs}
+use Rattle.qbf.specs.Formula.{Formula, Existential, Universal}
+use Rattle.qbf.specs.Dependency.{Depends}
+use Rattle.checker.specs.Words.{Words}
+use Rattle.checker.specs.Steps.{Step, resolution, reduction, statedBy}
+
+-- No literal stands twice.
+abbrev pub Once : Words → Type 0
+Once [] = Unit {0}
+Once (x ∷ L) = (List·Memᴰ x L → ⊥) × Once L
+
+-- L states the result, in any order, no literal twice.
+pub record States (result : ℤ → Type 0) (L : Words) : Type 0 where
+  pub all : (x : ℤ) → result x → List·Memᴰ x L
+  pub only : (x : ℤ) → List·Memᴰ x L → result x
+  pub once : Once L
+
+-- The word i is the number of the clause C, from 1 to the last numbered one.
+pub record Numbered (known : List Words) (i : ℤ) (C : Words) : Type 0 where
+  pub place : ℕ
+  pub is : i ≡ pos (suc place)
+  pub stands : getElem? known place ≡ some C
+
+-- C without e joined with D without −e; C without a.
+abbrev pub Resolvent : Words → Words → ℤ → ℤ → Type 0
+Resolvent C D e x = (List·Memᴰ x C × (x ≢ e)) ⊎ (List·Memᴰ x D × (x ≢ negℤ e))
+
+abbrev pub Reduct : Words → ℤ → ℤ → Type 0
+Reduct C a x = List·Memᴰ x C × (x ≢ a)
+
+-- e is a positive existential variable, clause i holds e, clause j holds −e; the result does not hold both signs.
+pub record LawfulResolution (F : Formula) (known : List Words) (i j e : ℤ) (L : Words) : Type 0 where
+  pub left : Words
+  pub right : Words
+  pub left-numbered : Numbered known i left
+  pub right-numbered : Numbered known j right
+  pub variable : ℕ
+  pub positive : e ≡ pos variable
+  pub existential : Existential (F .prefix) variable
+  pub in-left : List·Memᴰ e left
+  pub in-right : List·Memᴰ (negℤ e) right
+  pub one-sign : (x : ℤ) → Resolvent left right e x → Resolvent left right e (negℤ x) → ⊥
+  pub states : States (Resolvent left right e) L
+
+-- a is a universal literal of clause i, and no existential of clause i depends on its variable.
+pub record LawfulReduction (F : Formula) (known : List Words) (i a : ℤ) (L : Words) : Type 0 where
+  pub clause : Words
+  pub numbered : Numbered known i clause
+  pub universal : Universal (F .prefix) (natAbs a)
+  pub in-clause : List·Memᴰ a clause
+  pub independent : (x : ℤ) → List·Memᴰ x clause → Existential (F .prefix) (natAbs x) → Depends F (natAbs a) (natAbs x) → ⊥
+  pub states : States (Reduct clause a) L
+
+abbrev pub Lawful : Formula → List Words → Step → Type 0
+Lawful F known (resolution i j e L) = LawfulResolution F known i j e L
+Lawful F known (reduction i a L) = LawfulReduction F known i a L
+
+-- The words of a step.
+abbrev pub wordsOf : Step → Words
+wordsOf (resolution i j e L) = pos 1 ∷ i ∷ j ∷ e ∷ (L ++ pos 0 ∷ [])
+wordsOf (reduction i a L) = pos 2 ∷ i ∷ a ∷ (L ++ pos 0 ∷ [])
+
+-- After the numbered clauses `known` the words are lawful steps, one after the other; the numbered clauses are then `final`.
+pub data Written (F : Formula) (final : List Words) : List Words → Words → Type 0 where
+  finished : {known : List Words} {ws : Words} → ws ≡ [] → known ≡ final → Written F final known ws
+  step :
+      {known : List Words} {ws : Words} (s : Step) (rest : Words)
+      → ws ≡ wordsOf s ++ rest
+      → Lawful F known s
+      → Written F final (known ++ (statedBy s ∷ [])) rest
+      → Written F final known ws

@@ -1,0 +1,266 @@
+-- The tests of a step against the law: where the three tests of a scope decide what they ask of a formula, a step is judged
+-- right exactly when it is lawful, and blocked only where an existential of the clause depends. Assumes nothing.
+use Prim.Native.Nat.{ℕ, zero, suc}
+use mathlib.Core.Path.{_≡_, refl, sym, _∙_}
+use mathlib.Core.Logic.{_⊎_, inl, inr, _≢_}
+use mathlib.Core.Bool.{Bool, true, false, not, _&&_, false≢true}
+use mathlib.Core.Option.{Option, none, some}
+use mathlib.Core.List.{List, [], _∷_, List·Memᴰ, List·Memᴰ·head, List·Memᴰ·tail, List·Memᴰ·not-nil}
+use native.Mathlib.Omega.{arith}
+use borrow.Author.Tests.{not-true}
+use lib.ListN.{getElem?}
+use lib.IntN.{ℤ, pos, negsuc, negℤ, natAbs}
+use Rattle.qbf.specs.Connectives.{and-both, both-and}
+use Rattle.qbf.specs.Formula.{Formula, Existential, Universal}
+use Rattle.qbf.specs.Dependency.{Depends}
+use Rattle.formula.specs.declared.refusal.Reason.{Reason}
+use Rattle.formula.specs.declared.refusal.Reason.the-variants.{NotEarlier, WrongPivot, Tautology, Blocked, Misstated}
+use Rattle.checker.specs.Words.{Words, holds, without}
+use Rattle.checker.specs.Words.Laws.{not-true-false, holds-sound, holds-complete, without-member, member-without}
+use Rattle.checker.specs.Steps.{Scope, Step, resolution, reduction, antecedent, resolvent, opposed, states, positiveExistential, blocked, unless, judgeStatement, judgeResolution, judgeReduction, judge}
+use Rattle.checker.specs.Steps.Tests.{opposed-found, unopposed, states-sound, states-complete, in-resolvent, resolvent-in, blocked-found, unblocked}
+use Rattle.checker.specs.Lawful.{Numbered, Resolvent, Reduct, LawfulResolution, LawfulReduction, Lawful}
+
+-- The tests of a scope decide what they ask of a formula.
+pub record Decides (S : Scope) (F : Formula) : Type 0 where
+  pub existential-sound : (v : ℕ) → S .existential v ≡ true → Existential (F .prefix) v
+  pub existential-complete : (v : ℕ) → Existential (F .prefix) v → S .existential v ≡ true
+  pub universal-sound : (v : ℕ) → S .universal v ≡ true → Universal (F .prefix) v
+  pub universal-complete : (v : ℕ) → Universal (F .prefix) v → S .universal v ≡ true
+  pub dependent-sound : (u e : ℕ) → S .dependent u e ≡ true → Existential (F .prefix) e × Depends F u e
+  pub dependent-complete : (u e : ℕ) → Depends F u e → S .dependent u e ≡ true
+
+-- No clause holds the word 0.
+abbrev pub NoZeros : List Words → Type 0
+NoZeros known = (C : Words) → List·Memᴰ C known → (x : ℤ) → List·Memᴰ x C → x ≢ pos 0
+
+-- A clause found by its place is one of them.
+pub found-member : (known : List Words) (n : ℕ) (C : Words) → getElem? known n ≡ some C → List·Memᴰ C known
+found-member [] n C e = let z : _≡_ {A = ℕ} 0 1 = cc in absurd (omega arith)
+found-member (D ∷ known) zero C e = List·Memᴰ·head (sym (same D C e))
+  where
+    same : (D C : Words) → _≡_ {A = Option Words} (some D) (some C) → D ≡ C
+    same D C q = cc
+found-member (D ∷ known) (suc n) C e = List·Memᴰ·tail (found-member known n C e)
+
+pub numbered-member : (known : List Words) (i : ℤ) (C : Words) → Numbered known i C → List·Memᴰ C known
+numbered-member known i C n = found-member known (n .place) C (n .stands)
+
+pub antecedent-numbered : (known : List Words) (i : ℤ) (C : Words) → antecedent known i ≡ some C → Numbered known i C
+antecedent-numbered known (pos zero) C e = let z : _≡_ {A = ℕ} 0 1 = cc in absurd (omega arith)
+antecedent-numbered known (pos (suc n)) C e = record { place = n; is = refl; stands = e }
+antecedent-numbered known (negsuc n) C e = let z : _≡_ {A = ℕ} 0 1 = cc in absurd (omega arith)
+
+pub numbered-antecedent : (known : List Words) (i : ℤ) (C : Words) → Numbered known i C → antecedent known i ≡ some C
+numbered-antecedent known i C n = rw (n .is) (n .stands)
+
+-- A test that must pass.
+unless-none : (b : Bool) (r : Reason) (o : Option Reason) → unless b r o ≡ none → (b ≡ true) × (o ≡ none)
+unless-none true r o e = (refl, e)
+unless-none false r o e = let z : _≡_ {A = ℕ} 0 1 = cc in absurd (omega arith)
+
+no-reason : {r : Reason} {A : Type 0} → _≡_ {A = Option Reason} (some r) none → A
+no-reason e = let z : _≡_ {A = ℕ} 0 1 = cc in absurd (omega arith)
+
+none-blocked : {A : Type 0} → _≡_ {A = Option Reason} none (some Blocked) → A
+none-blocked e = let z : _≡_ {A = ℕ} 0 1 = cc in absurd (omega arith)
+
+misstated-blocked : {A : Type 0} → _≡_ {A = Option Reason} (some Misstated) (some Blocked) → A
+misstated-blocked e = let z : _≡_ {A = ℕ} 0 1 = cc in absurd (omega arith)
+
+pivot-blocked : {A : Type 0} → _≡_ {A = Option Reason} (some WrongPivot) (some Blocked) → A
+pivot-blocked e = let z : _≡_ {A = ℕ} 0 1 = cc in absurd (omega arith)
+
+earlier-blocked : {A : Type 0} → _≡_ {A = Option Reason} (some NotEarlier) (some Blocked) → A
+earlier-blocked e = let z : _≡_ {A = ℕ} 0 1 = cc in absurd (omega arith)
+
+tautology-blocked : {A : Type 0} → _≡_ {A = Option Reason} (some Tautology) (some Blocked) → A
+tautology-blocked e = let z : _≡_ {A = ℕ} 0 1 = cc in absurd (omega arith)
+
+statement-blocked : (R L : Words) → judgeStatement R L ≡ some Blocked → ⊥
+statement-blocked R L h = go (states R L) h
+  where
+    go : (b : Bool) → unless b Misstated none ≡ some Blocked → ⊥
+    go true e = none-blocked e
+    go false e = misstated-blocked e
+
+-- Where a reduction is blocked: a is a universal literal of the clause, and an existential of the clause depends on its variable.
+pub record Blocks (F : Formula) (known : List Words) (i a : ℤ) : Type 0 where
+  pub clause : Words
+  pub numbered : Numbered known i clause
+  pub universal : Universal (F .prefix) (natAbs a)
+  pub reduced : List·Memᴰ a clause
+  pub literal : ℤ
+  pub in-clause : List·Memᴰ literal clause
+  pub existential : Existential (F .prefix) (natAbs literal)
+  pub depends : Depends F (natAbs a) (natAbs literal)
+
+abbrev pub BlockedStep : Formula → List Words → Step → Type 0
+BlockedStep F known (resolution i j e L) = ⊥
+BlockedStep F known (reduction i a L) = Blocks F known i a
+
+module _ (S : Scope) (F : Formula) (D : Decides S F) where
+  pivot-sound : (e : ℤ) → positiveExistential S e ≡ true → (v : ℕ) × (e ≡ pos v) × Existential (F .prefix) v
+  pivot-sound (pos v) h = (v, refl, D .existential-sound v h)
+  pivot-sound (negsuc n) h = absurd (false≢true h)
+
+  module _ (known : List Words) (nonzero : NoZeros known) where
+    resolution-sound :
+        (i j e : ℤ) (L : Words) (C E : Words) → Numbered known i C → Numbered known j E
+        → judgeResolution S e L (some C) (some E) ≡ none
+        → LawfulResolution F known i j e L
+    unfolding judgeResolution
+    resolution-sound i j e L C E n m h =
+        let pivots = unless-none (positiveExistential S e && holds e C && holds (negℤ e) E) WrongPivot _ h in
+        let both = and-both (positiveExistential S e && holds e C) (holds (negℤ e) E) (pivots .0) in
+        let first = and-both (positiveExistential S e) (holds e C) (both .0) in
+        let v = pivot-sound e (first .0) in
+        let signs = unless-none (not (opposed [] (resolvent e C E))) Tautology _ (pivots .1) in
+        let stated = unless-none (states (resolvent e C E) L) Misstated none (signs .1) in
+        record {
+          left = C;
+          right = E;
+          left-numbered = n;
+          right-numbered = m;
+          variable = v .0;
+          positive = v .1;
+          existential = v .2;
+          in-left = holds-sound e C (first .1);
+          in-right = holds-sound (negℤ e) E (both .1);
+          one-sign = λ x r s. unopposed [] (resolvent e C E) (not-true (opposed [] (resolvent e C E)) (signs .0)) x (λ z. result-nonzero x r z) (resolvent-in e C E x r) (inr (resolvent-in e C E (negℤ x) s));
+          states = states-sound (resolvent e C E) (Resolvent C E e) (resolvent-in e C E) (in-resolvent e C E) L (stated .0);
+        }
+      where
+        result-nonzero : (x : ℤ) → Resolvent C E e x → x ≢ pos 0
+        result-nonzero x (inl r) = nonzero C (numbered-member known i C n) x (r .0)
+        result-nonzero x (inr r) = nonzero E (numbered-member known j E m) x (r .0)
+
+    reduction-sound :
+        (i a : ℤ) (L : Words) (C : Words) → Numbered known i C
+        → judgeReduction S a L (some C) ≡ none
+        → LawfulReduction F known i a L
+    unfolding judgeReduction
+    reduction-sound i a L C n h =
+        let pivots = unless-none (S .universal (natAbs a) && holds a C) WrongPivot _ h in
+        let both = and-both (S .universal (natAbs a)) (holds a C) (pivots .0) in
+        let free = unless-none (not (blocked S (natAbs a) C)) Blocked _ (pivots .1) in
+        let stated = unless-none (states (without a C) L) Misstated none (free .1) in
+        record {
+          clause = C;
+          numbered = n;
+          universal = D .universal-sound (natAbs a) (both .0);
+          in-clause = holds-sound a C (both .1);
+          independent = λ x m q d. false≢true (sym (unblocked S (natAbs a) C (not-true (blocked S (natAbs a) C) (free .0)) x m) ∙ D .dependent-complete (natAbs a) (natAbs x) d);
+          states = states-sound (without a C) (Reduct C a) (λ x r. member-without x a C (r .0) (r .1)) (λ x m. without-member x a C m) L (stated .0);
+        }
+
+    -- A right step is lawful.
+    pub judge-lawful : (s : Step) → judge S known s ≡ none → Lawful F known s
+    unfolding judgeResolution judgeReduction
+    judge-lawful (resolution i j e L) h = go (antecedent known i) (antecedent known j) refl refl h
+      where
+        go :
+            (A B : Option Words) → antecedent known i ≡ A → antecedent known j ≡ B
+            → judgeResolution S e L A B ≡ none
+            → LawfulResolution F known i j e L
+        go none B p q k = no-reason k
+        go (some C) none p q k = no-reason k
+        go (some C) (some E) p q k = resolution-sound i j e L C E (antecedent-numbered known i C p) (antecedent-numbered known j E q) k
+    judge-lawful (reduction i a L) h = go (antecedent known i) refl h
+      where
+        go : (A : Option Words) → antecedent known i ≡ A → judgeReduction S a L A ≡ none → LawfulReduction F known i a L
+        go none p k = no-reason k
+        go (some C) p k = reduction-sound i a L C (antecedent-numbered known i C p) k
+
+    -- A lawful step is right.
+    pub lawful-judge : (s : Step) → Lawful F known s → judge S known s ≡ none
+    unfolding judgeResolution judgeReduction
+    lawful-judge (resolution i j e L) l =
+        rw (numbered-antecedent known i (l .left) (l .left-numbered), numbered-antecedent known j (l .right) (l .right-numbered), pivot, signs, stated)
+      where
+        pivot : (positiveExistential S e && holds e (l .left) && holds (negℤ e) (l .right)) ≡ true
+        pivot =
+            both-and
+            (positiveExistential S e && holds e (l .left))
+            (holds (negℤ e) (l .right))
+            (both-and (positiveExistential S e) (holds e (l .left)) (rw (l .positive) (D .existential-complete (l .variable) (l .existential))) (holds-complete e (l .left) (l .in-left)))
+            (holds-complete (negℤ e) (l .right) (l .in-right))
+
+        apart : (x : ℤ) → List·Memᴰ x (resolvent e (l .left) (l .right)) → List·Memᴰ (negℤ x) [] ⊎ List·Memᴰ (negℤ x) (resolvent e (l .left) (l .right)) → ⊥
+        apart x m (inl k) = List·Memᴰ·not-nil k
+        apart x m (inr k) = l .one-sign x (in-resolvent e (l .left) (l .right) x m) (in-resolvent e (l .left) (l .right) (negℤ x) k)
+
+        signs : opposed [] (resolvent e (l .left) (l .right)) ≡ false
+        signs = not-true-false (opposed [] (resolvent e (l .left) (l .right))) (λ h. let t = opposed-found [] (resolvent e (l .left) (l .right)) h in apart (t .0) (t .1) (t .2))
+
+        stated : states (resolvent e (l .left) (l .right)) L ≡ true
+        stated = states-complete (resolvent e (l .left) (l .right)) (Resolvent (l .left) (l .right) e) (resolvent-in e (l .left) (l .right)) (in-resolvent e (l .left) (l .right)) L (l .states)
+    lawful-judge (reduction i a L) l = rw (numbered-antecedent known i (l .clause) (l .numbered), pivot, free, stated)
+      where
+        pivot : (S .universal (natAbs a) && holds a (l .clause)) ≡ true
+        pivot =
+            both-and
+            (S .universal (natAbs a))
+            (holds a (l .clause))
+            (D .universal-complete (natAbs a) (l .universal))
+            (holds-complete a (l .clause) (l .in-clause))
+
+        depends-not : (x : ℤ) → List·Memᴰ x (l .clause) → S .dependent (natAbs a) (natAbs x) ≡ true → ⊥
+        depends-not x m h = let d = D .dependent-sound (natAbs a) (natAbs x) h in l .independent x m (d .0) (d .1)
+
+        free : blocked S (natAbs a) (l .clause) ≡ false
+        free =
+            not-true-false (blocked S (natAbs a) (l .clause))
+            (λ h. let t = blocked-found S (natAbs a) (l .clause) h in depends-not (t .0) (t .1) (t .2))
+
+        stated : states (without a (l .clause)) L ≡ true
+        stated =
+            states-complete (without a (l .clause))
+            (Reduct (l .clause) a)
+            (λ x r. member-without x a (l .clause) (r .0) (r .1))
+            (λ x m. without-member x a (l .clause) m)
+            L
+            (l .states)
+
+  -- Blocked only where an existential of the clause depends on the reduced variable.
+  pub judge-blocked : (known : List Words) (s : Step) → judge S known s ≡ some Blocked → BlockedStep F known s
+  unfolding judgeResolution judgeReduction
+  judge-blocked known (resolution i j e L) h = go (antecedent known i) (antecedent known j) h
+    where
+      tests : (C E : Words) (a b : Bool) → unless a WrongPivot (unless b Tautology (judgeStatement (resolvent e C E) L)) ≡ some Blocked → ⊥
+      tests C E false b k = pivot-blocked k
+      tests C E true false k = tautology-blocked k
+      tests C E true true k = statement-blocked (resolvent e C E) L k
+
+      go : (A B : Option Words) → judgeResolution S e L A B ≡ some Blocked → ⊥
+      go none B k = earlier-blocked k
+      go (some C) none k = earlier-blocked k
+      go (some C) (some E) k =
+          tests C E (positiveExistential S e && holds e C && holds (negℤ e) E) (not (opposed [] (resolvent e C E))) k
+  judge-blocked known (reduction i a L) h = go (antecedent known i) refl h
+    where
+      tests :
+          (C : Words) → Numbered known i C
+          → (p b : Bool) → (S .universal (natAbs a) && holds a C) ≡ p → blocked S (natAbs a) C ≡ b
+          → unless p WrongPivot (unless (not b) Blocked (judgeStatement (without a C) L)) ≡ some Blocked
+          → Blocks F known i a
+      tests C n false b q e k = pivot-blocked k
+      tests C n true true q e k =
+          let t = blocked-found S (natAbs a) C e in
+          let d = D .dependent-sound (natAbs a) (natAbs (t .0)) (t .2) in
+          let both = and-both (S .universal (natAbs a)) (holds a C) q in
+          record {
+            clause = C;
+            numbered = n;
+            universal = D .universal-sound (natAbs a) (both .0);
+            reduced = holds-sound a C (both .1);
+            literal = t .0;
+            in-clause = t .1;
+            existential = d .0;
+            depends = d .1;
+          }
+      tests C n true false q e k = absurd (statement-blocked (without a C) L k)
+
+      go : (A : Option Words) → antecedent known i ≡ A → judgeReduction S a L A ≡ some Blocked → Blocks F known i a
+      go none p k = earlier-blocked k
+      go (some C) p k = tests C (antecedent-numbered known i C p) (S .universal (natAbs a) && holds a C) (blocked S (natAbs a) C) refl refl k

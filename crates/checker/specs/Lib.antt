@@ -1,0 +1,17 @@
+-- The definitions that layer 3's contracts cite, and the theorems that say what they compute.
+-- What a reader must believe: ProofFile, Words, Steps, Verdict, Lawful. As the code keeps and reads things: Marks, Kinds,
+-- Blocking, Numbered, Reading, Judgements, Stepping, Running.
+pub mod ProofFile
+pub mod Words
+pub mod Steps
+pub mod Lawful
+pub mod Derived
+pub mod Verdict
+pub mod Marks
+pub mod Kinds
+pub mod Blocking
+pub mod Numbered
+pub mod Reading
+pub mod Judgements
+pub mod Stepping
+pub mod Running

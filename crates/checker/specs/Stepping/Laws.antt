@@ -1,0 +1,180 @@
+-- The parts of a step's check make up the judgement of Steps.antt, and a lent part of the scratch comes back in its place.
+-- Assumes nothing.
+use Prim.Native.Nat.{ℕ, suc, _+_, _-_, _≤_, _<_}
+use mathlib.Core.Path.{_≡_, refl, ap, sym, _∙_}
+use mathlib.Core.Bool.{Bool, true, false, _&&_}
+use mathlib.Core.Option.{Option, none, some}
+use mathlib.Core.List.{List, [], _∷_, _++_}
+use native.Mathlib.Omega.{arith}
+use borrow.Author.Tests.{lt-ltb, le-ltb}
+use lib.Dec.{leb}
+use lib.ListN.{length, getD, take, drop, replicate, length-set, length-replicate, length-drop, take-append-drop}
+use lib.Seq.{take-at, drop-at, drop-drop, take-all, length-take-le}
+use lib.IntN.{ℤ, pos, negsuc, negℤ, natAbs}
+use Rattle.dependency.specs.Row.{isUniversal, rowOf}
+use Rattle.dependency.specs.Row.Laws.{row-length}
+use Rattle.qbf.specs.Formula.{Formula}
+use Rattle.formula.specs.Bounds.{variableFit}
+use Rattle.formula.specs.Word.{wordOf}
+use Rattle.formula.specs.Tables.{Admitted}
+use Rattle.formula.specs.declared.literal.VariableFit.{VariableFit}
+use Rattle.formula.specs.declared.literal.Word.{Word}
+use Rattle.formula.specs.declared.literal.Word.the-variants.{Zero, TooLarge, Positive, Negative}
+use Rattle.formula.specs.declared.refusal.Reason.{Reason}
+use Rattle.formula.specs.declared.refusal.Reason.the-variants.{WrongPivot, BrokenStep, NoRoom}
+use Rattle.checker.specs.Words.{Words, holds}
+use Rattle.checker.specs.Words.Places.{clauseAt}
+use Rattle.checker.specs.declared.result.Judgement.the-variants.{Right, Wrong}
+use Rattle.checker.specs.declared.step.StepAnswer.the-variants.{Right as RightStep, Wrong as WrongStep}
+use Rattle.checker.specs.Steps.{Scope, Step, sizeOf, readStep, resolvent, positiveExistential, unless, judgeResolution, judgeReduction, judge, judgeFirst}
+use Rattle.checker.specs.Lawful.Deciding.{found-member}
+use Rattle.checker.specs.Lawful.Running.{AllWords}
+use Rattle.checker.specs.Verdict.{scopeOf}
+use Rattle.checker.specs.Numbered.{tableOf, storedAt, stored}
+use Rattle.checker.specs.Numbered.Laws.{stored-get}
+use Rattle.checker.specs.Marks.Judging.{InRange, AllInRange, clean}
+use Rattle.checker.specs.Kinds.{kindWord, kindsFrom, kindsOf}
+use Rattle.checker.specs.Reading.{listOf}
+use Rattle.checker.specs.Kinds.Laws.{existential-fit, universal-fit}
+use Rattle.checker.specs.Judgements.{judgementOf, resultReason}
+use Rattle.checker.specs.Stepping.{kindsIn, Clean, Ready, resolvingReason, resolutionReason, freeReason, reducingReason, reductionReason, stepAnswer}
+
+-- A part that comes back as it was.
+pub part-back : (xs ys : List ℕ) (a k : ℕ) → ys ≡ take k (drop a xs) → take a xs ++ (ys ++ drop k (drop a xs)) ≡ xs
+part-back xs ys a k e =
+    ap (λ (zs : List ℕ). take a xs ++ (zs ++ drop k (drop a xs))) e
+    ∙ ap (λ (zs : List ℕ). take a xs ++ zs) (take-append-drop k (drop a xs))
+    ∙ take-append-drop a xs
+
+-- The first part with anything in it: what follows stays.
+pub front-kept : (ys xs : List ℕ) (k : ℕ) → length ys ≡ k → drop k (ys ++ drop k xs) ≡ drop k xs
+front-kept ys xs k e = drop-at ys (drop k xs) k e
+
+-- The row in the first part.
+pub row-in : (F : Formula) (u : ℕ) (w rest : List ℕ) → w ≡ replicate 4100 0 ++ rowOf F u → take 1025 (drop 4100 (w ++ rest)) ≡ rowOf F u
+row-in F u w rest e =
+    rw (e, append-split (replicate 4100 0) (rowOf F u) rest, drop-at (replicate 4100 0) (rowOf F u ++ rest) 4100 (length-replicate {A = ℕ} 4100 0))
+    (take-at (rowOf F u) rest 1025 (row-length F u))
+  where
+    append-split : (a b c : List ℕ) → (a ++ b) ++ c ≡ a ++ (b ++ c)
+    append-split [] b c = refl
+    append-split (x ∷ a) b c = ap {B = List ℕ} (λ r. x ∷ r) (append-split a b c)
+
+-- The kinds have a byte for each number from 0 to 1,024.
+length-kind : (kinds : List ℕ) (w : Word) → length (kindWord kinds w) ≡ length kinds
+length-kind kinds Zero = refl
+length-kind kinds TooLarge = refl
+length-kind kinds (Positive v) = length-set kinds (v .0) 1
+length-kind kinds (Negative v) = length-set kinds (v .0) 2
+
+pub length-kinds-from : (kinds : List ℕ) (ws : List ℤ) → length (kindsFrom kinds ws) ≡ length kinds
+unfolding kindsFrom
+length-kinds-from kinds [] = refl
+length-kinds-from kinds (w ∷ ws) = length-kinds-from (kindWord kinds (wordOf w)) ws ∙ length-kind kinds (wordOf w)
+
+pub length-kinds : (prefix : List ℤ) → length (kindsOf prefix) ≡ 1025
+unfolding kindsOf
+length-kinds prefix = length-kinds-from (replicate 1025 0) prefix ∙ length-replicate {A = ℕ} 1025 0
+
+module _ (prefix : List ℤ) (scratch : List ℕ) (ready : Ready prefix scratch) where
+  pub ready-clean : Clean scratch
+  ready-clean =
+      record {
+        size = ready .size;
+        marks = ap (take 2050) (ready .later) ∙ take-at clean (kindsOf prefix) 2050 (length-replicate {A = ℕ} 2050 0);
+      }
+
+  pub ready-kinds : kindsIn scratch ≡ kindsOf prefix
+  ready-kinds =
+      ap (take 1025) (sym (drop-drop 2050 5125 scratch) ∙ ap (drop 2050) (ready .later) ∙ drop-at clean (kindsOf prefix) 2050 (length-replicate {A = ℕ} 2050 0))
+      ∙ take-all 1025 (kindsOf prefix) (let e = length-kinds prefix in omega arith)
+
+  pub ready-kept : (scratch′ : List ℕ) → length scratch′ ≡ length scratch → drop 5125 scratch′ ≡ drop 5125 scratch → Ready prefix scratch′
+  ready-kept scratch′ l k = record { size = l ∙ ready .size; later = k ∙ ready .later }
+
+pub first-part : (scratch : List ℕ) → Clean scratch → length (take 5125 scratch) ≡ 5125
+first-part scratch c = length-take-le 5125 scratch (let e = c .size in omega arith)
+
+-- Clean marks stay so while what follows the first part stays.
+pub clean-kept : (scratch scratch′ : List ℕ) → Clean scratch → length scratch′ ≡ length scratch → drop 5125 scratch′ ≡ drop 5125 scratch → Clean scratch′
+clean-kept scratch scratch′ c l k = record { size = l ∙ c .size; marks = ap (take 2050) k ∙ c .marks }
+
+kinds-there : (scratch : List ℕ) → length scratch ≡ 8200 → 1025 ≤ length (drop 7175 scratch)
+kinds-there scratch h = rw (length-drop 7175 scratch) (omega arith)
+
+pub length-kinds-in : (scratch : List ℕ) → length scratch ≡ 8200 → length (kindsIn scratch) ≡ 1025
+length-kinds-in scratch h = length-take-le 1025 (drop 7175 scratch) (kinds-there scratch h)
+
+-- A numbered clause by its number.
+pub stored-by-number :
+    (inputs : ℕ) (clauses steps : Words) (starts : List ℕ) (n : ℕ) → 1 ≤ n
+    → storedAt inputs clauses steps starts (n - 1) ≡ clauseAt (tableOf (leb n inputs) clauses steps) (getD starts (n - 1) 0)
+unfolding storedAt
+stored-by-number inputs clauses steps starts n h =
+    let e : suc (n - 1) ≡ n = omega arith in
+    ap (λ (k : ℕ). clauseAt (tableOf (leb k inputs) clauses steps) (getD starts (n - 1) 0)) e
+
+pub stored-in-range :
+    (inputs : ℕ) (clauses steps : Words) (starts : List ℕ) (last n : ℕ) → 1 ≤ n → n ≤ last
+    → AllWords InRange (stored inputs clauses steps starts last)
+    → AllInRange (storedAt inputs clauses steps starts (n - 1))
+stored-in-range inputs clauses steps starts last n h k all =
+    all (storedAt inputs clauses steps starts (n - 1))
+    (found-member (stored inputs clauses steps starts last) (n - 1) (storedAt inputs clauses steps starts (n - 1)) (stored-get inputs clauses steps starts last (n - 1) (omega arith)))
+
+-- The judgement from its parts, on tables that pass.
+module _ (prefix clauses : List ℤ) (a : Admitted prefix clauses) where
+  resolving : (e : ℤ) (C D L : Words) → resolvingReason (variableFit (positiveExistential (scopeOf prefix clauses) e) (natAbs e)) C D L ≡ judgeResolution (scopeOf prefix clauses) e L (some C) (some D)
+  unfolding judgeResolution
+  resolving (pos v) C D L = go (holds (pos v) prefix)
+    where
+      go : (b : Bool) → resolvingReason (variableFit b v) C D L ≡ unless (b && holds (pos v) C && holds (negℤ (pos v)) D) WrongPivot (resultReason (resolvent (pos v) C D) L)
+      go true = refl
+      go false = refl
+  resolving (negsuc n) C D L = refl
+
+  pub resolution-judged : (e : ℤ) (L : Words) (A B : Option Words) → resolutionReason (kindsOf prefix) e L A B ≡ judgeResolution (scopeOf prefix clauses) e L A B
+  unfolding judgeResolution
+  resolution-judged e L none B = refl
+  resolution-judged e L (some C) none = refl
+  resolution-judged e L (some C) (some D) = ap (λ (f : VariableFit). resolvingReason f C D L) (existential-fit prefix clauses a e) ∙ resolving e C D L
+
+  reducing : (x : ℤ) (C L : Words) (b : Bool) → reducingReason (scopeOf prefix clauses) (variableFit b (natAbs x)) x C L ≡ unless (b && holds x C) WrongPivot (freeReason (scopeOf prefix clauses) (natAbs x) x C L)
+  reducing x C L true = refl
+  reducing x C L false = refl
+
+  pub reduction-judged : (x : ℤ) (L : Words) (A : Option Words) → reductionReason (scopeOf prefix clauses) (kindsOf prefix) x L A ≡ judgeReduction (scopeOf prefix clauses) x L A
+  unfolding judgeReduction
+  reduction-judged x L none = refl
+  reduction-judged x L (some C) =
+      ap (λ (f : VariableFit). reducingReason (scopeOf prefix clauses) f x C L) (universal-fit prefix clauses a x)
+      ∙ reducing x C L (isUniversal prefix (natAbs x))
+
+-- The step's answer, by what was read and judged.
+module _ (S : Scope) (room : ℕ) (known : List Words) (ws : Words) (at : ℕ) where
+  pub step-broken : readStep ws ≡ none → WrongStep BrokenStep ≡ stepAnswer at (judgeFirst S room known ws)
+  unfolding judgeFirst
+  step-broken e = rw e
+
+  pub step-no-room : (s : Step) → readStep ws ≡ some s → room ≤ length known → WrongStep NoRoom ≡ stepAnswer at (judgeFirst S room known ws)
+  unfolding judgeFirst
+  step-no-room s e h = rw (e, le-ltb (length known) room h)
+
+  pub step-right : (s : Step) → readStep ws ≡ some s → length known < room → judge S known s ≡ none → RightStep (listOf at s) (at + sizeOf s) ≡ stepAnswer at (judgeFirst S room known ws)
+  unfolding judgeFirst
+  step-right s e h j = rw (e, lt-ltb (length known) room h, j)
+
+  pub step-wrong : (s : Step) (r : Reason) → readStep ws ≡ some s → length known < room → judge S known s ≡ some r → WrongStep r ≡ stepAnswer at (judgeFirst S room known ws)
+  unfolding judgeFirst
+  step-wrong s r e h j = rw (e, lt-ltb (length known) room h, j)
+
+pub judgement-right : (o : Option Reason) → Right ≡ judgementOf o → o ≡ none
+judgement-right none h = refl
+judgement-right (some r) h = let z : _≡_ {A = ℕ} 0 1 = cc in absurd (omega arith)
+
+pub judgement-wrong : (o : Option Reason) (r : Reason) → Wrong r ≡ judgementOf o → o ≡ some r
+judgement-wrong none r h = let z : _≡_ {A = ℕ} 0 1 = cc in absurd (omega arith)
+judgement-wrong (some q) r h = ap {B = Option Reason} some (same q r h)
+  where
+    same : (q r : Reason) → Wrong r ≡ Wrong q → q ≡ r
+    same q r e = cc

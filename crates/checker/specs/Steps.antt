@@ -1,0 +1,175 @@
+-- Steps (01, "Steps", and the order of refusals "For steps"): what the words of a step say, what is wrong with a step after
+-- given numbered clauses, and the run down the words. What steps know of the formula is the three tests of a Scope.
+pub mod Tests
+pub mod Reading
+pub mod Running
+use Prim.Native.Nat.{ℕ, zero, suc, _+_}
+use mathlib.Core.Bool.{Bool, true, false, not, _&&_, _||_}
+use mathlib.Core.Option.{Option, none, some}
+use mathlib.Core.List.{List, [], _∷_, _++_}
+use lib.ListN.{length, getElem?}
+use lib.Dec.{ltb}
+use lib.IntN.{ℤ, pos, negsuc, negℤ, natAbs}
+use Rattle.formula.specs.Refusal.{refusal}
+use Rattle.formula.specs.declared.refusal.Reason.{Reason}
+use Rattle.formula.specs.declared.refusal.Refusal.{Refusal}
+use Rattle.formula.specs.declared.refusal.Reason.the-variants.{NoRoom, BrokenStep, NotEarlier, WrongPivot, Tautology, Blocked, Misstated}
+use Rattle.formula.specs.Decode.{firstClause}
+use Rattle.checker.specs.Words.{Words, holds, without, closes}
+
+-- The variables that are existential and universal, and which existential depends on which universal: dependent u e.
+pub record Scope : Type 0 where
+  pub existential : ℕ → Bool
+  pub universal : ℕ → Bool
+  pub dependent : ℕ → ℕ → Bool
+
+-- `1 i j e L.. 0` and `2 i a L.. 0`.
+pub data Step : Type 0 where
+  resolution : ℤ → ℤ → ℤ → Words → Step
+  reduction : ℤ → ℤ → Words → Step
+
+abbrev pub statedBy : Step → Words
+statedBy (resolution i j e L) = L
+statedBy (reduction i a L) = L
+
+-- How many words a step has.
+abbrev pub sizeOf : Step → ℕ
+sizeOf (resolution i j e L) = 5 + length L
+sizeOf (reduction i a L) = 4 + length L
+
+pub data Kind : Type 0 where
+  resolves reduces other : Kind
+
+abbrev pub kindOf : ℤ → Kind
+kindOf (pos zero) = other
+kindOf (pos (suc zero)) = resolves
+kindOf (pos (suc (suc zero))) = reduces
+kindOf (pos (suc (suc (suc n)))) = other
+kindOf (negsuc n) = other
+
+-- A step whose L is closed by a 0.
+abbrev pub ifClosed : Bool → Step → Option Step
+ifClosed true s = some s
+ifClosed false s = none
+
+-- Fields stand by place, 0 or not: the closing 0 is looked for from the first word of L on.
+abbrev pub readFields : Kind → Words → Option Step
+readFields resolves [] = none
+readFields resolves (i ∷ []) = none
+readFields resolves (i ∷ j ∷ []) = none
+readFields resolves (i ∷ j ∷ e ∷ ws) = ifClosed (closes ws) (resolution i j e (firstClause ws))
+readFields reduces [] = none
+readFields reduces (i ∷ []) = none
+readFields reduces (i ∷ a ∷ ws) = ifClosed (closes ws) (reduction i a (firstClause ws))
+readFields other ws = none
+
+-- The step that stands first in the words, if one does.
+unfoldable pub readStep : Words → Option Step
+readStep [] = none
+readStep (w ∷ ws) = readFields (kindOf w) ws
+
+-- The numbered clause of an antecedent: it is one from 1 to the last.
+abbrev pub antecedent : List Words → ℤ → Option Words
+antecedent known (pos zero) = none
+antecedent known (pos (suc n)) = getElem? known n
+antecedent known (negsuc n) = none
+
+-- The result of a resolution, as a list that may hold a literal twice.
+abbrev pub resolvent : ℤ → Words → Words → Words
+resolvent e C D = without e C ++ without (negℤ e) D
+
+-- Both signs of a variable stand among `seen` and the words, at least one of them among the words.
+unfoldable pub opposed : Words → Words → Bool
+opposed seen [] = false
+opposed seen (x ∷ R) = holds (negℤ x) seen || opposed (x ∷ seen) R
+
+-- Each word of L is in the result and is not stated before.
+unfoldable pub lists : Words → Words → Words → Bool
+lists R seen [] = true
+lists R seen (x ∷ L) = holds x R && not (holds x seen) && lists R (x ∷ seen) L
+
+-- Each word of the result is in L.
+unfoldable pub covers : Words → Words → Bool
+covers L [] = true
+covers L (x ∷ R) = holds x L && covers L R
+
+-- L states the result, in any order, no literal twice.
+unfoldable pub states : Words → Words → Bool
+states R L = lists R [] L && covers L R
+
+abbrev pub positiveExistential : Scope → ℤ → Bool
+positiveExistential S (pos v) = S .existential v
+positiveExistential S (negsuc n) = false
+
+-- Some literal's variable depends on u: it is an existential one.
+unfoldable pub blocked : Scope → ℕ → Words → Bool
+blocked S u [] = false
+blocked S u (x ∷ C) = S .dependent u (natAbs x) || blocked S u C
+
+-- The reason if the test fails, what comes later if it holds.
+abbrev pub unless : Bool → Reason → Option Reason → Option Reason
+unless true r later = later
+unless false r later = some r
+
+abbrev pub judgeStatement : Words → Words → Option Reason
+judgeStatement R L = unless (states R L) Misstated none
+
+unfoldable pub judgeResolution : Scope → ℤ → Words → Option Words → Option Words → Option Reason
+judgeResolution S e L none D = some NotEarlier
+judgeResolution S e L (some C) none = some NotEarlier
+judgeResolution S e L (some C) (some D) =
+    unless (positiveExistential S e && holds e C && holds (negℤ e) D)
+    WrongPivot
+    (unless (not (opposed [] (resolvent e C D))) Tautology (judgeStatement (resolvent e C D) L))
+
+unfoldable pub judgeReduction : Scope → ℤ → Words → Option Words → Option Reason
+judgeReduction S a L none = some NotEarlier
+judgeReduction S a L (some C) =
+    unless (S .universal (natAbs a) && holds a C) WrongPivot (unless (not (blocked S (natAbs a) C)) Blocked (judgeStatement (without a C) L))
+
+-- What is wrong with a step after the numbered clauses: nothing, or the first reason in 01's order.
+abbrev pub judge : Scope → List Words → Step → Option Reason
+judge S known (resolution i j e L) = judgeResolution S e L (antecedent known i) (antecedent known j)
+judge S known (reduction i a L) = judgeReduction S a L (antecedent known i)
+
+-- The first step of the words: right, or wrong for a reason.
+pub data Judged : Type 0 where
+  right : Step → Judged
+  wrong : Reason → Judged
+
+abbrev pub judgedAs : Step → Option Reason → Judged
+judgedAs s none = right s
+judgedAs s (some r) = wrong r
+
+abbrev pub ifRoom : Bool → Judged → Judged
+ifRoom true later = later
+ifRoom false later = wrong NoRoom
+
+abbrev pub judgeRead : Scope → ℕ → List Words → Option Step → Judged
+judgeRead S room known none = wrong BrokenStep
+judgeRead S room known (some s) = ifRoom (ltb (length known) room) (judgedAs s (judge S known s))
+
+-- `room` is how many numbered clauses the starts table has a word for.
+unfoldable pub judgeFirst : Scope → ℕ → List Words → Words → Judged
+judgeFirst S room known ws = judgeRead S room known (readStep ws)
+
+-- The run ends with all numbered clauses, or is refused.
+pub data Outcome : Type 0 where
+  ended : List Words → Outcome
+  refused : Refusal → Outcome
+
+-- A wrong step is refused at its own clause number; `next` goes on after a right one.
+abbrev pub turn : List Words → Judged → (Step → Outcome) → Outcome
+turn known (right s) next = next s
+turn known (wrong r) next = refused (refusal r (suc (length known)))
+
+abbrev pub less-one : ℕ → ℕ
+less-one zero = zero
+less-one (suc n) = n
+
+-- The words from here on, the first `skip` of which belong to a step that was judged.
+unfoldable pub run : Scope → ℕ → List Words → ℕ → Words → Outcome
+run S room known skip [] = ended known
+run S room known (suc skip) (w ∷ ws) = run S room known skip ws
+run S room known zero (w ∷ ws) =
+    turn known (judgeFirst S room known (w ∷ ws)) (λ s. run S room (known ++ (statedBy s ∷ [])) (less-one (sizeOf s)) ws)

@@ -1,0 +1,87 @@
+-- The verdict on a proof (01, "What the checker says no with", order "A proof"): tables, 2 on step words, 3 for scratch and
+-- starts, the steps, 19. `verdictOf` is what `check_proof` answers, Checked what it promises.
+pub mod Examples
+pub mod Deciding
+pub mod Early
+pub mod Accuracy
+pub mod Parts
+use Prim.Native.Nat.{ℕ, zero, suc, _-_}
+use mathlib.Core.Path.{_≡_}
+use mathlib.Core.Bool.{Bool, true, false}
+use mathlib.Core.Option.{Option, none, some}
+use mathlib.Core.List.{List, [], _∷_}
+use lib.ListN.{length, replicate}
+use lib.Dec.{leb}
+use lib.IntN.{ℤ, pos}
+use Rattle.qbf.specs.Dependency.{depends}
+use Rattle.dependency.specs.Row.{isUniversal}
+use Rattle.formula.specs.Bounds.{proofBound}
+use Rattle.formula.specs.Decode.{formulaOf, clausesOf}
+use Rattle.formula.specs.Tables.{zeros, tablesRefusal}
+use Rattle.formula.specs.Refusal.{refusal}
+use Rattle.qbf.specs.Play.{Lost}
+use Rattle.formula.specs.declared.literal.ClauseNumber.{ClauseNumber}
+use Rattle.formula.specs.declared.refusal.Refusal.{Refusal}
+use Rattle.formula.specs.declared.refusal.Reason.the-variants.{Oversized, NoRoom, NoConclusion}
+use Rattle.checker.specs.declared.verdict.Verdict.{Verdict}
+use Rattle.checker.specs.declared.verdict.Verdict.the-variants.{Accepted, Refused}
+use Rattle.checker.specs.Words.{Words, holds}
+use Rattle.checker.specs.Steps.{Scope, Outcome, ended, refused, run}
+
+-- The tests on the tables: +v in the prefix is existential, −v universal; dependencies come from the input formula.
+abbrev pub scopeOf : List ℤ → List ℤ → Scope
+scopeOf prefix clauses =
+    record {
+      existential = λ v. holds (pos v) prefix;
+      universal = isUniversal prefix;
+      dependent = depends (formulaOf prefix clauses);
+    }
+
+-- 01's scratch: bytes.
+abbrev pub scratchBound : ℕ
+scratchBound = 8200
+
+-- The number of the first empty clause, `n` being the number of the first one here.
+unfoldable pub firstEmpty : ℕ → List Words → Option ℕ
+firstEmpty n [] = none
+firstEmpty n ([] ∷ Cs) = some n
+firstEmpty n ((x ∷ C) ∷ Cs) = firstEmpty (suc n) Cs
+
+-- With all numbered clauses, of which `inputs` are input clauses.
+abbrev pub concluded : ℕ → List Words → Option ℕ → Verdict
+concluded inputs known none = Refused (refusal NoConclusion (length known))
+concluded inputs known (some n) = Accepted (record { 0 = n }) (length known - inputs)
+
+abbrev pub conclude : ℕ → Outcome → Verdict
+conclude inputs (ended known) = concluded inputs known (firstEmpty 1 known)
+conclude inputs (refused r) = Refused r
+
+abbrev pub ifAdmitted : Option Refusal → Verdict → Verdict
+ifAdmitted none later = later
+ifAdmitted (some r) later = Refused r
+
+abbrev pub ifFits : Bool → Refusal → Verdict → Verdict
+ifFits true r later = later
+ifFits false r later = Refused r
+
+-- After the tables; `scratch` and `room` are the lengths of the scratch and of the starts table.
+unfoldable pub sizedVerdict : List ℤ → List ℤ → List ℤ → ℕ → ℕ → Verdict
+sizedVerdict prefix clauses steps scratch room =
+    ifFits (leb (length steps) proofBound)
+    (refusal Oversized 0)
+    (ifFits (leb scratchBound scratch)
+    (refusal NoRoom 0)
+    (ifFits (leb (zeros clauses) room)
+    (refusal NoRoom (suc room))
+    (conclude (zeros clauses) (run (scopeOf prefix clauses) room (clausesOf clauses) zero steps))))
+
+unfoldable pub verdictOf : List ℤ → List ℤ → List ℤ → ℕ → ℕ → Verdict
+verdictOf prefix clauses steps scratch room = ifAdmitted (tablesRefusal prefix clauses) (sizedVerdict prefix clauses steps scratch room)
+
+-- What `check_proof` promises: the verdict, scratch and starts of whatever length wholly 0, and that an accepted proof makes the
+-- game lost.
+pub record Checked (prefix clauses steps : List ℤ) (scratch starts : List ℕ) (r : Verdict) (scratch′ starts′ : List ℕ) : Type 0 where
+  pub verdict : r ≡ verdictOf prefix clauses steps (length scratch) (length starts)
+  pub scratch-cleared : scratch′ ≡ replicate (length scratch) 0
+  pub starts-cleared : starts′ ≡ replicate (length starts) 0
+  pub lost : (empty : ClauseNumber) (count : ℕ) → r ≡ Accepted empty count → Lost (formulaOf prefix clauses)

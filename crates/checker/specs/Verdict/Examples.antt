@@ -1,0 +1,86 @@
+-- The lettered positions of 01 that speak of a proof, and the checklist's damaged proof, by computation.
+use mathlib.Core.Path.{_≡_, refl}
+use mathlib.Core.List.{List, [], _∷_}
+use native.Mathlib.Decide.{ℕ-discrete}
+use lib.IntN.{ℤ, pos, negsuc}
+use Rattle.qbf.specs.Literal.{same}
+use Rattle.qbf.specs.Formula.{after, existentials}
+use Rattle.qbf.specs.Path.{holds as holdsLiteral, together, joined, literals, reach}
+use Rattle.qbf.specs.Dependency.{member, pair, depends}
+use Rattle.dependency.specs.Row.{isUniversal}
+use Rattle.formula.specs.Word.{wordOf}
+use Rattle.formula.specs.Decode.{firstClause, clausesOf}
+use Rattle.formula.specs.Tables.{isIn, zeros, prefixRefusal, clausesRefusal, tablesRefusal}
+use Rattle.formula.specs.Refusal.{refusal}
+use Rattle.formula.specs.declared.refusal.Reason.the-variants.{NoRoom, WrongPivot, Tautology, Blocked, Misstated, NoConclusion}
+use Rattle.checker.specs.declared.verdict.Verdict.the-variants.{Accepted, Refused}
+use Rattle.checker.specs.Words.{sameWord, holds, without, closes}
+use Rattle.checker.specs.Steps.{readStep, opposed, lists, covers, states, blocked, judgeResolution, judgeReduction, judgeFirst, run}
+use Rattle.checker.specs.Verdict.{firstEmpty, sizedVerdict, verdictOf}
+
+-- Source document 001's formula: prefix 1 −2 3 4; clauses {2,3} {−2,4} {−4,1} {−1,−3}.
+abbrev pub examplePrefix : List ℤ
+examplePrefix = pos 1 ∷ negsuc 1 ∷ pos 3 ∷ pos 4 ∷ []
+
+abbrev pub exampleClauses : List ℤ
+exampleClauses = pos 2 ∷ pos 3 ∷ pos 0 ∷ negsuc 1 ∷ pos 4 ∷ pos 0 ∷ negsuc 3 ∷ pos 1 ∷ pos 0 ∷ negsuc 0 ∷ negsuc 2 ∷ pos 0 ∷ []
+
+-- `2 1 2 3 0`, `2 2 -2 x 0`, `1 6 3 4 1 0`, `1 5 4 3 -1 0`, `1 7 8 1 0`; x is 4 in the example.
+abbrev pub exampleSteps : ℤ → List ℤ
+exampleSteps x =
+    pos 2 ∷ pos 1 ∷ pos 2 ∷ pos 3 ∷ pos 0
+    ∷ pos 2 ∷ pos 2 ∷ negsuc 1 ∷ x ∷ pos 0
+    ∷ pos 1 ∷ pos 6 ∷ pos 3 ∷ pos 4 ∷ pos 1 ∷ pos 0
+    ∷ pos 1 ∷ pos 5 ∷ pos 4 ∷ pos 3 ∷ negsuc 0 ∷ pos 0
+    ∷ pos 1 ∷ pos 7 ∷ pos 8 ∷ pos 1 ∷ pos 0
+    ∷ []
+
+pub positions :
+    -- b: accepted, empty clause 9, 5 steps
+    (verdictOf examplePrefix exampleClauses (exampleSteps (pos 4)) 8200 9 ≡ Accepted (record { 0 = 9 }) 5)
+    -- d: a dependent existential is in the clause
+    × (verdictOf
+    (negsuc 0 ∷ negsuc 1 ∷ pos 3 ∷ [])
+    (pos 1 ∷ pos 2 ∷ negsuc 2 ∷ pos 0 ∷ negsuc 0 ∷ negsuc 1 ∷ pos 3 ∷ pos 0 ∷ [])
+    (pos 2 ∷ pos 1 ∷ pos 1 ∷ pos 2 ∷ negsuc 2 ∷ pos 0 ∷ [])
+    8200
+    3
+    ≡ Refused (refusal Blocked 3))
+    -- f: nothing at all
+    × (verdictOf [] [] [] 8200 0 ≡ Refused (refusal NoConclusion 0))
+    -- g: the clause word 0 alone
+    × (verdictOf [] (pos 0 ∷ []) [] 8200 1 ≡ Accepted (record { 0 = 1 }) 0)
+    -- h: the step is right, no clause is empty
+    × (verdictOf
+    (pos 1 ∷ negsuc 1 ∷ [])
+    (pos 1 ∷ pos 2 ∷ pos 0 ∷ [])
+    (pos 2 ∷ pos 1 ∷ pos 2 ∷ pos 1 ∷ pos 0 ∷ [])
+    8200
+    2
+    ≡ Refused (refusal NoConclusion 2))
+    -- i: the empty clause is the step's
+    × (verdictOf (negsuc 0 ∷ []) (pos 1 ∷ pos 0 ∷ []) (pos 2 ∷ pos 1 ∷ pos 1 ∷ pos 0 ∷ []) 8200 2 ≡ Accepted (record { 0 = 2 }) 1)
+    -- j: a universal pivot
+    × (verdictOf
+    (negsuc 0 ∷ [])
+    (pos 1 ∷ pos 0 ∷ negsuc 0 ∷ pos 0 ∷ [])
+    (pos 1 ∷ pos 1 ∷ pos 2 ∷ pos 1 ∷ pos 0 ∷ [])
+    8200
+    3
+    ≡ Refused (refusal WrongPivot 3))
+    -- k: the result holds 2 and −2
+    × (verdictOf
+    (pos 1 ∷ pos 2 ∷ [])
+    (pos 1 ∷ pos 2 ∷ pos 0 ∷ negsuc 0 ∷ negsuc 1 ∷ pos 0 ∷ [])
+    (pos 1 ∷ pos 1 ∷ pos 2 ∷ pos 1 ∷ pos 2 ∷ negsuc 1 ∷ pos 0 ∷ [])
+    8200
+    3
+    ≡ Refused (refusal Tautology 3))
+    -- the checklist: b with its second step's 4 made 3
+    × (verdictOf examplePrefix exampleClauses (exampleSteps (pos 3)) 8200 9 ≡ Refused (refusal Misstated 6))
+    -- scratch of 8,199 bytes is short; starts are short by one, at an input clause and at the last step
+    × (verdictOf examplePrefix exampleClauses (exampleSteps (pos 4)) 8199 9 ≡ Refused (refusal NoRoom 0))
+    × (verdictOf examplePrefix exampleClauses (exampleSteps (pos 4)) 8200 3 ≡ Refused (refusal NoRoom 4))
+    × (verdictOf examplePrefix exampleClauses (exampleSteps (pos 4)) 8200 8 ≡ Refused (refusal NoRoom 9))
+unfolding sameWord holds without firstClause closes readStep opposed lists covers states blocked judgeResolution judgeReduction judgeFirst run firstEmpty sizedVerdict verdictOf wordOf clausesOf isIn zeros prefixRefusal clausesRefusal tablesRefusal same after existentials holdsLiteral together joined literals reach member pair depends ℕ-discrete isUniversal
+positions = (refl, refl, refl, refl, refl, refl, refl, refl, refl, refl, refl, refl)

@@ -1,0 +1,34 @@
+// A clause by the place of its first word in a table: it ends before the first 0, or with the table. Its end is found by the
+// reader of clause words.
+use crate::word::is_zero;
+use crate::word::same;
+use formula::words::clause_end;
+ghost use mathlib.Core.Path.{_≡_};
+ghost use Prim.Native.Nat.{_+_};
+ghost use lib.ListN.{length, drop};
+ghost use Rattle.formula.specs.Decode.{firstClause};
+ghost use Rattle.checker.specs.Words.{holds};
+
+// The place of the 0 that closes the clause, or the table's length where none does.
+pub fn end_of(words: &[i32], from: usize) -> usize
+    ensures { λ r. ⌜ r ≡ from + length (firstClause (drop from (now (words .entry)))) ⌝ }
+{
+    clause_end(words, from)
+}
+
+pub fn has_word(words: &[i32], from: usize, sought: i32) -> bool
+    ensures { λ r. ⌜ r ≡ holds sought (firstClause (drop from (now (words .entry)))) ⌝ }
+{
+    let mut i = from;
+    while i < words.len() {
+        let word = words[i];
+        if is_zero(word) {
+            return false;
+        }
+        if same(sought, word) {
+            return true;
+        }
+        i += 1;
+    }
+    false
+}
