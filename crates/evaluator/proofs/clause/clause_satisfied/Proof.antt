@@ -1,0 +1,99 @@
+-- `clause_satisfied` stops at the clause's first true literal or at its 0: from every place before that, the clause has a
+-- true literal or has none. Assumes nothing.
+use Prim.Native.Nat.{_+_, _-_}
+use mathlib.Core.Path.{_≡_, refl, ap, sym, _∙_}
+use mathlib.Core.Bool.{Bool, true, false, _||_}
+use native.Mathlib.Omega.{arith}
+use borrow.Author.Needs.{needs}
+use lib.IntN.{pos}
+use lib.ListN.{length, drop, getD}
+use mir.Syntax.{w32}
+use mir.Val.{toZ, ofZ}
+use Rattle.qbf.specs.Play.{satisfied}
+use Rattle.formula.specs.Decode.{firstClause, clauseOf}
+use Rattle.evaluator.specs.Values.{valuesOf}
+use Rattle.evaluator.proofs.Signed.{read-back, bits-zero}
+use Rattle.evaluator.proofs.Words.{satisfied-at-zero, satisfied-at-word, satisfied-at-end}
+use Rattle.evaluator.proofs.clause.clause_satisfied.Statement.{statement}
+use Rattle.evaluator.proofs.clause.clause_satisfied.Tie as tie
+
+abbrev Inv-loop : tie.InvT-loop
+Inv-loop values clauses from i₀ i =
+    satisfied (valuesOf values) (clauseOf (firstClause (drop i clauses))) ≡ satisfied (valuesOf values) (clauseOf (firstClause (drop from clauses)))
+
+abbrev μ-loop : tie.MeasureT-loop
+μ-loop values clauses from i₀ i = length clauses - i
+
+loop-holds : tie.Need-loop-holds Inv-loop μ-loop
+loop-holds c = refl
+
+mul-word : tie.Need-mul-word Inv-loop μ-loop
+mul-word c = search needs
+
+shared-slice-copy-out-word : tie.Need-shared-slice-copy-out-word Inv-loop μ-loop
+shared-slice-copy-out-word c = search needs
+
+returns : tie.Need-returns Inv-loop μ-loop
+returns c =
+    let l = c .before .before .before .loop in
+    let s = c .before .before .before .before .before in
+    let ws = s .args .clauses .now in
+    let z : getD ws (l .i) (pos 0) ≡ pos 0 = bits-zero (getD ws (l .i) (pos 0)) (c .before .word .given) (c .if1 .taken) in
+    sym (satisfied-at-zero (valuesOf (s .args .values .now)) ws (l .i) (search needs) z) ∙ l .inv
+
+-- what the test of the literal at the place, answered b, says of the clause
+tested :
+    (c : tie.After-literal-true Inv-loop μ-loop) (b : Bool)
+    → c .literal-true .result ≡ b
+    → let l = c .before .before .before .before .loop in
+    let s = c .before .before .before .before .before .before in
+    let τ = valuesOf (s .args .values .now) in
+    let ws = s .args .clauses .now in
+    (b || satisfied τ (clauseOf (firstClause (drop (l .i + 1) ws)))) ≡ satisfied τ (clauseOf (firstClause (drop (s .args .from) ws)))
+tested c b t =
+    let l = c .before .before .before .before .loop in
+    let s = c .before .before .before .before .before .before in
+    let ws = s .args .clauses .now in
+    let τ = valuesOf (s .args .values .now) in
+    let w = getD ws (l .i) (pos 0) in
+    let e : toZ w32 (ofZ w32 w) ≡ w = read-back w (c .before .before .word .given) in
+    ap (λ (b : Bool). b || satisfied τ (clauseOf (firstClause (drop (l .i + 1) ws)))) (sym t ∙ (rw e at (c .literal-true .ensures)))
+    ∙ sym (satisfied-at-word τ ws (l .i) (search needs) (λ k. c .before .if1 .left (ap (ofZ w32) k)))
+    ∙ l .inv
+
+literal-true-requires : tie.Need-literal-true-requires Inv-loop μ-loop
+literal-true-requires c κs = search needs
+
+returns-2 : tie.Need-returns-2 Inv-loop μ-loop
+returns-2 c = tested (c .before) true (c .if2 .taken)
+
+add-i : tie.Need-add-i Inv-loop μ-loop
+add-i c = omega arith
+
+loop-less : tie.Need-loop-less Inv-loop μ-loop
+loop-less c = omega arith
+
+loop-again : tie.Need-loop-again Inv-loop μ-loop
+loop-again c = tested (c .before) false (c .if2 .left)
+
+returns-3 : tie.Need-returns-3 Inv-loop μ-loop
+returns-3 c =
+    let s = c .before .before .before in
+    sym (satisfied-at-end (valuesOf (s .args .values .now)) (s .args .clauses .now) (c .before .loop .i) (search needs)) ∙ c .before .loop .inv
+
+pub clause-satisfied-spec : {M : Type 1} → statement M
+clause-satisfied-spec =
+    tie.close
+    (tie.spec
+    Inv-loop
+    μ-loop
+    loop-holds
+    mul-word
+    shared-slice-copy-out-word
+    returns
+    literal-true-requires
+    returns-2
+    add-i
+    loop-less
+    loop-again
+    returns-3)

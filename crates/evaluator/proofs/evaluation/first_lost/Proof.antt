@@ -1,0 +1,52 @@
+-- `first_lost` begins with the side that is due, all values being 0. Assumes nothing.
+use mathlib.Core.Path.{ap, sym, _∙_}
+use borrow.Author.Needs.{needs}
+use Rattle.qbf.specs.Play.{Values, lost}
+use Rattle.formula.specs.Decode.{prefixOf, matrixOf}
+use Rattle.evaluator.specs.Values.{values-zero}
+use Rattle.evaluator.proofs.Position.{due-universal, due-existential}
+use Rattle.evaluator.proofs.evaluation.first_lost.Statement.{statement}
+use Rattle.evaluator.proofs.evaluation.first_lost.Tie as tie
+
+universal-due-requires : tie.Need-universal-due-requires
+universal-due-requires c κs = search needs
+
+slice-aggregate-universal-turn : tie.Need-slice-aggregate-universal-turn
+slice-aggregate-universal-turn c = search needs
+
+universal-turn-requires : tie.Need-universal-turn-requires
+universal-turn-requires c κs =
+    let s = c .before .before .before in
+    due-universal 1025 (s .args .prefix .now) (s .pre) (sym (c .before .before .universal-due .ensures) ∙ c .before .if1 .taken)
+
+slice-aggregate-existential-turn : tie.Need-slice-aggregate-existential-turn
+slice-aggregate-existential-turn c = search needs
+
+existential-turn-requires : tie.Need-existential-turn-requires
+existential-turn-requires c κs =
+    let s = c .before .before .before in
+    due-existential 1025 (s .args .prefix .now) (s .pre) (sym (c .before .before .universal-due .ensures) ∙ c .before .if1 .left)
+
+returns : tie.Need-returns
+returns c =
+    let s = c .before .before .before .before .before in
+    c .before .universal-turn .ensures .0
+    ∙ ap (λ (τ : Values). lost (prefixOf (s .args .prefix .now)) τ (matrixOf (s .args .clauses .now))) (values-zero 1025)
+
+returns-2 : tie.Need-returns-2
+returns-2 c =
+    let s = c .before .before .before .before .before in
+    c .before .existential-turn .ensures .0
+    ∙ ap (λ (τ : Values). lost (prefixOf (s .args .prefix .now)) τ (matrixOf (s .args .clauses .now))) (values-zero 1025)
+
+pub first-lost-spec : {M : Type 1} → statement M
+first-lost-spec =
+    tie.close
+    (tie.spec
+    universal-due-requires
+    slice-aggregate-universal-turn
+    universal-turn-requires
+    slice-aggregate-existential-turn
+    existential-turn-requires
+    returns
+    returns-2)

@@ -1,0 +1,101 @@
+-- The known positions of 01 that have a letter, a to l, as one list under one claim: each is an entry's answer on concrete
+-- tables, by computation. Numbers are words: pos n is n, negsuc n is −(n + 1).
+use Prim.Native.Nat.{ℕ, zero, suc}
+use mathlib.Core.Path.{_≡_, refl}
+use mathlib.Core.List.{List, [], _∷_}
+use native.Mathlib.Decide.{ℕ-discrete}
+use lib.ListN.{set, replicate}
+use lib.IntN.{ℤ, pos, negsuc, natAbs}
+use Rattle.qbf.specs.Literal.{same}
+use Rattle.qbf.specs.Formula.{after, existentials}
+use Rattle.qbf.specs.Path.{holds as holdsLiteral, together, joined, literals, reach}
+use Rattle.qbf.specs.Dependency.{member, pair, depends}
+use Rattle.qbf.specs.Play.{satisfied, falsified, lost}
+use Rattle.formula.specs.Word.{wordOf}
+use Rattle.formula.specs.Decode.{firstClause, clausesOf, formulaOf}
+use Rattle.formula.specs.Tables.{isIn, zeros, prefixRefusal, clausesRefusal, tablesRefusal}
+use Rattle.formula.specs.Refusal.{refusal}
+use Rattle.formula.specs.declared.refusal.Reason.the-variants.{WrongPivot, Tautology, Blocked, Misstated, NoConclusion}
+use Rattle.dependency.specs.declared.answer.RowAnswer.the-variants.{Filled}
+use Rattle.dependency.specs.Row.{isUniversal, rowBelow, rowOf, rowRefusal, answerRow, rowBuffer}
+use Rattle.checker.specs.declared.verdict.Verdict.{Verdict}
+use Rattle.checker.specs.declared.verdict.Verdict.the-variants.{Accepted, Refused}
+use Rattle.checker.specs.Words.{sameWord, holds, without, closes}
+use Rattle.checker.specs.Steps.{readStep, opposed, lists, covers, states, blocked, judgeResolution, judgeReduction, judgeFirst, run}
+use Rattle.checker.specs.Verdict.{firstEmpty, sizedVerdict, verdictOf}
+use Rattle.checker.specs.Verdict.Examples.{examplePrefix, exampleClauses, exampleSteps}
+use Rattle.evaluator.specs.declared.evaluation.Evaluation.{Evaluation}
+use Rattle.evaluator.specs.declared.evaluation.Evaluation.the-variants.{True, False}
+use Rattle.evaluator.specs.Evaluation.{evaluationOf}
+
+-- A question to an entry, with its answer: the dependents in a universal's row, a proof's verdict, a game's evaluation.
+pub data Position : Type 0 where
+  row : (prefix clauses : List ℤ) (variable : ℤ) (dependents : List ℕ) → Position
+  proof : (prefix clauses steps : List ℤ) (verdict : Verdict) → Position
+  game : (prefix clauses : List ℤ) (evaluation : Evaluation) → Position
+
+-- A row of 1,025 bytes with 1 for each of these, 0 elsewhere.
+abbrev pub marked : List ℕ → List ℕ
+marked [] = replicate 1025 0
+marked (e ∷ es) = set (marked es) e 1
+
+-- The entry answers so, with a row of 1,025 bytes, scratch of 8,200 and 16 starts.
+abbrev pub Answered : Position → Type 0
+Answered (row prefix clauses variable dependents) =
+    (answerRow (rowRefusal prefix clauses variable 1025 8200) ≡ Filled)
+    × (rowBuffer (rowRefusal prefix clauses variable 1025 8200) (formulaOf prefix clauses) (natAbs variable) 1025 ≡ marked dependents)
+Answered (proof prefix clauses steps verdict) = verdictOf prefix clauses steps 8200 16 ≡ verdict
+Answered (game prefix clauses evaluation) = evaluationOf prefix clauses ≡ evaluation
+
+abbrev pub AllAnswered : List Position → Type 0
+AllAnswered [] = Unit {0}
+AllAnswered (p ∷ ps) = Answered p × AllAnswered ps
+
+-- Prefix −1 −2 3, clauses {1,2,−3} {−1,−2,3}.
+abbrev bothPrefix : List ℤ
+bothPrefix = negsuc 0 ∷ negsuc 1 ∷ pos 3 ∷ []
+
+abbrev bothClauses : List ℤ
+bothClauses = pos 1 ∷ pos 2 ∷ negsuc 2 ∷ pos 0 ∷ negsuc 0 ∷ negsuc 1 ∷ pos 3 ∷ pos 0 ∷ []
+
+-- By letter. examplePrefix, exampleClauses and exampleSteps are 001's formula and proof, its second step's 4 as an argument.
+abbrev pub knownPositions : List Position
+knownPositions =
+    -- a, b
+    row examplePrefix exampleClauses (pos 2) []
+    ∷ proof examplePrefix exampleClauses (exampleSteps (pos 4)) (Accepted (record { 0 = 9 }) 5)
+    -- c: both rows; d
+    ∷ row bothPrefix bothClauses (pos 1) (3 ∷ [])
+    ∷ row bothPrefix bothClauses (pos 2) (3 ∷ [])
+    ∷ proof bothPrefix bothClauses (pos 2 ∷ pos 1 ∷ pos 1 ∷ pos 2 ∷ negsuc 2 ∷ pos 0 ∷ []) (Refused (refusal Blocked 3))
+    -- e
+    ∷ row
+    (negsuc 0 ∷ pos 2 ∷ pos 3 ∷ [])
+    (pos 1 ∷ pos 2 ∷ pos 0 ∷ negsuc 0 ∷ pos 2 ∷ pos 0 ∷ negsuc 1 ∷ pos 3 ∷ pos 0 ∷ negsuc 1 ∷ negsuc 2 ∷ pos 0 ∷ [])
+    (pos 1)
+    (2 ∷ 3 ∷ [])
+    -- f, g: the checker, and the evaluator
+    ∷ proof [] [] [] (Refused (refusal NoConclusion 0))
+    ∷ game [] [] True
+    ∷ proof [] (pos 0 ∷ []) [] (Accepted (record { 0 = 1 }) 0)
+    ∷ game [] (pos 0 ∷ []) False
+    -- h, i
+    ∷ proof (pos 1 ∷ negsuc 1 ∷ []) (pos 1 ∷ pos 2 ∷ pos 0 ∷ []) (pos 2 ∷ pos 1 ∷ pos 2 ∷ pos 1 ∷ pos 0 ∷ []) (Refused (refusal NoConclusion 2))
+    ∷ proof (negsuc 0 ∷ []) (pos 1 ∷ pos 0 ∷ []) (pos 2 ∷ pos 1 ∷ pos 1 ∷ pos 0 ∷ []) (Accepted (record { 0 = 2 }) 1)
+    -- j, k
+    ∷ proof (negsuc 0 ∷ []) (pos 1 ∷ pos 0 ∷ negsuc 0 ∷ pos 0 ∷ []) (pos 1 ∷ pos 1 ∷ pos 2 ∷ pos 1 ∷ pos 0 ∷ []) (Refused (refusal WrongPivot 3))
+    ∷ proof
+    (pos 1 ∷ pos 2 ∷ [])
+    (pos 1 ∷ pos 2 ∷ pos 0 ∷ negsuc 0 ∷ negsuc 1 ∷ pos 0 ∷ [])
+    (pos 1 ∷ pos 1 ∷ pos 2 ∷ pos 1 ∷ pos 2 ∷ negsuc 1 ∷ pos 0 ∷ [])
+    (Refused (refusal Tautology 3))
+    -- l
+    ∷ row (negsuc 0 ∷ pos 2 ∷ []) (pos 1 ∷ pos 2 ∷ pos 0 ∷ negsuc 0 ∷ pos 2 ∷ pos 0 ∷ []) (pos 1) []
+    -- the reviewer's checklist: b with its second step's 4 made 3
+    ∷ proof examplePrefix exampleClauses (exampleSteps (pos 3)) (Refused (refusal Misstated 6))
+    ∷ []
+
+pub known-positions : AllAnswered knownPositions
+unfolding sameWord holds without firstClause closes readStep opposed lists covers states blocked judgeResolution judgeReduction judgeFirst run firstEmpty sizedVerdict verdictOf wordOf clausesOf isIn zeros prefixRefusal clausesRefusal tablesRefusal same after existentials holdsLiteral together joined literals reach member pair depends ℕ-discrete isUniversal rowBelow rowOf rowRefusal evaluationOf lost falsified satisfied
+known-positions =
+    ((refl, refl), (refl, ((refl, refl), ((refl, refl), (refl, ((refl, refl), (refl, (refl, (refl, (refl, (refl, (refl, (refl, (refl, ((refl, refl), (refl, tt))))))))))))))))

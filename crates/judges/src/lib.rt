@@ -1,0 +1,1 @@
+// What the two judges promise together: theorems alone, in specs/.
