@@ -1,0 +1,23 @@
+-- `print_first` prints a part that is as long as it says. Assumes nothing.
+use mathlib.Core.Path.{sym}
+use borrow.Author.Needs.{needs}
+use lib.Seq.{length-take-le}
+use Rattle.files.proofs.print_first.Statement.{statement}
+use Rattle.files.proofs.print_first.Tie as tie
+
+slice-aggregate-write-all : tie.Need-slice-aggregate-write-all
+slice-aggregate-write-all c =
+    let a = c .before .before .before .args in
+    sym (length-take-le (a .n) (a .text .now) (search needs))
+
+write-all-requires : tie.Need-write-all-requires
+write-all-requires c κs = search needs
+
+returns : tie.Need-returns
+returns c = search needs
+
+returns-2 : tie.Need-returns-2
+returns-2 c = search needs
+
+pub print-first-spec : {M : Type 1} → statement M
+print-first-spec = tie.close (tie.spec slice-aggregate-write-all write-all-requires returns returns-2)

@@ -1,0 +1,73 @@
+-- `dependency_lines` stores the text, clears what was lent and asks for room. Assumes nothing.
+use Prim.Native.Nat.{ℕ}
+use mathlib.Core.Path.{_≡_, ap, sym, _∙_}
+use lib.ListN.{length, replicate}
+use lib.IntN.{ℤ, pos}
+use Rattle.formula.specs.Clear.{clearFrom}
+use Rattle.report.specs.Dependents.{dependencyText}
+use Rattle.report.specs.Printing.Laws.{stored-prints}
+use borrow.Author.Needs.{needs}
+use Rattle.report.proofs.dependents.dependency_lines.Statement.{statement}
+use Rattle.report.proofs.dependents.dependency_lines.Tie as tie
+
+write-settled-requires : tie.Need-write-settled-requires
+write-settled-requires c κs = search needs
+
+clear-words-requires : tie.Need-clear-words-requires
+clear-words-requires c κs = search needs
+
+clear-words-requires-2 : tie.Need-clear-words-requires-2
+clear-words-requires-2 c κs = search needs
+
+clear-bytes-requires : tie.Need-clear-bytes-requires
+clear-bytes-requires c κs = search needs
+
+finish-requires : tie.Need-finish-requires
+finish-requires c κs = search needs
+
+same-length : tie.Need-same-length
+same-length c = search needs
+
+same-length-2 : tie.Need-same-length-2
+same-length-2 c = search needs
+
+same-length-3 : tie.Need-same-length-3
+same-length-3 c = search needs
+
+same-length-4 : tie.Need-same-length-4
+same-length-4 c = search needs
+
+returns : tie.Need-returns
+unfolding clearFrom
+returns c =
+    let scratch = c .before .before .before .before .before .before in
+    let clauses = scratch .before .before .before in
+    let prefix = clauses .before .before .before in
+    let wrote = prefix .before .before .before .before .before .before .before .before in
+    let a = wrote .before .before .before .before .before .before .before .before .args in
+    let printed = stored-prints {text = dependencyText (length (a .prefix .now)) (length (a .clauses .now)) (length (a .scratch .now)) (a .formula .now)} (wrote .write-settled .ensures) (c .before .before .finish .ensures) in
+    let p : length (wrote .write-settled .last .1 .0) ≡ length (a .prefix .now) = search needs in
+    let q : length (wrote .write-settled .last .1 .1 .0) ≡ length (a .clauses .now) = search needs in
+    let s : length (wrote .write-settled .last .1 .1 .1 .0) ≡ length (a .scratch .now) = search needs in
+    record {
+      answers = printed .answers;
+      prints = printed .prints;
+      prefix-cleared = prefix .clear-words .ensures ∙ ap (λ (n : ℕ). replicate n (pos 0)) p;
+      clauses-cleared = clauses .clear-words2 .ensures ∙ ap (λ (n : ℕ). replicate n (pos 0)) q;
+      scratch-cleared = scratch .clear-bytes .ensures ∙ ap (λ (n : ℕ). replicate n 0) s;
+    }
+
+pub dependency-lines-spec : {M : Type 1} → statement M
+dependency-lines-spec =
+    tie.close
+    (tie.spec
+    write-settled-requires
+    clear-words-requires
+    clear-words-requires-2
+    clear-bytes-requires
+    finish-requires
+    same-length
+    same-length-2
+    same-length-3
+    same-length-4
+    returns)

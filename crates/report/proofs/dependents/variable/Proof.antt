@@ -1,0 +1,61 @@
+-- `variable` answers a word's magnitude, by the cases of the word. Assumes nothing.
+use mathlib.Core.Path.{_≡_, sym, _∙_}
+use borrow.Author.Needs.{needs}
+use mir.Syntax.{w32}
+use mir.Val.{toZ, ofZ}
+use Rattle.formula.specs.Written.Words.{shows-zero, shows-positive, shows-negative, not-too-large}
+use Rattle.report.proofs.dependents.variable.Statement.{statement}
+use Rattle.report.proofs.dependents.variable.Tie as tie
+
+of-requires : tie.Need-of-requires
+of-requires c κs = search needs
+
+enum-told : tie.Need-enum-told
+enum-told c = search needs
+
+enum-told-2 : tie.Need-enum-told-2
+enum-told-2 c = search needs
+
+enum-known-v : tie.Need-enum-known-v
+enum-known-v c = search needs
+
+enum-known-v-2 : tie.Need-enum-known-v-2
+enum-known-v-2 c = search needs
+
+returns : tie.Need-returns
+returns c =
+    let z = c .before .before .before .args .word in
+    let e : toZ w32 (ofZ w32 z) ≡ z = search needs in
+    sym (shows-zero z (rw e at (sym (c .before .before .of .ensures) ∙ c .enum-told .given .1)) .variable-is)
+
+returns-2 : tie.Need-returns-2
+returns-2 c =
+    let s = c .before .before .before in
+    let e : toZ w32 (ofZ w32 (s .args .word)) ≡ s .args .word = search needs in
+    not-too-large (s .args .word) (s .pre) (rw e at (sym (c .before .before .of .ensures) ∙ c .enum-told2 .given .1))
+
+returns-3 : tie.Need-returns-3
+returns-3 c =
+    let z = c .before .before .before .before .args .word in
+    let e : toZ w32 (ofZ w32 z) ≡ z = search needs in
+    sym (shows-positive z (c .before .v .given .0 .0) (rw e at (sym (c .before .before .before .of .ensures) ∙ c .before .v .given .1)) .variable-is)
+
+returns-4 : tie.Need-returns-4
+returns-4 c =
+    let z = c .before .before .before .before .args .word in
+    let e : toZ w32 (ofZ w32 z) ≡ z = search needs in
+    sym (shows-negative z (c .before .v2 .given .0 .0) (rw e at (sym (c .before .before .before .of .ensures) ∙ c .before .v2 .given .1)) .variable-is)
+
+pub variable-spec : {M : Type 1} → statement M
+variable-spec =
+    tie.close
+    (tie.spec
+    of-requires
+    enum-told
+    enum-told-2
+    enum-known-v
+    enum-known-v-2
+    returns
+    returns-2
+    returns-3
+    returns-4)

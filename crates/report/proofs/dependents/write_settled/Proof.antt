@@ -1,0 +1,130 @@
+-- `write_settled` stores the refused line, or the lines for the used parts of the tables. Assumes nothing.
+use Prim.Native.Nat.{_≤_}
+use mathlib.Core.Path.{_≡_, ap, sym, _∙_}
+use mathlib.Core.List.{List}
+use lib.ListN.{length, take}
+use lib.Seq.{length-take-le}
+use lib.IntN.{ℤ}
+use Rattle.formula.specs.Text.{read, refused}
+use Rattle.formula.specs.declared.read.ReadAnswer.{ReadAnswer}
+use Rattle.report.specs.Line.{settled}
+use Rattle.report.specs.Settled.{tablesRead}
+use Rattle.report.specs.Listing.Laws.{text-refused, text-read, settled-admitted}
+use borrow.Author.Needs.{needs}
+use Rattle.report.proofs.dependents.write_settled.Statement.{statement}
+use Rattle.report.proofs.dependents.write_settled.Tie as tie
+
+abbrev start : tie.After-settle-formula → tie.Start
+start c = c .before .before .before .before .before .before
+
+-- the tables as they were filled
+abbrev prefix-at : tie.After-settle-formula → List ℤ
+prefix-at c = c .settle-formula .last .1 .0
+
+abbrev clauses-at : tie.After-settle-formula → List ℤ
+clauses-at c = c .settle-formula .last .1 .1 .0
+
+-- where they were read: the used parts are what was read, and are within the tables
+abbrev called : tie.After-known-told2 → tie.After-settle-formula
+called c = c .before .before .before .before .before
+
+settled-at :
+    (c : tie.After-known-told2) → let a = start (called c) .args in
+    settled (a .formula .now) (length (a .prefix .now)) (length (a .clauses .now))
+    ≡ read (take (c .before .prefix-used .given .0 .0) (prefix-at (called c))) (take (c .before .prefix-used .given .0 .1 .0) (clauses-at (called c))) (c .before .prefix-used .given .0 .1 .1 .0)
+settled-at c =
+    called c .settle-formula .ensures .settles
+    ∙ ap (λ (x : ReadAnswer). tablesRead x (prefix-at (called c)) (clauses-at (called c))) (c .before .prefix-used .given .1)
+
+within-at :
+    (c : tie.After-known-told2) → (c .before .prefix-used .given .0 .0 ≤ length (prefix-at (called c))) × (c .before .prefix-used .given .0 .1 .0 ≤ length (clauses-at (called c)))
+within-at c = let w = called c .settle-formula .ensures .within _ _ _ (c .before .prefix-used .given .1) in (w .0, w .1)
+
+settle-formula-requires : tie.Need-settle-formula-requires
+settle-formula-requires c κs = search needs
+
+enum-known-r : tie.Need-enum-known-r
+enum-known-r c = search needs
+
+refused-line-requires : tie.Need-refused-line-requires
+refused-line-requires c κs = search needs
+
+enum-known-prefix-used : tie.Need-enum-known-prefix-used
+enum-known-prefix-used c = search needs
+
+slice-reshare-prefix-write-tables : tie.Need-slice-reshare-prefix-write-tables
+slice-reshare-prefix-write-tables c = within-at c .0
+
+slice-aggregate-write-tables : tie.Need-slice-aggregate-write-tables
+slice-aggregate-write-tables c = let told = c .before in sym (length-take-le _ (prefix-at (called told)) (within-at told .0))
+
+slice-reshare-prefix-write-tables-2 : tie.Need-slice-reshare-prefix-write-tables-2
+slice-reshare-prefix-write-tables-2 c = within-at (c .before) .1
+
+slice-aggregate-write-tables-2 : tie.Need-slice-aggregate-write-tables-2
+slice-aggregate-write-tables-2 c = let told = c .before .before in sym (length-take-le _ (clauses-at (called told)) (within-at told .1))
+
+write-tables-requires : tie.Need-write-tables-requires
+write-tables-requires c κs =
+    let told = c .before .before .before .before in
+    let a = start (called told) .args in
+    settled-admitted (a .formula .now) (length (a .prefix .now)) (length (a .clauses .now)) _ _ _ (settled-at told)
+
+same-length : tie.Need-same-length
+same-length c = search needs
+
+same-length-2 : tie.Need-same-length-2
+same-length-2 c = search needs
+
+same-length-3 : tie.Need-same-length-3
+same-length-3 c = search needs
+
+returns : tie.Need-returns
+returns c =
+    let call = c .before .before .before .before .before .before .before .before .before in
+    let a = start call .args in
+    rw (text-refused (a .formula .now) (length (a .prefix .now)) (length (a .clauses .now)) (length (a .scratch .now)) (c .before .before .before .before .before .r .given .0 .0)
+    (call .settle-formula .ensures .settles ∙ ap (λ (x : ReadAnswer). tablesRead x (prefix-at call) (clauses-at call)) (c .before .before .before .before .before .r .given .1)))
+    (c .before .before .refused-line .ensures)
+
+same-length-4 : tie.Need-same-length-4
+same-length-4 c = search needs
+
+same-length-5 : tie.Need-same-length-5
+same-length-5 c = search needs
+
+same-length-6 : tie.Need-same-length-6
+same-length-6 c = search needs
+
+same-length-7 : tie.Need-same-length-7
+same-length-7 c = search needs
+
+returns-2 : tie.Need-returns-2
+returns-2 c =
+    let told = c .before .before .before .before .before .before .before .before .before in
+    let a = start (called told) .args in
+    rw (text-read (a .formula .now) (length (a .prefix .now)) (length (a .clauses .now)) _ _ _ (settled-at told) (length (a .scratch .now)))
+    (c .before .before .before .before .write-tables .ensures)
+
+pub write-settled-spec : {M : Type 1} → statement M
+write-settled-spec =
+    tie.close
+    (tie.spec
+    settle-formula-requires
+    enum-known-r
+    refused-line-requires
+    enum-known-prefix-used
+    slice-reshare-prefix-write-tables
+    slice-aggregate-write-tables
+    slice-reshare-prefix-write-tables-2
+    slice-aggregate-write-tables-2
+    write-tables-requires
+    same-length
+    same-length-2
+    same-length-3
+    returns
+    same-length-4
+    same-length-5
+    same-length-6
+    same-length-7
+    returns-2)

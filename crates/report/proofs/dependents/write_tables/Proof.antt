@@ -1,0 +1,47 @@
+-- `write_tables` refuses where scratch is too short, else stores the lines. Assumes nothing.
+use borrow.Author.Tests.{le-leb, lt-leb}
+use lib.ListN.{length}
+use Rattle.report.specs.Listing.{tablesText}
+use borrow.Author.Needs.{needs}
+use Rattle.report.proofs.dependents.write_tables.Statement.{statement}
+use Rattle.report.proofs.dependents.write_tables.Tie as tie
+
+refused-line-requires : tie.Need-refused-line-requires
+refused-line-requires c κs = search needs
+
+same-length : tie.Need-same-length
+same-length c = search needs
+
+returns : tie.Need-returns
+unfolding tablesText
+returns c =
+    let s = c .before .before .before .before .before .before .before in
+    rw (lt-leb 8200 (length (s .args .scratch .now)) (c .before .before .before .before .if1 .taken)) (c .before .before .refused-line .ensures)
+
+write-lines-requires : tie.Need-write-lines-requires
+write-lines-requires c κs = search needs
+
+same-length-2 : tie.Need-same-length-2
+same-length-2 c = search needs
+
+same-length-3 : tie.Need-same-length-3
+same-length-3 c = search needs
+
+returns-2 : tie.Need-returns-2
+unfolding tablesText
+returns-2 c =
+    let other = c .before .before .before .before .before .before .before in
+    let s = other .before .before .before in
+    rw (le-leb 8200 (length (s .args .scratch .now)) (other .if1 .left)) (c .before .before .before .before .write-lines .ensures)
+
+pub write-tables-spec : {M : Type 1} → statement M
+write-tables-spec =
+    tie.close
+    (tie.spec
+    refused-line-requires
+    same-length
+    returns
+    write-lines-requires
+    same-length-2
+    same-length-3
+    returns-2)

@@ -1,0 +1,49 @@
+-- `settle_formula` goes by the test on the file's length. Assumes nothing.
+use mathlib.Core.Path.{sym, _∙_}
+use Rattle.report.specs.Settled.Laws.{fit-within, fit-oversized, formula-oversized, formula-read}
+use borrow.Author.Needs.{needs}
+use Rattle.report.proofs.settle.settle_formula.Statement.{statement}
+use Rattle.report.proofs.settle.settle_formula.Tie as tie
+
+new-requires : tie.Need-new-requires
+new-requires c κs = search needs
+
+enum-told : tie.Need-enum-told
+enum-told c = search needs
+
+enum-told-2 : tie.Need-enum-told-2
+enum-told-2 c = search needs
+
+read-formula-requires : tie.Need-read-formula-requires
+read-formula-requires c κs = search needs
+
+returns : tie.Need-returns
+returns c =
+    let s = c .before .before .before .before in
+    formula-oversized (s .args .file .now) _ _ _ _ (fit-oversized _ _ (sym (c .before .before .new .ensures) ∙ c .enum-told .given .1))
+
+same-length : tie.Need-same-length
+same-length c = search needs
+
+same-length-2 : tie.Need-same-length-2
+same-length-2 c = search needs
+
+returns-2 : tie.Need-returns-2
+returns-2 c =
+    let read = c .before .before in
+    let told = read .before .before .before in
+    let s = told .before .before .before .before in
+    formula-read (s .args .file .now) _ _ _ _ _ (fit-within _ _ _ (sym (told .before .before .new .ensures) ∙ told .enum-told2 .given .1)) (read .read-formula .ensures)
+
+pub settle-formula-spec : {M : Type 1} → statement M
+settle-formula-spec =
+    tie.close
+    (tie.spec
+    new-requires
+    enum-told
+    enum-told-2
+    read-formula-requires
+    returns
+    same-length
+    same-length-2
+    returns-2)

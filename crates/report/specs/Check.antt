@@ -1,0 +1,72 @@
+-- The line of the first program (01, "Programs") from the bytes of its two files: the formula is settled before the proof file
+-- is looked at. Then the contract of `check_line`, with the claim that an `accepted` line is to be trusted for.
+use Prim.Native.Nat.{ℕ}
+use mathlib.Core.Path.{_≡_}
+use mathlib.Core.Bool.{Bool, true, false}
+use mathlib.Core.List.{List}
+use lib.ListN.{length, take, replicate}
+use lib.Dec.{leb}
+use lib.IntN.{ℤ, pos}
+use Rattle.qbf.specs.Play.{Lost}
+use Rattle.formula.specs.Decode.{formulaOf}
+use Rattle.formula.specs.Refusal.{refusal}
+use Rattle.formula.specs.declared.refusal.Refusal.{Refusal}
+use Rattle.formula.specs.declared.refusal.Reason.the-variants.{Oversized}
+use Rattle.formula.specs.Text.{Reading, read, refused, reading}
+use Rattle.checker.specs.ProofFile.{ProofReading, proofReading}
+use Rattle.checker.specs.ProofFile.{read as readSteps, refused as refusedFile}
+use Rattle.checker.specs.declared.verdict.Verdict.{Verdict}
+use Rattle.checker.specs.declared.verdict.Verdict.the-variants.{Accepted, Refused}
+use Rattle.checker.specs.Verdict.{verdictOf}
+use Rattle.report.specs.Line.{acceptedText, acceptedLine, refusedLine, fileBound, settled, used, held}
+
+-- The lengths of the buffers lent, in words and bytes.
+pub record Room : Type 0 where
+  pub prefix : ℕ
+  pub clauses : ℕ
+  pub steps : ℕ
+  pub scratch : ℕ
+  pub starts : ℕ
+
+abbrev pub verdictLine : (variables clauses : ℕ) → Verdict → List ℕ
+verdictLine variables clauses (Accepted empty steps) = acceptedLine variables clauses steps (empty .0)
+verdictLine variables clauses (Refused r) = refusedLine r
+
+-- The steps of the proof file are known, or it is turned away.
+abbrev pub stepsLine : Room → (prefix clauses : List ℤ) (count : ℕ) → ProofReading → List ℕ
+stepsLine room prefix clauses count (readSteps steps) =
+    verdictLine (length prefix) count (verdictOf prefix clauses steps (room .scratch) (room .starts))
+stepsLine room prefix clauses count (refusedFile r) = refusedLine r
+
+abbrev pub fileLine : Bool → List ℕ → List ℕ
+fileLine true later = later
+fileLine false later = refusedLine (refusal Oversized 0)
+
+-- The formula is settled; 2 on the proof file's length comes ahead of all else in it.
+abbrev pub proofLine : Room → (proof : List ℕ) → Reading → List ℕ
+proofLine room proof (read prefix clauses count) =
+    fileLine (leb (length proof) fileBound) (stepsLine room prefix clauses count (proofReading proof count (room .steps)))
+proofLine room proof (refused r) = refusedLine r
+
+unfoldable pub checkLine : Room → (formula proof : List ℕ) → List ℕ
+checkLine room formula proof = proofLine room proof (settled formula (room .prefix) (room .clauses))
+
+-- The text denotes a formula whose game is lost.
+pub record DenotesLost (room : Room) (formula : List ℕ) : Type 0 where
+  pub prefix : List ℤ
+  pub clauses : List ℤ
+  pub count : ℕ
+  pub denotes : reading formula (room .prefix) (room .clauses) ≡ read prefix clauses count
+  pub lost : Lost (formulaOf prefix clauses)
+
+-- What `check_line` promises. Its tables, scratch and starts end as zeros, each of its own length.
+pub record LineChecked (room : Room) (formula proof line line′ : List ℕ) (answer : ℕ) (prefix′ clauses′ steps′ : List ℤ) (scratch′ starts′ : List ℕ) : Type 0 where
+  pub answers : answer ≡ used (checkLine room formula proof) (length line)
+  pub prints : line′ ≡ held (checkLine room formula proof) (length line)
+  pub prefix-cleared : prefix′ ≡ replicate (room .prefix) (pos 0)
+  pub clauses-cleared : clauses′ ≡ replicate (room .clauses) (pos 0)
+  pub steps-cleared : steps′ ≡ replicate (room .steps) (pos 0)
+  pub scratch-cleared : scratch′ ≡ replicate (room .scratch) 0
+  pub starts-cleared : starts′ ≡ replicate (room .starts) 0
+  -- The headline: where the line is an `accepted` line, the text denotes a formula whose game is lost.
+  pub accepted-lost : take 9 line′ ≡ acceptedText → DenotesLost room formula

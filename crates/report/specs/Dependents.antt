@@ -1,0 +1,59 @@
+-- The lines of the second program (01, "Programs") from the bytes of its file: for each universal in prefix order its number, a
+-- colon, and its dependents in prefix order, a space before each; or the refused line. Bytes: 58 the colon.
+use Prim.Native.Nat.{ℕ}
+use mathlib.Core.Path.{_≡_}
+use mathlib.Core.Bool.{Bool, true, false}
+use mathlib.Core.List.{List, [], _∷_, _++_}
+use lib.ListN.{length, replicate}
+use lib.Dec.{leb}
+use lib.IntN.{ℤ, pos, negsuc, natAbs}
+use Rattle.qbf.specs.Formula.{Formula}
+use Rattle.qbf.specs.Dependency.{depends}
+use Rattle.formula.specs.Decimal.{decimal}
+use Rattle.formula.specs.Decode.{formulaOf}
+use Rattle.formula.specs.Refusal.{refusal}
+use Rattle.formula.specs.declared.refusal.Reason.the-variants.{NoRoom}
+use Rattle.formula.specs.Text.{Reading, read, refused}
+use Rattle.report.specs.Line.{refusedLine, settled, used, held}
+
+-- A dependent is printed with a space before it; a variable that is none is left out.
+abbrev pub ifDependent : Bool → ℕ → List ℕ
+ifDependent true e = 32 ∷ decimal e
+ifDependent false e = []
+
+unfoldable pub dependents : Formula → ℕ → List ℤ → List ℕ
+dependents F u [] = []
+dependents F u (w ∷ ws) = ifDependent (depends F u (natAbs w)) (natAbs w) ++ dependents F u ws
+
+unfoldable pub universalLine : Formula → List ℤ → ℕ → List ℕ
+universalLine F prefix u = decimal u ++ (58 ∷ (dependents F u prefix ++ (10 ∷ [])))
+
+-- An existential has no line of its own.
+abbrev pub entryLine : Formula → List ℤ → ℤ → List ℕ
+entryLine F prefix (pos v) = []
+entryLine F prefix (negsuc n) = universalLine F prefix (natAbs (negsuc n))
+
+-- The lines of the universals among the words, `prefix` being the whole prefix.
+unfoldable pub universalLines : Formula → List ℤ → List ℤ → List ℕ
+universalLines F prefix [] = []
+universalLines F prefix (w ∷ ws) = entryLine F prefix w ++ universalLines F prefix ws
+
+abbrev pub ifRoom : Bool → List ℕ → List ℕ
+ifRoom true later = later
+ifRoom false later = refusedLine (refusal NoRoom 0)
+
+-- The formula is settled; then 3 for scratch under 8,200 bytes, as for a row.
+abbrev pub linesOf : (scratch : ℕ) → Reading → List ℕ
+linesOf scratch (read prefix clauses count) = ifRoom (leb 8200 scratch) (universalLines (formulaOf prefix clauses) prefix prefix)
+linesOf scratch (refused r) = refusedLine r
+
+unfoldable pub dependencyText : (prefixRoom clauseRoom scratch : ℕ) (formula : List ℕ) → List ℕ
+dependencyText prefixRoom clauseRoom scratch formula = linesOf scratch (settled formula prefixRoom clauseRoom)
+
+-- What `dependency_lines` promises. Its tables and scratch end as zeros.
+pub record LinesPrinted (formula text text′ : List ℕ) (answer : ℕ) (prefix prefix′ clauses clauses′ : List ℤ) (scratch scratch′ : List ℕ) : Type 0 where
+  pub answers : answer ≡ used (dependencyText (length prefix) (length clauses) (length scratch) formula) (length text)
+  pub prints : text′ ≡ held (dependencyText (length prefix) (length clauses) (length scratch) formula) (length text)
+  pub prefix-cleared : prefix′ ≡ replicate (length prefix) (pos 0)
+  pub clauses-cleared : clauses′ ≡ replicate (length clauses) (pos 0)
+  pub scratch-cleared : scratch′ ≡ replicate (length scratch) 0

@@ -1,0 +1,62 @@
+-- The lines of the programs (01, "Programs"): `accepted V C steps empty` and `refused number word place`, each ended by LF, with
+-- single spaces. Bytes: 10 LF, 32 space. Then what a file is settled as, and what a lent buffer holds at the end.
+use Prim.Native.Nat.{ℕ, _-_}
+use mathlib.Core.Bool.{Bool, true, false}
+use mathlib.Core.List.{List, [], _∷_, _++_}
+use lib.ListN.{length, replicate}
+use lib.Dec.{leb}
+use Rattle.formula.specs.Decimal.{decimal}
+use Rattle.formula.specs.Refusal.{refusal, number, word}
+use Rattle.formula.specs.declared.refusal.Refusal.{Refusal}
+use Rattle.formula.specs.declared.refusal.Reason.the-variants.{Oversized}
+use Rattle.formula.specs.Text.{Reading, refused, reading}
+
+-- `accepted `
+abbrev pub acceptedText : List ℕ
+acceptedText = 97 ∷ 99 ∷ 99 ∷ 101 ∷ 112 ∷ 116 ∷ 101 ∷ 100 ∷ 32 ∷ []
+
+-- `refused `
+abbrev pub refusedText : List ℕ
+refusedText = 114 ∷ 101 ∷ 102 ∷ 117 ∷ 115 ∷ 101 ∷ 100 ∷ 32 ∷ []
+
+-- A number and the space behind it; the last number and LF.
+abbrev pub spaced : ℕ → List ℕ
+spaced n = decimal n ++ (32 ∷ [])
+
+abbrev pub last : ℕ → List ℕ
+last n = decimal n ++ (10 ∷ [])
+
+-- V is the number of variables in the prefix, C that of input clauses; `empty` is the first empty clause's number.
+unfoldable pub acceptedLine : (variables clauses steps empty : ℕ) → List ℕ
+acceptedLine variables clauses steps empty = acceptedText ++ (spaced variables ++ (spaced clauses ++ (spaced steps ++ last empty)))
+
+unfoldable pub refusedLine : Refusal → List ℕ
+refusedLine r = refusedText ++ (spaced (number (r .reason)) ++ (word (r .reason) ++ (32 ∷ last (r .place))))
+
+-- The largest file that a program takes, in bytes.
+abbrev pub fileBound : ℕ
+fileBound = 65536
+
+abbrev pub ifWithin : Bool → Reading → Reading
+ifWithin true later = later
+ifWithin false later = refused (refusal Oversized 0)
+
+-- What the formula's file is read as: 2 on the file's length comes ahead of all else in it.
+unfoldable pub settled : List ℕ → (prefixRoom clauseRoom : ℕ) → Reading
+settled file prefixRoom clauseRoom = ifWithin (leb (length file) fileBound) (reading file prefixRoom clauseRoom)
+
+-- How many bytes of a buffer are used for a text, and what it then holds: the text and zeros; where there is no room for the
+-- text, none, and zeros alone.
+abbrev pub usedFor : Bool → List ℕ → ℕ
+usedFor true text = length text
+usedFor false text = 0
+
+abbrev pub heldFor : Bool → List ℕ → ℕ → List ℕ
+heldFor true text room = text ++ replicate (room - length text) 0
+heldFor false text room = replicate room 0
+
+abbrev pub used : List ℕ → ℕ → ℕ
+used text room = usedFor (leb (length text) room) text
+
+abbrev pub held : List ℕ → ℕ → List ℕ
+held text room = heldFor (leb (length text) room) text room

@@ -1,0 +1,27 @@
+-- The end of a printing: what `finish` answers and leaves, given the place behind what was written. Laws are in
+-- Printing/Laws.antt: a text stored from the start and finished is printed.
+pub mod Laws
+pub mod Examples
+use Prim.Native.Nat.{ℕ}
+use mathlib.Core.Path.{_≡_}
+use mathlib.Core.Bool.{Bool, true, false}
+use mathlib.Core.List.{List}
+use lib.ListN.{length}
+use lib.Dec.{leb}
+use Rattle.formula.specs.Clear.{clearFrom}
+use Rattle.report.specs.Line.{used, held}
+
+-- The bytes kept, by the test of room.
+abbrev pub kept : Bool → ℕ → ℕ
+kept true n = n
+kept false n = 0
+
+-- `n` is the place behind what was written.
+pub record Finishes (buffer : List ℕ) (n answer : ℕ) (after : List ℕ) : Type 0 where
+  pub answers : answer ≡ kept (leb n (length buffer)) n
+  pub leaves : after ≡ clearFrom 0 (kept (leb n (length buffer)) n) buffer
+
+-- A text is printed into a buffer of `room` bytes.
+pub record Prints (room : ℕ) (text : List ℕ) (answer : ℕ) (after : List ℕ) : Type 0 where
+  pub answers : answer ≡ used text room
+  pub prints : after ≡ held text room

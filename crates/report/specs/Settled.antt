@@ -1,0 +1,54 @@
+-- What the two files are settled as, read off the tables that were filled from them: the contracts of `settle_formula` and
+-- `settle_proof`. Laws are in Settled/Laws.antt.
+pub mod Laws
+use Prim.Native.Nat.{ℕ, _≤_}
+use mathlib.Core.Path.{_≡_}
+use mathlib.Core.Bool.{Bool, true, false}
+use mathlib.Core.List.{List}
+use lib.ListN.{length, take}
+use lib.Dec.{leb}
+use lib.IntN.{ℤ}
+use Rattle.formula.specs.Bounds.{countBound}
+use Rattle.formula.specs.Refusal.{refusal}
+use Rattle.formula.specs.Text.{Reading, read, refused}
+use Rattle.formula.specs.declared.read.ReadAnswer.{ReadAnswer}
+use Rattle.formula.specs.declared.read.ReadAnswer.the-variants.{Read, Refused}
+use Rattle.formula.specs.declared.refusal.Reason.the-variants.{Oversized}
+use Rattle.checker.specs.ProofFile.{ProofReading, proofReading}
+use Rattle.checker.specs.ProofFile.{read as readSteps, refused as refusedFile}
+use Rattle.checker.specs.declared.file.ProofAnswer.{ProofAnswer}
+use Rattle.checker.specs.declared.file.ProofAnswer.the-variants.{Read as ReadSteps, Refused as RefusedFile}
+use Rattle.report.specs.Line.{fileBound, settled}
+use Rattle.report.specs.declared.settle.FileFit.{FileFit}
+use Rattle.report.specs.declared.settle.FileFit.the-variants.{Within as FileWithin, Oversized as FileOversized}
+
+abbrev pub fileFit : Bool → ℕ → FileFit
+fileFit true n = FileWithin (record { 0 = n })
+fileFit false n = FileOversized
+
+-- What the answer and the tables tell of the formula's file: the words of the used parts, and C.
+abbrev pub tablesRead : ReadAnswer → (prefix clauses : List ℤ) → Reading
+tablesRead (Read p c count) prefix clauses = read (take p prefix) (take c clauses) count
+tablesRead (Refused r) prefix clauses = refused r
+
+-- What `settle_formula` promises.
+pub record FormulaSettled (file : List ℕ) (prefixRoom clauseRoom : ℕ) (prefix clauses : List ℤ) (answer : ReadAnswer) : Type 0 where
+  pub settles : settled file prefixRoom clauseRoom ≡ tablesRead answer prefix clauses
+  pub within : (p c count : ℕ) → answer ≡ Read p c count → (p ≤ length prefix) × (c ≤ length clauses) × (count ≤ countBound)
+
+-- What the proof file is read as: 2 on the file's length comes ahead of all else in it.
+abbrev pub ifProofWithin : Bool → ProofReading → ProofReading
+ifProofWithin true later = later
+ifProofWithin false later = refusedFile (refusal Oversized 0)
+
+unfoldable pub settledProof : List ℕ → (count room : ℕ) → ProofReading
+settledProof file count room = ifProofWithin (leb (length file) fileBound) (proofReading file count room)
+
+abbrev pub stepsRead : ProofAnswer → List ℤ → ProofReading
+stepsRead (ReadSteps n) steps = readSteps (take n steps)
+stepsRead (RefusedFile r) steps = refusedFile r
+
+-- What `settle_proof` promises.
+pub record ProofSettled (file : List ℕ) (count room : ℕ) (steps : List ℤ) (answer : ProofAnswer) : Type 0 where
+  pub settles : settledProof file count room ≡ stepsRead answer steps
+  pub within : (n : ℕ) → answer ≡ ReadSteps n → n ≤ length steps

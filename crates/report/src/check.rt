@@ -1,0 +1,138 @@
+// The first program: from the bytes of its two files to its line. The formula is settled before the proof file is looked at.
+use crate::line::accepted_line;
+use crate::line::finish;
+use crate::line::refused_line;
+use crate::settle::settle_formula;
+use crate::settle::settle_proof;
+use checker::file::ProofAnswer;
+use checker::proof::check_proof;
+use checker::verdict::Verdict;
+use formula::clear::clear_bytes;
+use formula::clear::clear_numbers;
+use formula::clear::clear_words;
+use formula::read::ReadAnswer;
+ghost use Prim.Native.Nat.{_≤_};
+ghost use lib.ListN.{length};
+ghost use Rattle.formula.specs.Bounds.{countBound};
+ghost use Rattle.formula.specs.Store.{Stores};
+ghost use Rattle.checker.specs.Verdict.{verdictOf};
+ghost use Rattle.report.specs.Check.{verdictLine, checkLine, LineChecked};
+ghost use Rattle.report.specs.Checking.{lent, provedLine};
+ghost use Rattle.report.specs.Settled.{settledProof};
+
+// The line of a verdict, V and C being the formula's.
+fn verdict_line(line: &mut [u8], variables: usize, count: usize, verdict: Verdict) -> usize
+    ensures { λ r. ⌜ Stores (now (line .entry)) 0 (verdictLine variables count verdict) (now (line .exit)) r ⌝ }
+{
+    match verdict {
+        Verdict::Accepted { empty, steps } => accepted_line(line, variables, count, steps, empty.0),
+        Verdict::Refused(r) => refused_line(line, r),
+    }
+}
+
+// The line for steps that were read: the verdict on them. `count` is C.
+fn judged_line<'a>(
+    prefix: &[i32],
+    clauses: &'a [i32],
+    count: usize,
+    steps: &'a [i32],
+    scratch: &mut [u8],
+    starts: &mut [u32],
+    line: &mut [u8],
+) -> usize
+    ensures { λ r. ⌜ Stores (now (line .entry)) 0 (verdictLine (length (now (prefix .entry))) count (verdictOf (now (prefix .entry)) (now (clauses .entry)) (now (steps .entry)) (length (now (scratch .entry))) (length (now (starts .entry))))) (now (line .exit)) r ⌝ }
+{
+    let verdict = check_proof(prefix, clauses, steps, scratch, starts);
+    verdict_line(line, prefix.len(), count, verdict)
+}
+
+// The line for a formula that was read: the proof file is settled, then judged.
+fn proof_line(
+    proof: &[u8],
+    prefix: &[i32],
+    clauses: &[i32],
+    count: usize,
+    steps: &mut [i32],
+    scratch: &mut [u8],
+    starts: &mut [u32],
+    line: &mut [u8],
+) -> usize
+    requires { ⌜ count ≤ countBound ⌝ }
+    ensures { λ r. ⌜ Stores (now (line .entry)) 0 (provedLine (length (now (scratch .entry))) (length (now (starts .entry))) (now (prefix .entry)) (now (clauses .entry)) count (settledProof (now (proof .entry)) count (length (now (steps .entry))))) (now (line .exit)) r ⌝ }
+{
+    match settle_proof(proof, count as u32, steps) {
+        ProofAnswer::Refused(r) => refused_line(line, r),
+        ProofAnswer::Read(n) => judged_line(
+            prefix,
+            clauses,
+            count,
+            &steps[..n],
+            scratch,
+            starts,
+            line,
+        ),
+    }
+}
+
+// The line for the two files. The buffers are left as the parts leave them.
+fn files_line(
+    formula: &[u8],
+    proof: &[u8],
+    prefix: &mut [i32],
+    clauses: &mut [i32],
+    steps: &mut [i32],
+    scratch: &mut [u8],
+    starts: &mut [u32],
+    line: &mut [u8],
+) -> usize
+    ensures { λ r. ⌜ Stores (now (line .entry)) 0 (checkLine (lent (now (prefix .entry)) (now (clauses .entry)) (now (steps .entry)) (now (scratch .entry)) (now (starts .entry))) (now (formula .entry)) (now (proof .entry))) (now (line .exit)) r ⌝ }
+{
+    match settle_formula(formula, prefix, clauses) {
+        ReadAnswer::Refused(r) => refused_line(line, r),
+        ReadAnswer::Read {
+            prefix_used,
+            clauses_used,
+            clauses: count,
+        } => proof_line(
+            proof,
+            &prefix[..prefix_used],
+            &clauses[..clauses_used],
+            count,
+            steps,
+            scratch,
+            starts,
+            line,
+        ),
+    }
+}
+
+// Prints the line of the first program and answers its length, 0 where it does not fit. Every other buffer ends as 0.
+pub fn check_line(
+    formula: &[u8],
+    proof: &[u8],
+    prefix: &mut [i32],
+    clauses: &mut [i32],
+    steps: &mut [i32],
+    scratch: &mut [u8],
+    starts: &mut [u32],
+    line: &mut [u8],
+) -> usize
+    ensures { λ r. ⌜ LineChecked (lent (now (prefix .entry)) (now (clauses .entry)) (now (steps .entry)) (now (scratch .entry)) (now (starts .entry))) (now (formula .entry)) (now (proof .entry)) (now (line .entry)) (now (line .exit)) r (now (prefix .exit)) (now (clauses .exit)) (now (steps .exit)) (now (scratch .exit)) (now (starts .exit)) ⌝ }
+{
+    let end = files_line(
+        formula,
+        proof,
+        prefix,
+        clauses,
+        steps,
+        scratch,
+        starts,
+        line,
+    );
+    clear_words(prefix, 0);
+    clear_words(clauses, 0);
+    clear_words(steps, 0);
+    clear_bytes(scratch, 0);
+    clear_numbers(starts, 0);
+    finish(line, end)
+}
