@@ -1,0 +1,268 @@
+//! Seeded inputs for every entry, short and long, valid and damaged. Here: the generator of numbers,
+//! formulas drawn by shape, and what an input is. The files below draw each kind of input.
+
+pub mod derive;
+mod edges;
+mod files;
+mod proofs;
+mod tables;
+mod texts;
+
+use std::fmt;
+
+use crate::reference::{MAX_CLAUSES, MAX_CLAUSE_WORDS, MAX_VARIABLE};
+
+pub use edges::edges;
+
+/// Marsaglia's xorshift, multiplied at the end.
+pub struct Random(u64);
+
+impl Random {
+    pub fn new(seed: u64) -> Random {
+        Random(seed.wrapping_mul(0x9e37_79b9_7f4a_7c15) | 1)
+    }
+
+    pub fn next(&mut self) -> u64 {
+        self.0 ^= self.0 >> 12;
+        self.0 ^= self.0 << 25;
+        self.0 ^= self.0 >> 27;
+        self.0.wrapping_mul(0x2545_f491_4f6c_dd1d)
+    }
+
+    pub fn below(&mut self, bound: usize) -> usize {
+        (((self.next() >> 32) * bound as u64) >> 32) as usize
+    }
+
+    /// A number from `low` to `high`, both included.
+    pub fn between(&mut self, low: usize, high: usize) -> usize {
+        low + self.below(high - low + 1)
+    }
+
+    pub fn one_in(&mut self, count: usize) -> bool {
+        self.below(count) == 0
+    }
+
+    pub fn pick<T: Clone>(&mut self, choices: &[T]) -> T {
+        choices[self.below(choices.len())].clone()
+    }
+
+    pub fn shuffle<T>(&mut self, items: &mut [T]) {
+        for place in (1..items.len()).rev() {
+            items.swap(place, self.below(place + 1));
+        }
+    }
+}
+
+#[derive(Clone, Debug, PartialEq, Eq)]
+pub struct Tables {
+    pub prefix: Vec<i32>,
+    pub clauses: Vec<i32>,
+}
+
+/// What a random formula looks like.
+#[derive(Clone, Debug)]
+pub struct Shape {
+    pub variables: usize,
+    /// The largest variable number, at least the number of variables.
+    pub largest: usize,
+    /// How many of 8 variables are universal.
+    pub universal: usize,
+    pub clauses: usize,
+    pub shortest: usize,
+    pub longest: usize,
+}
+
+impl Shape {
+    pub fn small(random: &mut Random) -> Shape {
+        let variables = random.below(9);
+        Shape {
+            variables,
+            largest: random.pick(&[variables, variables + 3, MAX_VARIABLE]),
+            universal: random.below(9),
+            clauses: random.below(14),
+            shortest: random.pick(&[0, 1, 1, 2]),
+            longest: random.between(2, 5),
+        }
+    }
+
+    /// Few variables and many short clauses, so that games are lost and proofs end.
+    pub fn tight(random: &mut Random) -> Shape {
+        let variables = random.between(2, 8);
+        Shape {
+            variables,
+            largest: variables,
+            universal: random.between(1, 5),
+            clauses: random.between(2, 4 * variables),
+            shortest: random.pick(&[1, 2, 2]),
+            longest: random.between(2, 4),
+        }
+    }
+
+    pub fn middling(random: &mut Random) -> Shape {
+        let variables = random.between(10, 120);
+        Shape {
+            variables,
+            largest: random.pick(&[variables, MAX_VARIABLE]),
+            universal: random.between(1, 7),
+            clauses: random.between(5, 300),
+            shortest: 1,
+            longest: random.between(3, 12),
+        }
+    }
+
+    pub fn large(random: &mut Random) -> Shape {
+        let longest = random.between(4, 60);
+        Shape {
+            variables: MAX_VARIABLE,
+            largest: MAX_VARIABLE,
+            universal: random.between(1, 7),
+            clauses: MAX_CLAUSES.min(MAX_CLAUSE_WORDS / (longest + 1)),
+            shortest: 1,
+            longest,
+        }
+    }
+
+    pub fn any(random: &mut Random) -> Shape {
+        match random.below(1000) {
+            0 => Shape::large(random),
+            1..=40 => Shape::middling(random),
+            41..=400 => Shape::tight(random),
+            _ => Shape::small(random),
+        }
+    }
+
+    pub fn tables(&self, random: &mut Random) -> Tables {
+        let mut numbers: Vec<i32> = (1..=self.largest as i32).collect();
+        random.shuffle(&mut numbers);
+        numbers.truncate(self.variables);
+        if random.one_in(3) {
+            numbers.sort();
+        }
+        let prefix: Vec<i32> = numbers
+            .iter()
+            .map(|&v| {
+                if random.below(8) < self.universal {
+                    -v
+                } else {
+                    v
+                }
+            })
+            .collect();
+        let mut clauses = Vec::new();
+        for _ in 0..self.clauses {
+            let length = random.between(self.shortest, self.longest);
+            push_clause(random, &mut numbers, length, &mut clauses);
+        }
+        Tables { prefix, clauses }
+    }
+}
+
+/// Appends a clause of distinct variables among these, shuffling some of them to the front.
+fn push_clause(random: &mut Random, numbers: &mut [i32], length: usize, clauses: &mut Vec<i32>) {
+    for place in 0..length.min(numbers.len()) {
+        numbers.swap(place, random.between(place, numbers.len() - 1));
+        let sign = random.pick(&[1, -1]);
+        clauses.push(sign * numbers[place]);
+    }
+    clauses.push(0);
+}
+
+/// One input of one entry, with the lengths of the buffers lent.
+#[derive(Clone, PartialEq, Eq)]
+pub enum Case {
+    CheckTables {
+        tables: Tables,
+    },
+    Read {
+        text: Vec<u8>,
+        prefix_room: usize,
+        clause_room: usize,
+    },
+    Write {
+        tables: Tables,
+        room: usize,
+    },
+    Row {
+        tables: Tables,
+        variable: i32,
+        row_room: usize,
+        scratch_room: usize,
+    },
+    ReadProof {
+        file: Vec<u8>,
+        clause_count: u32,
+        room: usize,
+    },
+    Check {
+        tables: Tables,
+        steps: Vec<i32>,
+        scratch_room: usize,
+        starts_room: usize,
+    },
+    Evaluate {
+        tables: Tables,
+    },
+}
+
+impl fmt::Display for Case {
+    fn fmt(&self, f: &mut fmt::Formatter) -> fmt::Result {
+        match self {
+            Case::CheckTables { tables } | Case::Evaluate { tables } => write!(f, "{tables}"),
+            Case::Read {
+                text,
+                prefix_room,
+                clause_room,
+            } => {
+                writeln!(f, "text b\"{}\"", text.escape_ascii())?;
+                write!(f, "room for {prefix_room} and {clause_room} words")
+            }
+            Case::Write { tables, room } => write!(f, "{tables}\nroom for {room} bytes"),
+            Case::Row {
+                tables,
+                variable,
+                row_room,
+                scratch_room,
+            } => {
+                writeln!(f, "{tables}\nvariable {variable}")?;
+                write!(f, "row of {row_room} bytes, scratch of {scratch_room}")
+            }
+            Case::ReadProof {
+                file,
+                clause_count,
+                room,
+            } => {
+                writeln!(f, "file {file:?}")?;
+                write!(f, "{clause_count} clauses, room for {room} words")
+            }
+            Case::Check {
+                tables,
+                steps,
+                scratch_room,
+                starts_room,
+            } => {
+                writeln!(f, "{tables}\nsteps {steps:?}")?;
+                write!(f, "scratch of {scratch_room} bytes, {starts_room} starts")
+            }
+        }
+    }
+}
+
+impl fmt::Display for Tables {
+    fn fmt(&self, f: &mut fmt::Formatter) -> fmt::Result {
+        write!(f, "prefix {:?}\nclauses {:?}", self.prefix, self.clauses)
+    }
+}
+
+/// Some inputs of one kind, drawn together where they share a formula.
+pub fn batch(random: &mut Random) -> Vec<Case> {
+    match random.below(16) {
+        0 => tables::tables_batch(random),
+        1 => texts::cut_texts(random),
+        2..=5 => texts::text_batch(random),
+        6 => tables::write_batch(random),
+        7..=8 => tables::row_batch(random),
+        9 => files::file_batch(random),
+        10..=14 => proofs::proof_batch(random),
+        _ => tables::game_batch(random),
+    }
+}

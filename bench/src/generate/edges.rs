@@ -1,0 +1,167 @@
+//! The inputs at each bound and one past it.
+
+use super::derive::long_derivation;
+use super::proofs::check_case;
+use super::texts::{spell, tokens};
+use super::{push_clause, Case, Random, Shape, Tables};
+use crate::reference::file::write_proof;
+use crate::reference::{
+    MAX_CLAUSES, MAX_CLAUSE_WORDS, MAX_STEP_WORDS, MAX_TEXT, MAX_VARIABLE, SCRATCH_BYTES,
+};
+
+pub fn edges(random: &mut Random) -> Vec<Case> {
+    let mut cases = Vec::new();
+    for tables in edge_tables(random) {
+        cases.push(Case::CheckTables {
+            tables: tables.clone(),
+        });
+        cases.push(Case::Write {
+            tables: tables.clone(),
+            room: 400_000,
+        });
+        cases.push(Case::Evaluate {
+            tables: tables.clone(),
+        });
+        for variable in [1, 1024] {
+            cases.push(Case::Row {
+                tables: tables.clone(),
+                variable,
+                row_room: 2000,
+                scratch_room: SCRATCH_BYTES,
+            });
+        }
+        let plain: Vec<String> = tokens(random, &tables);
+        cases.push(Case::Read {
+            text: spell(random, &plain),
+            prefix_room: MAX_VARIABLE,
+            clause_room: MAX_CLAUSE_WORDS + 1,
+        });
+        for room in [SCRATCH_BYTES, SCRATCH_BYTES - 1] {
+            cases.push(Case::Check {
+                tables: tables.clone(),
+                steps: vec![1, 1, 2, 1, 0],
+                scratch_room: room,
+                starts_room: MAX_CLAUSES + 1,
+            });
+        }
+    }
+    cases.extend(edge_texts());
+    cases.extend(edge_proofs(random));
+    cases
+}
+
+/// Tables at each bound, one past it, and with a fault found only after all of it.
+fn edge_tables(random: &mut Random) -> Vec<Tables> {
+    let full: Vec<i32> = (1..=1024)
+        .map(|v| if random.one_in(2) { -v } else { v })
+        .collect();
+    let mut over = full.clone();
+    over.push(3);
+    let mut words = Vec::new();
+    let mut numbers: Vec<i32> = (1..=1024).collect();
+    for _ in 0..MAX_CLAUSES {
+        push_clause(random, &mut numbers, 7, &mut words);
+    }
+    let mut longer = words.clone();
+    longer.insert(0, 1);
+    let mut unclosed = words.clone();
+    unclosed[MAX_CLAUSE_WORDS - 1] = words[MAX_CLAUSE_WORDS - 9 - 7];
+    let mut late_clash = words.clone();
+    late_clash[MAX_CLAUSE_WORDS - 2] = -words[MAX_CLAUSE_WORDS - 8];
+    let mut wide: Vec<i32> = (1..=1024).collect();
+    let mut wide_clash = wide.clone();
+    wide.push(0);
+    wide_clash.push(-1);
+    let all = [
+        (&full, words),
+        (&full, longer),
+        (&full, unclosed),
+        (&full, late_clash),
+        (&full, wide),
+        (&full, wide_clash),
+        (&full, vec![0; MAX_CLAUSES]),
+        (&full, vec![0; MAX_CLAUSES + 1]),
+        (&over, vec![]),
+        (&over, vec![0]),
+    ];
+    all.map(|(prefix, clauses)| Tables {
+        prefix: prefix.clone(),
+        clauses,
+    })
+    .to_vec()
+}
+
+fn edge_texts() -> Vec<Case> {
+    let mut texts = Vec::new();
+    for length in [MAX_TEXT - 1, MAX_TEXT, MAX_TEXT + 1] {
+        for head in ["", "p cnf 3 0 e 3 0", "c no line end", "c line\np cnf 1 1 "] {
+            let mut text = head.as_bytes().to_vec();
+            text.resize(length, b' ');
+            texts.push(text);
+        }
+        let mut digits = b"p cnf 3 1 e 1 0 ".to_vec();
+        digits.resize(length, b'7');
+        texts.push(digits);
+    }
+    let short = "1 0 ".repeat(MAX_CLAUSES - 92);
+    texts.push(format!("p cnf 2 8192 e 1 0\n{short}").into_bytes());
+    // Clause words up to the bound, and then each kind of token beyond it.
+    let mut full = String::from("p cnf 1024 8192 e");
+    for variable in 1..=1023 {
+        full += &format!(" {variable}");
+    }
+    full += " 0\n";
+    let widest = full[full.find('e').unwrap_or(0) + 2..].to_string();
+    full += &widest.repeat(MAX_CLAUSE_WORDS / 1024);
+    for tail in ["", "1", "0", "1024", "1025", "-1025", "x", "a"] {
+        texts.push([full.as_bytes(), tail.as_bytes()].concat());
+    }
+    texts
+        .into_iter()
+        .flat_map(|text| {
+            [MAX_CLAUSE_WORDS, MAX_CLAUSE_WORDS + 9, 5].map(|clause_room| Case::Read {
+                text: text.clone(),
+                prefix_room: MAX_VARIABLE,
+                clause_room,
+            })
+        })
+        .collect()
+}
+
+fn edge_proofs(random: &mut Random) -> Vec<Case> {
+    let mut cases = Vec::new();
+    for words in [MAX_STEP_WORDS, MAX_STEP_WORDS + 1] {
+        let steps: Vec<i32> = (0..words).map(|_| random.next() as i32).collect();
+        for (clause_count, room) in [(3, words), (3, MAX_STEP_WORDS - 1), (4, words)] {
+            cases.push(Case::ReadProof {
+                file: write_proof(b"a note", &steps, 3),
+                clause_count,
+                room,
+            });
+        }
+    }
+    // The shortest steps, as many as fit, on clauses that give the empty clause at once.
+    let tables = Tables {
+        prefix: vec![1, -2],
+        clauses: vec![1, 0, -1, 0, 2, 0],
+    };
+    let step = [2, 3, 2, 0];
+    for words in [MAX_STEP_WORDS, MAX_STEP_WORDS + 1] {
+        let steps: Vec<i32> = step.iter().copied().cycle().take(words).collect();
+        for starts_room in [MAX_STEP_WORDS, 3 + words / 4, 2 + words / 4, 2] {
+            cases.push(Case::Check {
+                tables: tables.clone(),
+                steps: steps.clone(),
+                scratch_room: SCRATCH_BYTES,
+                starts_room,
+            });
+        }
+    }
+    let mut shape = Shape::large(random);
+    shape.longest = 9;
+    shape.clauses = 6000;
+    let tables = shape.tables(random);
+    let steps = long_derivation(random, &tables, 60_000, 30, 12);
+    cases.push(check_case(random, &tables, steps));
+    cases
+}

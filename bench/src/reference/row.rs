@@ -1,0 +1,279 @@
+//! Dependency rows. A search along resolution paths from a literal of the universal variable visits
+//! each clause at most twice: the first entry reaches every literal but itself, a second one that too.
+
+use super::tables::{check_tables, Counts};
+use super::{literal_index, Reason, Refusal, LITERALS, ROW_BYTES, SCRATCH_BYTES};
+
+pub type Row = [u8; ROW_BYTES];
+
+/// The row of a universal variable, for buffers of so many bytes.
+pub fn row(
+    prefix: &[i32],
+    clauses: &[i32],
+    variable: i32,
+    row_room: usize,
+    scratch_room: usize,
+) -> Result<Row, Refusal> {
+    let counts = check_tables(prefix, clauses)?;
+    if variable <= 0 || !prefix.contains(&-variable) {
+        return Err(Reason::NotUniversal.at(0));
+    }
+    if row_room < ROW_BYTES || scratch_room < SCRATCH_BYTES {
+        return Err(Reason::NoRoom.at(0));
+    }
+    Ok(Occurrences::of(clauses, counts).row(prefix, variable))
+}
+
+/// The same row by passes over the clause words until nothing changes. It needs no occurrences and is the
+/// faster way to a single row of a dense formula; a long chain of clauses can cost it a pass a link.
+pub fn row_by_passes(prefix: &[i32], clauses: &[i32], variable: i32) -> Result<Row, Refusal> {
+    check_tables(prefix, clauses)?;
+    if variable <= 0 || !prefix.contains(&-variable) {
+        return Err(Reason::NotUniversal.at(0));
+    }
+    let scope = Scope::of(prefix, variable);
+    Ok(scope.row(variable, |start| reached_by_passes(clauses, start, &scope)))
+}
+
+/// The existential variables right of a universal one.
+struct Scope {
+    variables: Vec<i32>,
+    holds: [bool; ROW_BYTES],
+}
+
+impl Scope {
+    fn of(prefix: &[i32], variable: i32) -> Scope {
+        let place = prefix.iter().position(|&word| word == -variable);
+        let right = &prefix[place.map_or(prefix.len(), |place| place + 1)..];
+        let variables: Vec<i32> = right.iter().copied().filter(|&word| word > 0).collect();
+        let mut holds = [false; ROW_BYTES];
+        for &word in &variables {
+            holds[word as usize] = true;
+        }
+        Scope { variables, holds }
+    }
+
+    fn holds(&self, literal: i32) -> bool {
+        self.holds[literal.unsigned_abs() as usize]
+    }
+
+    /// The row, from the literals of the scope that paths reach from each literal of the variable.
+    fn row(&self, variable: i32, reached: impl Fn(i32) -> [bool; LITERALS]) -> Row {
+        let (positive, negative) = (reached(variable), reached(-variable));
+        let mut row = [0; ROW_BYTES];
+        for &word in &self.variables {
+            let (yes, no) = (literal_index(word), literal_index(-word));
+            let straight = positive[yes] && negative[no];
+            let crossed = positive[no] && negative[yes];
+            row[word as usize] = u8::from(straight || crossed);
+        }
+        row
+    }
+}
+
+fn reached_by_passes(clauses: &[i32], start: i32, scope: &Scope) -> [bool; LITERALS] {
+    let mut reached = [false; LITERALS];
+    let mut entries = [false; LITERALS];
+    entries[literal_index(start)] = true;
+    let mut left = 2 * scope.variables.len();
+    let mut before = usize::MAX;
+    while left > 0 && left < before {
+        before = left;
+        for clause in clauses.split(|&word| word == 0) {
+            let is_entry = |literal: &&i32| entries[literal_index(**literal)];
+            let mut entered = clause.iter().filter(is_entry);
+            let Some(&first) = entered.next() else {
+                continue;
+            };
+            if left == 0 {
+                break;
+            }
+            let several = entered.next().is_some();
+            for &literal in clause {
+                let index = literal_index(literal);
+                if (several || literal != first) && scope.holds(literal) && !reached[index] {
+                    reached[index] = true;
+                    entries[literal_index(-literal)] = true;
+                    left -= 1;
+                }
+            }
+        }
+    }
+    reached
+}
+
+/// Where each clause begins, and for each literal the clauses that hold it.
+pub struct Occurrences<'a> {
+    clauses: &'a [i32],
+    starts: Vec<u32>,
+    /// The clauses of literal index k are `holders[from[k]..from[k + 1]]`.
+    from: Vec<u32>,
+    holders: Vec<u32>,
+}
+
+impl<'a> Occurrences<'a> {
+    /// The occurrences in admitted clause words.
+    pub fn of(clauses: &'a [i32], counts: Counts) -> Occurrences<'a> {
+        let mut from = vec![0; LITERALS + 2];
+        for &word in clauses {
+            from[literal_index(word) + 2] += 1;
+        }
+        for index in 2..from.len() {
+            from[index] += from[index - 1];
+        }
+        let mut starts = Vec::with_capacity(counts.clauses + 1);
+        starts.push(0);
+        let mut holders = vec![0; clauses.len()];
+        for (place, &word) in clauses.iter().enumerate() {
+            let next = &mut from[literal_index(word) + 1];
+            holders[*next as usize] = starts.len() as u32 - 1;
+            *next += 1;
+            if word == 0 {
+                starts.push(place as u32 + 1);
+            }
+        }
+        Occurrences {
+            clauses,
+            starts,
+            from,
+            holders,
+        }
+    }
+
+    /// The row of a universal variable of the prefix.
+    pub fn row(&self, prefix: &[i32], variable: i32) -> Row {
+        let scope = Scope::of(prefix, variable);
+        scope.row(variable, |start| self.reached(start, &scope))
+    }
+
+    /// The literals of the scope at which a resolution path from this one ends.
+    fn reached(&self, start: i32, scope: &Scope) -> [bool; LITERALS] {
+        let mut reached = [false; LITERALS];
+        let mut left = 2 * scope.variables.len();
+        let mut first_entry = vec![0; self.starts.len()];
+        let mut entries = vec![start];
+        while let Some(entry) = entries.pop() {
+            if left == 0 {
+                break;
+            }
+            let index = literal_index(entry);
+            for &clause in &self.holders[self.from[index] as usize..self.from[index + 1] as usize] {
+                let clause = clause as usize;
+                let mut reach = |literal: i32| {
+                    let reached = &mut reached[literal_index(literal)];
+                    if scope.holds(literal) && !*reached {
+                        *reached = true;
+                        entries.push(-literal);
+                        left -= 1;
+                    }
+                };
+                match first_entry[clause] {
+                    0 => {
+                        first_entry[clause] = entry;
+                        let words = self.starts[clause] as usize..self.starts[clause + 1] as usize;
+                        // The closing 0 is in no scope.
+                        for &literal in &self.clauses[words] {
+                            if literal != entry {
+                                reach(literal);
+                            }
+                        }
+                    }
+                    FINISHED => {}
+                    first => {
+                        first_entry[clause] = FINISHED;
+                        reach(first);
+                    }
+                }
+            }
+        }
+        reached
+    }
+}
+
+/// Marks a clause entered twice; no literal of an admitted table.
+const FINISHED: i32 = i32::MAX;
+
+#[cfg(test)]
+mod tests {
+    use super::*;
+    use crate::generate::{Random, Shape};
+
+    /// The definition itself: pairs of literals joined by a path, grown until nothing is added.
+    fn joined(clauses: &[i32], start: i32, passable: &[i32]) -> Vec<i32> {
+        let mut ends: Vec<i32> = Vec::new();
+        loop {
+            let before = ends.len();
+            let mut entries = vec![start];
+            entries.extend(
+                ends.iter()
+                    .filter(|l| passable.contains(&l.abs()))
+                    .map(|l| -l),
+            );
+            for clause in clauses.split(|&word| word == 0) {
+                for entry in &entries {
+                    for literal in clause {
+                        let apart = literal.abs() != entry.abs();
+                        if clause.contains(entry) && apart && !ends.contains(literal) {
+                            ends.push(*literal);
+                        }
+                    }
+                }
+            }
+            if ends.len() == before {
+                return ends;
+            }
+        }
+    }
+
+    #[test]
+    fn rows_agree_with_the_definition() {
+        let mut random = Random::new(7);
+        let mut dependents = 0;
+        for _ in 0..3000 {
+            let mut shape = Shape::small(&mut random);
+            if random.one_in(2) {
+                shape = Shape::tight(&mut random);
+            }
+            let tables = shape.tables(&mut random);
+            for (place, &word) in tables.prefix.iter().enumerate() {
+                if word > 0 {
+                    continue;
+                }
+                let right: Vec<i32> = tables.prefix[place + 1..]
+                    .iter()
+                    .copied()
+                    .filter(|&word| word > 0)
+                    .collect();
+                let positive = joined(&tables.clauses, -word, &right);
+                let negative = joined(&tables.clauses, word, &right);
+                let row = row(&tables.prefix, &tables.clauses, -word, 1025, 8200).unwrap();
+                let passes = row_by_passes(&tables.prefix, &tables.clauses, -word);
+                assert_eq!(passes, Ok(row));
+                for variable in 0..1025 {
+                    let both = |sign: i32| {
+                        positive.contains(&(sign * variable))
+                            && negative.contains(&(-sign * variable))
+                    };
+                    let depends = right.contains(&variable) && (both(1) || both(-1));
+                    dependents += usize::from(depends);
+                    assert_eq!(row[variable as usize], u8::from(depends), "{tables:?}");
+                }
+            }
+        }
+        assert!(dependents > 1000, "{dependents}");
+    }
+
+    #[test]
+    fn refusals_in_order() {
+        let refused = |clauses: &[i32], variable, row_room, scratch_room| {
+            row(&[1, -2], clauses, variable, row_room, scratch_room).map_err(|r| r.reason.number())
+        };
+        assert_eq!(refused(&[3], 1, 0, 0), Err(7));
+        for variable in [0, 1, -2, 3, 1025, i32::MAX, i32::MIN] {
+            assert_eq!(refused(&[], variable, 0, 0), Err(20));
+        }
+        assert_eq!(refused(&[], 2, 1024, 8200), Err(3));
+        assert_eq!(refused(&[], 2, 1025, 8199), Err(3));
+        assert!(refused(&[], 2, 1025, 8200).is_ok());
+    }
+}

@@ -1,0 +1,310 @@
+//! The check of a proof on tables and step words. A step's result is built by marks, one for each
+//! literal, and ticked off against what the step states; no mark is ever wiped, each step has its own.
+
+use super::row::{Occurrences, Row};
+use super::tables::{bindings, check_tables, Binding, Counts};
+use super::{literal_index, Reason, Refusal, LITERALS, MAX_STEP_WORDS, MAX_VARIABLE, ROW_BYTES};
+
+#[derive(Clone, Copy, Debug, PartialEq, Eq)]
+pub struct Verdict {
+    /// The number of the first empty clause.
+    pub empty: usize,
+    pub steps: usize,
+}
+
+/// Whether a row once made is kept for later reductions, or made anew for each.
+#[derive(Clone, Copy, Debug, PartialEq, Eq)]
+pub enum Rows {
+    Kept,
+    Anew,
+}
+
+/// The verdict on a proof, for a scratch of so many bytes and so many starts.
+pub fn check(
+    prefix: &[i32],
+    clauses: &[i32],
+    steps: &[i32],
+    scratch_room: usize,
+    starts_room: usize,
+    rows: Rows,
+) -> Result<Verdict, Refusal> {
+    let counts = check_tables(prefix, clauses)?;
+    if steps.len() > MAX_STEP_WORDS {
+        return Err(Reason::Oversized.at(0));
+    }
+    if scratch_room < super::SCRATCH_BYTES {
+        return Err(Reason::NoRoom.at(0));
+    }
+    if starts_room < counts.clauses {
+        return Err(Reason::NoRoom.at(starts_room + 1));
+    }
+    let mut run = Run::new(prefix, clauses, steps, counts, rows);
+    let mut at = 0;
+    while at < steps.len() {
+        let number = run.known.len() + 1;
+        let (step, next) = Step::parse(steps, at).ok_or(Reason::BrokenStep.at(number))?;
+        if starts_room < number {
+            return Err(Reason::NoRoom.at(number));
+        }
+        run.judge(&step).map_err(|reason| reason.at(number))?;
+        run.known.push(step.stated);
+        at = next;
+    }
+    match run.known.iter().position(|clause| clause.is_empty()) {
+        Some(place) => Ok(Verdict {
+            empty: place + 1,
+            steps: run.known.len() - counts.clauses,
+        }),
+        None => Err(Reason::NoConclusion.at(run.known.len())),
+    }
+}
+
+enum Rule {
+    Resolve { i: i32, j: i32, pivot: i32 },
+    Reduce { i: i32, literal: i32 },
+}
+
+struct Step<'a> {
+    rule: Rule,
+    stated: &'a [i32],
+}
+
+impl<'a> Step<'a> {
+    /// The step at this word and the place of the next; none where it is broken.
+    fn parse(words: &'a [i32], at: usize) -> Option<(Step<'a>, usize)> {
+        let (rule, rest) = match words[at..] {
+            [1, i, j, pivot, ..] => (Rule::Resolve { i, j, pivot }, at + 4),
+            [2, i, literal, ..] => (Rule::Reduce { i, literal }, at + 3),
+            _ => return None,
+        };
+        let length = words[rest..].iter().position(|&word| word == 0)?;
+        let stated = &words[rest..rest + length];
+        Some((Step { rule, stated }, rest + length + 1))
+    }
+}
+
+struct Run<'a> {
+    prefix: &'a [i32],
+    bindings: [Binding; ROW_BYTES],
+    occurrences: Occurrences<'a>,
+    rows: Rows,
+    kept: Vec<Option<Box<Row>>>,
+    /// The numbered clauses so far, clause n at n - 1.
+    known: Vec<&'a [i32]>,
+    marks: Box<[u32; LITERALS]>,
+    mark: u32,
+}
+
+impl<'a> Run<'a> {
+    fn new(
+        prefix: &'a [i32],
+        clauses: &'a [i32],
+        steps: &'a [i32],
+        counts: Counts,
+        rows: Rows,
+    ) -> Run<'a> {
+        let mut known = Vec::with_capacity(counts.clauses + steps.len() / 8);
+        known.extend(clauses.split(|&word| word == 0).take(counts.clauses));
+        Run {
+            prefix,
+            bindings: bindings(prefix),
+            occurrences: Occurrences::of(clauses, counts),
+            rows,
+            kept: vec![None; ROW_BYTES],
+            known,
+            marks: Box::new([0; LITERALS]),
+            mark: 0,
+        }
+    }
+
+    fn judge(&mut self, step: &Step) -> Result<(), Reason> {
+        self.mark += 2;
+        let size = match step.rule {
+            Rule::Resolve { i, j, pivot } => {
+                let (left, right) = (self.antecedent(i)?, self.antecedent(j)?);
+                self.resolve(left, right, pivot)?
+            }
+            Rule::Reduce { i, literal } => {
+                let clause = self.antecedent(i)?;
+                self.reduce(clause, literal)?
+            }
+        };
+        if self.states(step.stated, size) {
+            Ok(())
+        } else {
+            Err(Reason::Misstated)
+        }
+    }
+
+    fn antecedent(&self, number: i32) -> Result<&'a [i32], Reason> {
+        let index = usize::try_from(number).ok().and_then(|n| n.checked_sub(1));
+        let clause = index.and_then(|index| self.known.get(index));
+        clause.copied().ok_or(Reason::NotEarlier)
+    }
+
+    fn binding(&self, literal: i32) -> Binding {
+        let variable = literal.unsigned_abs() as usize;
+        *self.bindings.get(variable).unwrap_or(&Binding::Free)
+    }
+
+    /// Marks the resolvent and counts its literals.
+    fn resolve(&mut self, left: &[i32], right: &[i32], pivot: i32) -> Result<usize, Reason> {
+        if pivot <= 0 || self.binding(pivot) != Binding::Existential {
+            return Err(Reason::WrongPivot);
+        }
+        let mark = self.mark;
+        let (mut left_holds, mut right_holds) = (false, false);
+        let (mut size, mut tautology) = (0, false);
+        for &literal in left {
+            if literal == pivot {
+                left_holds = true;
+            } else {
+                self.marks[literal_index(literal)] = mark;
+                size += 1;
+            }
+        }
+        for &literal in right {
+            if literal == -pivot {
+                right_holds = true;
+                continue;
+            }
+            tautology |= self.marks[literal_index(-literal)] == mark;
+            let own = &mut self.marks[literal_index(literal)];
+            size += usize::from(*own != mark);
+            *own = mark;
+        }
+        if !left_holds || !right_holds {
+            return Err(Reason::WrongPivot);
+        }
+        if tautology {
+            return Err(Reason::Tautology);
+        }
+        Ok(size)
+    }
+
+    /// Marks the reduced clause and counts its literals.
+    fn reduce(&mut self, clause: &[i32], reduced: i32) -> Result<usize, Reason> {
+        if self.binding(reduced) != Binding::Universal || !clause.contains(&reduced) {
+            return Err(Reason::WrongPivot);
+        }
+        let variable = reduced.unsigned_abs() as usize;
+        let row = match self.kept[variable].take() {
+            Some(row) => row,
+            None => Box::new(self.occurrences.row(self.prefix, variable as i32)),
+        };
+        let blocked = |literal: &i32| row[literal.unsigned_abs() as usize] == 1;
+        if clause.iter().any(blocked) {
+            return Err(Reason::Blocked);
+        }
+        if self.rows == Rows::Kept {
+            self.kept[variable] = Some(row);
+        }
+        for &literal in clause {
+            if literal != reduced {
+                self.marks[literal_index(literal)] = self.mark;
+            }
+        }
+        Ok(clause.len() - 1)
+    }
+
+    /// Whether these are the marked literals, each once. A literal ticked gets the mark's successor.
+    fn states(&mut self, stated: &[i32], size: usize) -> bool {
+        stated.len() == size
+            && stated.iter().all(|&literal| {
+                if literal.unsigned_abs() as usize > MAX_VARIABLE {
+                    return false;
+                }
+                let own = &mut self.marks[literal_index(literal)];
+                let marked = *own == self.mark;
+                *own = self.mark + 1;
+                marked
+            })
+    }
+}
+
+#[cfg(test)]
+mod tests {
+    use super::*;
+    use crate::generate::derive::derivation;
+    use crate::generate::{Random, Shape};
+    use crate::reference::play;
+
+    fn refused(prefix: &[i32], clauses: &[i32], steps: &[i32]) -> (u32, usize) {
+        let refusal = check(prefix, clauses, steps, 8200, 100, Rows::Kept).unwrap_err();
+        (refusal.reason.number(), refusal.place)
+    }
+
+    #[test]
+    fn order_of_refusals() {
+        let refused = |steps: &[i32]| refused(&[1, 2, -3], &[1, 2, 3, 0, -1, 2, 0], steps);
+        assert_eq!(refused(&[0]), (13, 3));
+        assert_eq!(refused(&[i32::MIN, 0]), (13, 3));
+        assert_eq!(refused(&[1, 0, 0, 0]), (13, 3));
+        assert_eq!(refused(&[2, 0, 0]), (13, 3));
+        assert_eq!(refused(&[1]), (13, 3));
+        assert_eq!(refused(&[1, 0, 0, 0, 0]), (14, 3));
+        assert_eq!(refused(&[1, 1, 3, 7, 0]), (14, 3));
+        assert_eq!(refused(&[1, 1, i32::MIN, 7, 0]), (14, 3));
+        assert_eq!(refused(&[1, 1, 3, 7, 0, 9]), (14, 3));
+        assert_eq!(refused(&[2, 3, 3, 0]), (14, 3));
+        for pivot in [0, 2, 3, -1, 4, 5000, i32::MIN, i32::MAX] {
+            assert_eq!(refused(&[1, 1, 2, pivot, 2, 3, 0]), (15, 3), "{pivot}");
+        }
+        assert_eq!(refused(&[1, 2, 1, 1, 2, 3, 0]), (15, 3));
+        assert_eq!(refused(&[1, 1, 1, 1, 2, 3, 0]), (15, 3));
+        for literal in [0, 1, -3, 4, 5000, i32::MIN, i32::MAX] {
+            assert_eq!(refused(&[2, 1, literal, 1, 2, 0]), (15, 3), "{literal}");
+        }
+        for stated in [[2, 2], [2, -3], [3, 1], [2, i32::MIN], [2, 5000]] {
+            let steps = [1, 1, 2, 1, stated[0], stated[1], 0];
+            assert_eq!(refused(&steps), (18, 3), "{stated:?}");
+        }
+        assert_eq!(refused(&[1, 1, 2, 1, 2, 0]), (18, 3));
+        assert_eq!(refused(&[1, 1, 2, 1, 3, 2, 1, 0]), (18, 3));
+        assert_eq!(refused(&[1, 1, 2, 1, 3, 2, 0]), (19, 3));
+        assert_eq!(refused(&[1, 1, 2, 1, 3, 2, 0, 2, 3, 3, 2, 0]), (19, 4));
+        assert_eq!(refused(&[2, 1, 3, 2, 1, 0, 2, 1, 3, 2, 0]), (18, 4));
+    }
+
+    #[test]
+    fn room() {
+        let refused = |steps: &[i32], scratch, starts| {
+            let answer = check(&[-1], &[1, 0, -1, 0], steps, scratch, starts, Rows::Kept);
+            answer.map_err(|r| (r.reason.number(), r.place))
+        };
+        let right = [2, 1, 1, 0, 2, 2, -1, 0];
+        let verdict = Verdict { empty: 3, steps: 2 };
+        assert_eq!(refused(&right, 8200, 4), Ok(verdict));
+        assert_eq!(refused(&right, 8199, 4), Err((3, 0)));
+        assert_eq!(refused(&right, 8200, 3), Err((3, 4)));
+        assert_eq!(refused(&right, 8200, 2), Err((3, 3)));
+        assert_eq!(refused(&[5], 8200, 2), Err((13, 3)));
+        assert_eq!(refused(&[5], 8200, 1), Err((3, 2)));
+        assert_eq!(refused(&[5], 8200, 0), Err((3, 1)));
+        let long = vec![0; MAX_STEP_WORDS + 1];
+        assert_eq!(refused(&long, 0, 0), Err((2, 0)));
+        assert_eq!(refused(&long[1..], 8200, 2), Err((13, 3)));
+    }
+
+    #[test]
+    fn random_derivations_are_right_and_refute_false_formulas_alone() {
+        let mut random = Random::new(11);
+        let mut accepted = 0;
+        for _ in 0..4000 {
+            let tables = Shape::tight(&mut random).tables(&mut random);
+            let (prefix, clauses) = (&tables.prefix, &tables.clauses);
+            let steps = derivation(&mut random, &tables, 40, 12);
+            let answer = check(prefix, clauses, &steps, 8200, 9000, Rows::Kept);
+            let anew = check(prefix, clauses, &steps, 8200, 9000, Rows::Anew);
+            assert_eq!(answer, anew);
+            match answer {
+                Ok(_) => {
+                    accepted += 1;
+                    assert_eq!(play::evaluate(prefix, clauses), Ok(false), "{tables:?}");
+                }
+                Err(refusal) => assert_eq!(refusal.reason, Reason::NoConclusion),
+            }
+        }
+        assert!(accepted > 500, "{accepted}");
+    }
+}

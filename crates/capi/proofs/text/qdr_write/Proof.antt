@@ -1,0 +1,63 @@
+-- `qdr_write` tells what `write_formula` answers, and leaves the text as it does. Assumes nothing.
+use mathlib.Core.Path.{refl}
+use lib.ListN.{length}
+use Rattle.formula.specs.Written.{written, writingRefusal, answerWriting}
+use Rattle.formula.specs.declared.write.WriteAnswer.{WriteAnswer}
+use Rattle.capi.specs.Told.{writeTold}
+use Rattle.capi.proofs.Tells.{tells}
+use borrow.Author.Needs.{needs}
+use Rattle.capi.proofs.text.qdr_write.Statement.{statement}
+use Rattle.capi.proofs.text.qdr_write.Tie as tie
+
+-- what `write_formula` has to answer
+abbrev due : (c : tie.Start) → WriteAnswer
+due c = answerWriting (writingRefusal (c .args .prefix .now) (c .args .clauses .now) (length (c .args .text .now))) (length (written (c .args .prefix .now) (c .args .clauses .now)))
+
+write-formula-requires : tie.Need-write-formula-requires
+write-formula-requires c κs = search needs
+
+enum-known-used : tie.Need-enum-known-used
+enum-known-used c = search needs
+
+fill-requires : tie.Need-fill-requires
+fill-requires c κs = search needs
+
+enum-known-r : tie.Need-enum-known-r
+enum-known-r c = search needs
+
+refuse-requires : tie.Need-refuse-requires
+refuse-requires c κs = search needs
+
+same-length : tie.Need-same-length
+same-length c = search needs
+
+returns : tie.Need-returns
+unfolding writeTold
+returns c =
+    let made = c .before .before .before .before .before .before .before .write-formula .ensures in
+    let told = tells writeTold {due = due (c .before .before .before .before .before .before .before .before .before .before)} (made .answers) (c .before .before .before .used .given .1) refl (c .fill .ensures) in
+    (told .0, (told .1, record { answers = refl; leaves = made .leaves }))
+
+same-length-2 : tie.Need-same-length-2
+same-length-2 c = search needs
+
+returns-2 : tie.Need-returns-2
+unfolding writeTold
+returns-2 c =
+    let made = c .before .before .before .before .before .before .before .write-formula .ensures in
+    let told = tells writeTold {due = due (c .before .before .before .before .before .before .before .before .before .before)} (made .answers) (c .before .before .before .r .given .1) (c .refuse .ensures .0) (c .refuse .ensures .1) in
+    (told .0, (told .1, record { answers = refl; leaves = made .leaves }))
+
+pub qdr-write-spec : {M : Type 1} → statement M
+qdr-write-spec =
+    tie.close
+    (tie.spec
+    write-formula-requires
+    enum-known-used
+    fill-requires
+    enum-known-r
+    refuse-requires
+    same-length
+    returns
+    same-length-2
+    returns-2)
