@@ -1,0 +1,48 @@
+-- `dependents` goes through a row to its end: the place rises to the length. Assumes nothing.
+use Prim.Native.Nat.{_-_}
+use native.Mathlib.Omega.{arith}
+use borrow.Author.Needs.{needs}
+use lib.ListN.{length}
+use Rattle.cases.proofs.show.dependents.Statement.{statement}
+use Rattle.cases.proofs.show.dependents.Tie as tie
+
+abbrev Inv-loop : tie.InvT-loop
+Inv-loop row i₀ i = Unit {0}
+
+abbrev μ-loop : tie.MeasureT-loop
+μ-loop row i₀ i = length row - i
+
+loop-holds : tie.Need-loop-holds Inv-loop μ-loop
+loop-holds c = tt
+
+shared-slice-read-dependent : tie.Need-shared-slice-read-dependent Inv-loop μ-loop
+shared-slice-read-dependent c = search needs
+
+dependent-requires : tie.Need-dependent-requires Inv-loop μ-loop
+dependent-requires c κs = search needs
+
+add-i : tie.Need-add-i Inv-loop μ-loop
+add-i c = omega arith
+
+loop-less : tie.Need-loop-less Inv-loop μ-loop
+loop-less c = omega arith
+
+loop-again : tie.Need-loop-again Inv-loop μ-loop
+loop-again c = tt
+
+returns : tie.Need-returns Inv-loop μ-loop
+returns c = tt
+
+pub dependents-spec : {M : Type 1} → statement M
+dependents-spec =
+    tie.close
+    (tie.spec
+    Inv-loop
+    μ-loop
+    loop-holds
+    shared-slice-read-dependent
+    dependent-requires
+    add-i
+    loop-less
+    loop-again
+    returns)

@@ -1,0 +1,107 @@
+// Printing: bytes, numbers, the words of a table, the dependents of a row, refusals; and whether a buffer was left clear.
+use formula::literal::Word;
+use formula::refusal::Refusal;
+
+pub fn say(bytes: &[u8]) {
+    io::write_all(1, bytes);
+}
+
+pub fn number(n: usize) {
+    io::print_decimal(1, n as u64);
+}
+
+// The kind of a case and its name.
+pub fn name(kind: &[u8], case: &[u8]) {
+    say(kind);
+    say(b", ");
+    say(case);
+    say(b": ");
+}
+
+// A word of a table that was read or written, so within the bounds.
+fn word(w: i32) {
+    match Word::of(w) {
+        Word::Zero => say(b" 0"),
+        Word::TooLarge => say(b" ?"),
+        Word::Positive(v) => {
+            say(b" ");
+            number(v.0);
+        }
+        Word::Negative(v) => {
+            say(b" -");
+            number(v.0);
+        }
+    }
+}
+
+pub fn words(table: &[i32]) {
+    let mut i = 0;
+    while i < table.len() {
+        word(table[i]);
+        i += 1;
+    }
+}
+
+// A variable of a row: its number where it is a dependent, `?` where the byte is neither 0 nor 1.
+fn dependent(byte: u8, v: usize) {
+    if byte == 1 {
+        say(b" ");
+        number(v);
+    } else if byte != 0 {
+        say(b" ?");
+    }
+}
+
+pub fn dependents(row: &[u8]) {
+    let mut i = 0;
+    while i < row.len() {
+        dependent(row[i], i);
+        i += 1;
+    }
+}
+
+pub fn refused(r: Refusal) {
+    let reason = r.reason;
+    say(b"refused ");
+    io::print_decimal(1, reason.number() as u64);
+    say(b" ");
+    number(r.place);
+}
+
+fn words_clear(table: &[i32]) -> bool {
+    let mut i = 0;
+    while i < table.len() {
+        if table[i] != 0 {
+            return false;
+        }
+        i += 1;
+    }
+    true
+}
+
+fn bytes_clear(buffer: &[u8], from: usize) -> bool {
+    let mut i = from;
+    while i < buffer.len() {
+        if buffer[i] != 0 {
+            return false;
+        }
+        i += 1;
+    }
+    true
+}
+
+// Says so where a table that has to be wholly 0 is not.
+pub fn expect_words_clear(table: &[i32]) {
+    if words_clear(table) {
+        return;
+    }
+    say(b", table not clear");
+}
+
+// Says so where a buffer that has to be 0 from a place on is not.
+pub fn expect_bytes_clear(buffer: &[u8], from: usize) {
+    if bytes_clear(buffer, from) {
+        return;
+    }
+    say(b", buffer not clear");
+}

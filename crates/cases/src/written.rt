@@ -1,0 +1,123 @@
+// Writing: the text, read back; room to the byte; the tables' refusals. The text lent holds 7 before.
+use crate::show;
+use crate::tables;
+use crate::text;
+use formula::read::ReadAnswer;
+use formula::read::read_formula;
+use formula::write::WriteAnswer;
+use formula::write::write_formula;
+
+// The used part of a text, and what reading it gives.
+fn read_back(text: &[u8], used: usize) {
+    let mut prefix = [7i32; 5];
+    let mut clauses = [7i32; 13];
+    let part = text::first_bytes(text, used);
+    show::say(part);
+    show::say(b"read back: ");
+    text::reading(part, &mut prefix, &mut clauses);
+}
+
+// Writing into the text lent.
+fn writing(name: &[u8], prefix: &[i32], clauses: &[i32], text: &mut [u8]) {
+    show::name(b"written", name);
+    match write_formula(prefix, clauses, text) {
+        WriteAnswer::Written(used) => {
+            show::number(used);
+            show::expect_bytes_clear(text, used);
+            show::say(b"\n");
+            read_back(text, used);
+        }
+        WriteAnswer::Refused(r) => {
+            show::refused(r);
+            show::expect_bytes_clear(text, 0);
+            show::say(b"\n");
+        }
+    }
+}
+
+// Writing into 64 bytes.
+fn case(name: &[u8], prefix: &[i32], clauses: &[i32]) {
+    let mut text = [7u8; 64];
+    writing(name, prefix, clauses, &mut text);
+}
+
+fn formulas() {
+    case(b"nothing at all", &[], &[]);
+    case(b"the word 0 alone", &[], &[0]);
+    case(
+        b"the example",
+        &[1, -2, 3, 4],
+        &[2, 3, 0, -2, 4, 0, -4, 1, 0, -1, -3, 0],
+    );
+    case(b"largest variable first", &[-17, -3], &[3, -17, 0, 0]);
+    case(b"tables refused", &[1], &[2, 0]);
+}
+
+fn room() {
+    let prefix = [1, -2, 3, 4];
+    let clauses = [2, 3, 0, -2, 4, 0, -4, 1, 0, -1, -3, 0];
+    let mut exact = [7u8; 58];
+    let mut short = [7u8; 57];
+    let mut none = [7u8; 0];
+    writing(b"the example in 58 bytes", &prefix, &clauses, &mut exact);
+    writing(b"the example in 57 bytes", &prefix, &clauses, &mut short);
+    writing(b"nothing at all in no bytes", &[], &[], &mut none);
+    writing(b"tables refused ahead of room", &[1], &[2, 0], &mut none);
+}
+
+fn same_words(a: &[i32], b: &[i32]) -> bool {
+    let mut i = 0;
+    while i < a.len() {
+        if i < b.len() {
+            if a[i] != b[i] {
+                return false;
+            }
+        } else {
+            return false;
+        }
+        i += 1;
+    }
+    a.len() == b.len()
+}
+
+// The used part read back, for a prefix alone: whether the same words come back.
+fn same_prefix(prefix: &[i32], text: &[u8], used: usize) {
+    let mut again = [7i32; 1024];
+    let mut none = [7i32; 0];
+    match read_formula(text::first_bytes(text, used), &mut again, &mut none) {
+        ReadAnswer::Read {
+            prefix_used,
+            clauses_used: _,
+            clauses: _,
+        } => {
+            show::say(b", read back ");
+            show::number(prefix_used);
+            if same_words(prefix, &again) {
+                show::say(b", the same");
+            }
+        }
+        ReadAnswer::Refused(r) => show::refused(r),
+    }
+}
+
+fn longest_prefix() {
+    let mut prefix = [0i32; 1024];
+    let mut text = [7u8; 5000];
+    tables::number_words(&mut prefix);
+    show::name(b"written", b"1,024 variables");
+    match write_formula(&prefix, &[], &mut text) {
+        WriteAnswer::Written(used) => {
+            show::number(used);
+            show::expect_bytes_clear(&text, used);
+            same_prefix(&prefix, &text, used);
+        }
+        WriteAnswer::Refused(r) => show::refused(r),
+    }
+    show::say(b"\n");
+}
+
+pub fn run() {
+    formulas();
+    room();
+    longest_prefix();
+}
