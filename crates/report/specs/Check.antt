@@ -10,7 +10,6 @@ use lib.IntN.{ℤ, pos}
 use Rattle.qbf.specs.Play.{Lost}
 use Rattle.formula.specs.Decode.{formulaOf}
 use Rattle.formula.specs.Refusal.{refusal}
-use Rattle.formula.specs.declared.refusal.Refusal.{Refusal}
 use Rattle.formula.specs.declared.refusal.Reason.the-variants.{Oversized}
 use Rattle.formula.specs.Text.{Reading, read, refused, reading}
 use Rattle.checker.specs.ProofFile.{ProofReading, proofReading}

@@ -5,7 +5,6 @@ use mathlib.Core.Path.{_≡_}
 use mathlib.Core.Bool.{Bool, true, false}
 use mathlib.Core.List.{List, _++_}
 use lib.ListN.{length, take, replicate}
-use lib.IntN.{ℤ}
 use Rattle.formula.specs.Text.{Reading, read, refused}
 use Rattle.report.specs.Line.{acceptedText, fileBound, lineRoom, settled, used, held}
 use Rattle.report.specs.Check.{Room, checkLine, DenotesLost}

@@ -1,25 +1,23 @@
 -- From the stages to the line of the two files; then the headline: where what is printed begins as an `accepted` line, the game
 -- of the formula that the text denotes is lost. Assumes nothing.
-use Prim.Native.Nat.{ℕ, zero, suc, _≤_}
+use Prim.Native.Nat.{ℕ, zero, suc}
 use mathlib.Core.Path.{_≡_, refl, ap, sym, _∙_}
 use mathlib.Core.Bool.{Bool, true, false}
-use mathlib.Core.List.{List, [], _∷_, _++_}
+use mathlib.Core.List.{List, [], _∷_}
 use native.Mathlib.Omega.{arith}
 use lib.ListN.{length, take, replicate, getD}
 use lib.Dec.{leb}
 use lib.IntN.{ℤ}
-use Rattle.formula.specs.Refusal.{refusal}
 use Rattle.formula.specs.Text.{Reading, read, refused, reading}
 use Rattle.formula.specs.declared.refusal.Refusal.{Refusal}
-use Rattle.formula.specs.declared.refusal.Reason.the-variants.{Oversized}
 use Rattle.checker.specs.ProofFile.{ProofReading, proofReading}
 use Rattle.checker.specs.ProofFile.{read as readSteps, refused as refusedFile}
 use Rattle.checker.specs.Verdict.{verdictOf}
 use Rattle.checker.specs.Verdict.Accuracy.{accepted-lost}
 use Rattle.checker.specs.declared.verdict.Verdict.{Verdict}
 use Rattle.checker.specs.declared.verdict.Verdict.the-variants.{Accepted, Refused}
-use Rattle.report.specs.Line.{acceptedText, refusedLine, acceptedLine, ifWithin, settled, held, heldFor}
-use Rattle.report.specs.Check.{Room, verdictLine, stepsLine, fileLine, proofLine, checkLine, DenotesLost}
+use Rattle.report.specs.Line.{acceptedText, refusedLine, ifWithin, settled, held, heldFor}
+use Rattle.report.specs.Check.{Room, verdictLine, stepsLine, fileLine, checkLine, DenotesLost}
 use Rattle.report.specs.Checking.{provedLine}
 use Rattle.report.specs.Settled.{settledProof, ifProofWithin}
 

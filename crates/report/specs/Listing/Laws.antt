@@ -13,8 +13,6 @@ use lib.IntN.{ℤ, pos, negsuc, natAbs}
 use Rattle.qbf.specs.Connectives.{or-right}
 use Rattle.qbf.specs.Formula.{Formula}
 use Rattle.qbf.specs.Dependency.{depends}
-use Rattle.formula.specs.Decimal.{decimal}
-use Rattle.formula.specs.Decode.{formulaOf}
 use Rattle.formula.specs.Tables.{Admitted}
 use Rattle.formula.specs.Text.{read, refused, reading}
 use Rattle.formula.specs.Text.Admits.{read-admitted}
@@ -25,7 +23,7 @@ use Rattle.dependency.specs.Row.{mark, rowOf, isUniversal, isNegated}
 use Rattle.dependency.specs.Row.Laws.{row-byte}
 use Rattle.report.specs.Line.{refusedLine, ifWithin, settled}
 use Rattle.report.specs.Check.{Room}
-use Rattle.report.specs.Dependents.{ifDependent, dependents, universalLine, universalLines, dependencyText}
+use Rattle.report.specs.Dependents.{dependents, universalLine, universalLines, dependencyText}
 use Rattle.report.specs.Listing.{markedText, marked, rowLine, wordLine, tablesText}
 
 -- What is left of a list of words, one word at a time.

@@ -1,15 +1,15 @@
 -- How long the lines of the universals are: on admitted tables `textRoom` bytes hold them. A dependent is existential, so of u
 -- universals and e existentials at most u × e dependents are printed. Assumes nothing.
-use Prim.Native.Nat.{ℕ, zero, suc, _+_, _*_, _-_, _^_, _≤_, _<_}
+use Prim.Native.Nat.{ℕ, suc, _+_, _*_, _-_, _^_, _≤_, _<_}
 use mathlib.Core.Path.{_≡_, refl}
 use mathlib.Core.Bool.{Bool, true, false}
-use mathlib.Core.List.{List, [], _∷_, _++_, List·Memᴰ, List·Memᴰ·head, List·Memᴰ·tail, Memᴰ·map}
+use mathlib.Core.List.{List, [], _∷_, List·Memᴰ, List·Memᴰ·head, List·Memᴰ·tail, Memᴰ·map}
 use native.Mathlib.Nat.{suc-mul, mul-add, add-mul, mul-comm, mul-left-comm, mul-le-mul, mul-le-mul-right}
 use native.Mathlib.Decide.{decLt}
 use native.Mathlib.Omega.{arith}
 use lib.ListN.{length, length-append}
-use lib.IntN.{ℤ, pos, negsuc, natAbs}
-use Rattle.qbf.specs.Formula.{Formula, Universal}
+use lib.IntN.{ℤ, pos, negsuc}
+use Rattle.qbf.specs.Formula.{Formula}
 use Rattle.qbf.specs.Formula.Laws.{quantifiers-exclusive}
 use Rattle.qbf.specs.Dependency.{depends}
 use Rattle.qbf.specs.Dependency.Laws.{depends-sound}

@@ -10,8 +10,7 @@ use lib.Seq.{sets, sets-eq, length-sets}
 use lib.Dec.{leb}
 use Rattle.formula.specs.Clear.{clearFrom}
 use Rattle.formula.specs.Store.{Stores}
-use Rattle.report.specs.Line.{used, held, usedFor, heldFor}
-use Rattle.report.specs.Printing.{kept, Finishes, StoresShort, Prints}
+use Rattle.report.specs.Printing.{Finishes, StoresShort, Prints}
 
 -- A whole buffer cleared, of any kind.
 pub clear-whole : {A : Type 0} (z : A) (l : List A) → clearFrom z 0 l ≡ replicate (length l) z

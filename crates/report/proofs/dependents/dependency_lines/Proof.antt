@@ -1,9 +1,9 @@
 -- `dependency_lines` stores the text, clears what was lent and asks for room. Assumes nothing.
 use Prim.Native.Nat.{ℕ}
-use mathlib.Core.Path.{_≡_, ap, sym, _∙_}
+use mathlib.Core.Path.{_≡_, ap, _∙_}
 use mathlib.Core.List.{[]}
 use lib.ListN.{length, replicate}
-use lib.IntN.{ℤ, pos}
+use lib.IntN.{pos}
 use Rattle.formula.specs.Clear.{clearFrom}
 use Rattle.report.specs.Checking.{lent}
 use Rattle.report.specs.Dependents.{dependencyText}

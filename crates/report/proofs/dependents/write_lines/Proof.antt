@@ -1,7 +1,7 @@
 -- `write_lines` stores a line for each universal: what is left to store is what the words that the loop has not passed give.
 -- Assumes nothing.
 use Prim.Native.Nat.{suc, _-_, _≤_}
-use mathlib.Core.Path.{_≡_, refl, sym, _∙_}
+use mathlib.Core.Path.{_≡_, refl}
 use native.Mathlib.Numerals.{add-one}
 use native.Mathlib.Omega.{arith}
 use borrow.Author.Needs.{needs}

@@ -6,7 +6,7 @@ use native.Mathlib.Omega.{arith}
 use lib.ListN.{length, take}
 use lib.Seq.{length-take-le}
 use lib.IntN.{ℤ}
-use Rattle.formula.specs.Text.{read, refused}
+use Rattle.formula.specs.Text.{read}
 use Rattle.formula.specs.declared.read.ReadAnswer.{ReadAnswer}
 use Rattle.report.specs.Line.{settled}
 use Rattle.report.specs.Settled.{tablesRead}

@@ -7,21 +7,6 @@ use borrow.Author.Needs.{needs}
 use Rattle.report.proofs.program.formula_is_read.Statement.{statement}
 use Rattle.report.proofs.program.formula_is_read.Tie as tie
 
-slice-aggregate-settle-formula : tie.Need-slice-aggregate-settle-formula
-slice-aggregate-settle-formula c = search needs
-
-slice-aggregate-settle-formula-2 : tie.Need-slice-aggregate-settle-formula-2
-slice-aggregate-settle-formula-2 c = search needs
-
-settle-formula-requires : tie.Need-settle-formula-requires
-settle-formula-requires c κs = search needs
-
-enum-told : tie.Need-enum-told
-enum-told c = search needs
-
-enum-told-2 : tie.Need-enum-told-2
-enum-told-2 c = search needs
-
 returns : tie.Need-returns
 returns c =
     let settle = c .before .before .before .before in
@@ -36,10 +21,10 @@ pub formula-is-read-spec : {M : Type 1} → statement M
 formula-is-read-spec =
     tie.close
     (tie.spec
-    slice-aggregate-settle-formula
-    slice-aggregate-settle-formula-2
-    settle-formula-requires
-    enum-told
-    enum-told-2
+    (λ c. search needs)
+    (λ c. search needs)
+    (λ c κs. search needs)
+    (λ c. search needs)
+    (λ c. search needs)
     returns
     returns-2)
