@@ -3,7 +3,8 @@
 -- after anything else the file is unreadable. Laws in `Reading.Laws`. Assumes nothing.
 pub mod Laws
 pub mod Examples
-use Prim.Native.Nat.{ℕ, zero, suc, _+_}
+use Prim.Native.Nat.{ℕ, zero, suc, _+_, _<_}
+use mathlib.Core.Path.{_≡_}
 use mathlib.Core.Bool.{Bool, true, false, cond}
 use mathlib.Core.List.{List, [], _∷_}
 use lib.Dec.{ltb, eqb}
@@ -27,6 +28,7 @@ outcomeOf (negsuc n) error = cond (interrupted error) Interrupted Failed
 unfoldable pub placed : ℕ → ℕ → ℕ → ℕ → Reading
 placed count at room tries = cond (ltb (at + count) room) (On (at + count) tries) (cond (eqb (at + count) room) (Whole room) Unreadable)
 
+-- By the outcome of a call that was to read on at `at`: 0 bytes are the end.
 unfoldable pub afterOutcome : Outcome → ℕ → ℕ → ℕ → Reading
 afterOutcome (Moved zero) at room tries = Whole at
 afterOutcome (Moved (suc n)) at room tries = placed (suc n) at room tries
@@ -55,3 +57,10 @@ unfoldable pub settled : Reading → ℕ
 settled (On at tries) = 0
 settled (Whole n) = n
 settled Unreadable = 0
+
+-- The calls from `at` on show n bytes to be the whole file, or to fill the buffer: none of them fails but by an interruption.
+pub data Seen (room : ℕ) : ℕ → List (ℤ × ℤ) → ℕ → Type 0 where
+  ended : {at n : ℕ} {error : ℤ} {calls : List (ℤ × ℤ)} → n ≡ at → Seen room at ((pos 0, error) ∷ calls) n
+  filled : {at n k : ℕ} {error : ℤ} {calls : List (ℤ × ℤ)} → at + suc k ≡ room → n ≡ room → Seen room at ((pos (suc k), error) ∷ calls) n
+  more : {at n k : ℕ} {error : ℤ} {calls : List (ℤ × ℤ)} → at + suc k < room → Seen room (at + suc k) calls n → Seen room at ((pos (suc k), error) ∷ calls) n
+  again : {at n k : ℕ} {error : ℤ} {calls : List (ℤ × ℤ)} → interrupted error ≡ true → Seen room at calls n → Seen room at ((negsuc k, error) ∷ calls) n

@@ -1,14 +1,14 @@
--- Laws of a file's reading: each outcome of a call by itself, then what holds from call to call: the count stays within the
--- buffer, and what is left to read and to try falls. Assumes nothing.
+-- Laws of a file's reading: each outcome of a call by itself; that a reading is whole only where its calls show it; and what holds
+-- from call to call: the count stays within the buffer, and what is left to read and to try falls. Assumes nothing.
 use Prim.Native.Nat.{ℕ, zero, suc, _+_, _-_, _≤_, _<_}
 use mathlib.Core.Path.{_≡_, refl, sym, _∙_}
 use mathlib.Core.Bool.{Bool, true, false, cond}
 use mathlib.Core.List.{List, [], _∷_}
 use native.Mathlib.Omega.{arith}
-use borrow.Author.Tests.{lt-ltb, le-ltb, eq-eqb, ne-eqb, ltb-true}
+use borrow.Author.Tests.{lt-ltb, le-ltb, eq-eqb, ne-eqb, ltb-true, eqb-true}
 use lib.Dec.{ltb, eqb}
 use lib.IntN.{ℤ, pos, negsuc}
-use Rattle.files.specs.Reading.{interrupted, outcomeOf, placed, afterOutcome, afterRead, step, readingFrom}
+use Rattle.files.specs.Reading.{interrupted, outcomeOf, placed, afterOutcome, afterRead, step, readingFrom, Seen, ended, filled, more, again}
 use Rattle.files.specs.declared.reading.Outcome.{Outcome}
 use Rattle.files.specs.declared.reading.Outcome.the-variants.{Moved, Interrupted, Failed}
 use Rattle.files.specs.declared.reading.Reading.{Reading}
@@ -91,6 +91,48 @@ module _ (room at : ℕ) (calls : List (ℤ × ℤ)) where
   pub interruption-too-many : (n : ℕ) (error : ℤ) → interrupted error ≡ true → readingFrom room (On at 0) ((negsuc n, error) ∷ calls) ≡ Unreadable
   unfolding readingFrom step afterRead outcomeOf afterOutcome
   interruption-too-many n error h = rw h (unreadable-stays room calls)
+
+-- A reading is whole only where its calls show it: the end was seen, or the buffer is full.
+stays-whole : (room n m : ℕ) (calls : List (ℤ × ℤ)) → readingFrom room (Whole m) calls ≡ Whole n → n ≡ m
+stays-whole room n m calls e = let f = whole-stays room m calls in cc
+
+never-whole : (room n : ℕ) (calls : List (ℤ × ℤ)) → readingFrom room Unreadable calls ≡ Whole n → ⊥
+never-whole room n calls e = let f = unreadable-stays room calls in let z : _≡_ {A = ℕ} 0 1 = cc in omega arith
+
+placed-seen :
+    (room at tries n k : ℕ) (error : ℤ) (calls : List (ℤ × ℤ)) → ((next : ℕ) → readingFrom room (On next tries) calls ≡ Whole n → Seen room next calls n)
+    → readingFrom room (placed (suc k) at room tries) calls ≡ Whole n → Seen room at ((pos (suc k), error) ∷ calls) n
+unfolding placed
+placed-seen room at tries n k error calls later = go (ltb (at + suc k) room) refl
+  where
+    full : (b : Bool) → eqb (at + suc k) room ≡ b → readingFrom room (cond b (Whole room) Unreadable) calls ≡ Whole n → Seen room at ((pos (suc k), error) ∷ calls) n
+    full true f e = filled (eqb-true (at + suc k) room f) (stays-whole room n room calls e)
+    full false f e = absurd (never-whole room n calls e)
+
+    go : (b : Bool) → ltb (at + suc k) room ≡ b
+        → readingFrom room (cond b (On (at + suc k) tries) (cond (eqb (at + suc k) room) (Whole room) Unreadable)) calls ≡ Whole n
+        → Seen room at ((pos (suc k), error) ∷ calls) n
+    go true f e = more (ltb-true (at + suc k) room f) (later (at + suc k) e)
+    go false f e = full (eqb (at + suc k) room) refl e
+
+failed-seen :
+    (room at tries n k : ℕ) (error : ℤ) (calls : List (ℤ × ℤ)) → ((left : ℕ) → readingFrom room (On at left) calls ≡ Whole n → Seen room at calls n)
+    → readingFrom room (afterOutcome (cond (interrupted error) Interrupted Failed) at room tries) calls ≡ Whole n → Seen room at ((negsuc k, error) ∷ calls) n
+unfolding afterOutcome
+failed-seen room at tries n k error calls later = go (interrupted error) refl tries
+  where
+    go : (b : Bool) → interrupted error ≡ b → (tries : ℕ) → readingFrom room (afterOutcome (cond b Interrupted Failed) at room tries) calls ≡ Whole n
+        → Seen room at ((negsuc k, error) ∷ calls) n
+    go true f zero e = absurd (never-whole room n calls e)
+    go true f (suc left) e = again f (later left e)
+    go false f tries e = absurd (never-whole room n calls e)
+
+pub whole-seen : (room at tries n : ℕ) (calls : List (ℤ × ℤ)) → readingFrom room (On at tries) calls ≡ Whole n → Seen room at calls n
+unfolding readingFrom step afterRead outcomeOf afterOutcome
+whole-seen room at tries n [] e = let z : _≡_ {A = ℕ} 0 1 = cc in absurd (omega arith)
+whole-seen room at tries n ((pos zero, error) ∷ calls) e = ended (stays-whole room n at calls e)
+whole-seen room at tries n ((pos (suc k), error) ∷ calls) e = placed-seen room at tries n k error calls (λ next. whole-seen room next tries n calls) e
+whole-seen room at tries n ((negsuc k, error) ∷ calls) e = failed-seen room at tries n k error calls (λ left. whole-seen room at left n calls) e
 
 -- What holds of a reading's next state: it goes on inside the buffer with less left to read or to try, or is whole within it.
 abbrev Next : ℕ → ℕ → ℕ → Reading → Type 0
