@@ -22,7 +22,18 @@ fn run(formula: &[u8], proof: &[u8]) {
     dependency_file(formula);
 }
 
-// Proofs that are right: with a note ahead of the steps, without steps, with steps behind the empty clause; dependents in prefix order.
+// A formula that is refused, with no proof beside it.
+fn refused_formula(formula: &[u8]) {
+    run(formula, b"proof/missing");
+}
+
+// A proof that is refused, of 01's example.
+fn refused_proof(proof: &[u8]) {
+    run(b"formula/example", proof);
+}
+
+// Proofs that are right: with a note ahead of the steps, without steps, with steps behind the empty clause; dependents in
+// prefix order.
 fn accepted() {
     run(b"formula/example", b"proof/example");
     run(b"formula/example", b"proof/noted");
@@ -33,7 +44,8 @@ fn accepted() {
     run(b"formula/prefix-order", b"proof/prefix-order");
 }
 
-// Files as long as is taken and one byte longer; the bounds on variables and clauses, and 16,384 clause words, reached; two words more.
+// Files as long as is taken and one byte longer; the bounds on variables and on clauses and 16,384 clause words, all reached; and
+// two words more.
 fn lengths() {
     run(b"formula/variables-1024", b"proof/no-steps-1");
     run(b"formula/bytes-65536", b"proof/example");
@@ -57,7 +69,6 @@ fn absent() {
 
 // A formula that is refused, beside a proof that is missing or too long: the formula's line.
 fn formula_first() {
-    run(b"formula/bound-twice", b"proof/missing");
     run(b"formula/bound-twice", b"proof/bytes-65537");
     run(b"formula/bytes-65537", b"proof/missing");
     run(b"formula/words-16386", b"proof/bytes-65537");
@@ -65,55 +76,56 @@ fn formula_first() {
 
 // 1, and 2 by the header's numbers.
 fn headers() {
-    run(b"formula/comments-only", b"proof/missing");
-    run(b"formula/no-header", b"proof/missing");
-    run(b"formula/short-header", b"proof/missing");
-    run(b"formula/negative-header", b"proof/missing");
-    run(b"formula/variables-1025", b"proof/missing");
-    run(b"formula/clauses-8193", b"proof/missing");
+    refused_formula(b"formula/comments-only");
+    refused_formula(b"formula/no-header");
+    refused_formula(b"formula/short-header");
+    refused_formula(b"formula/negative-header");
+    refused_formula(b"formula/variables-1025");
+    refused_formula(b"formula/clauses-8193");
 }
 
-// 4, 9 and 10 where the sets are.
+// 4, 6, 9 and 10 where the sets are.
 fn sets() {
-    run(b"formula/empty-set", b"proof/missing");
-    run(b"formula/negative-in-set", b"proof/missing");
-    run(b"formula/open-set", b"proof/missing");
-    run(b"formula/clauses-0", b"proof/missing");
+    refused_formula(b"formula/empty-set");
+    refused_formula(b"formula/negative-in-set");
+    refused_formula(b"formula/bound-twice");
+    refused_formula(b"formula/open-set");
+    refused_formula(b"formula/clauses-0");
 }
 
 // 4, 5, 7 and 8 in clauses.
 fn clauses() {
-    run(b"formula/glued-token", b"proof/missing");
-    run(b"formula/above-v", b"proof/missing");
-    run(b"formula/unbound", b"proof/missing");
-    run(b"formula/opposed", b"proof/missing");
-    run(b"formula/repeated", b"proof/missing");
+    refused_formula(b"formula/glued-token");
+    refused_formula(b"formula/above-v");
+    refused_formula(b"formula/unbound");
+    refused_formula(b"formula/opposed");
+    refused_formula(b"formula/repeated");
 }
 
 // 9 and 10 at a text's end.
 fn ends() {
-    run(b"formula/open-clause", b"proof/missing");
-    run(b"formula/token-after-last", b"proof/missing");
-    run(b"formula/too-few", b"proof/missing");
+    refused_formula(b"formula/open-clause");
+    refused_formula(b"formula/token-after-last");
+    refused_formula(b"formula/too-few");
 }
 
 // 11 and 12.
 fn trailers() {
-    run(b"formula/example", b"proof/bytes-11");
-    run(b"formula/example", b"proof/wrong-mark");
-    run(b"formula/example", b"proof/distance-106");
-    run(b"formula/example", b"proof/distance-past-start");
-    run(b"formula/example", b"proof/reduction");
+    refused_proof(b"proof/bytes-11");
+    refused_proof(b"proof/wrong-mark");
+    refused_proof(b"proof/distance-106");
+    refused_proof(b"proof/distance-past-start");
+    refused_proof(b"proof/reduction");
 }
 
 // 13, 14 and 15.
 fn steps() {
-    run(b"formula/example", b"proof/kind-3");
-    run(b"formula/example", b"proof/no-closing-0");
-    run(b"formula/example", b"proof/antecedent-0");
-    run(b"formula/example", b"proof/antecedent-own");
-    run(b"formula/example", b"proof/pivot-missing");
-    run(b"formula/example", b"proof/existential-reduced");
+    refused_proof(b"proof/kind-3");
+    refused_proof(b"proof/no-closing-0");
+    refused_proof(b"proof/antecedent-0");
+    refused_proof(b"proof/antecedent-own");
+    refused_proof(b"proof/pivot-missing");
+    refused_proof(b"proof/existential-reduced");
     run(b"formula/universal-units", b"proof/universal-pivot");
 }
 
@@ -121,9 +133,9 @@ fn steps() {
 fn results() {
     run(b"formula/two-existentials", b"proof/tautology");
     run(b"formula/two-universals", b"proof/blocked");
-    run(b"formula/example", b"proof/misstated");
-    run(b"formula/example", b"proof/stated-twice");
-    run(b"formula/example", b"proof/no-steps-4");
+    refused_proof(b"proof/misstated");
+    refused_proof(b"proof/stated-twice");
+    refused_proof(b"proof/no-steps-4");
     run(b"formula/universal-last", b"proof/one-step");
     run(b"formula/nothing", b"proof/no-steps-0");
 }
