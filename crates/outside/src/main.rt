@@ -18,31 +18,44 @@ fn check(formula: &[u8], proof: &[u8]) {
     print_first(&line, n);
 }
 
-// The evaluator on the used parts of the tables.
-fn evaluated(prefix: &[i32], p: usize, clauses: &[i32], c: usize) -> Evaluation {
-    if p <= prefix.len() {
-        if c <= clauses.len() {
-            return evaluate(&prefix[..p], &clauses[..c]);
-        }
-    }
-    Evaluation::True
+fn say_number(n: usize) {
+    let mut digits = [0u8; 20];
+    let k = io::decimal(n as u64, &mut digits);
+    say(&digits[..k]);
 }
 
-fn play(formula: &[u8]) {
-    let mut prefix = [0i32; 1024];
-    let mut clauses = [0i32; 16384];
-    match read_formula(formula, &mut prefix, &mut clauses) {
+// What the evaluator answered; a refusal by its number and its place.
+fn say_evaluation(evaluation: Evaluation) {
+    match evaluation {
+        Evaluation::True => say(b"true\n"),
+        Evaluation::False => say(b"false\n"),
+        Evaluation::Refused(refusal) => {
+            let reason = refusal.reason;
+            say(b"refused ");
+            say_number(reason.number() as usize);
+            say(b" ");
+            say_number(refusal.place);
+            say(b"\n");
+        }
+    }
+}
+
+// The evaluator on the used parts of the tables that the formula is read into.
+fn play_read(formula: &[u8], prefix: &mut [i32], clauses: &mut [i32]) {
+    match read_formula(formula, prefix, clauses) {
         ReadAnswer::Refused(_) => say(b"unread\n"),
         ReadAnswer::Read {
             prefix_used,
             clauses_used,
             clauses: _,
-        } => match evaluated(&prefix, prefix_used, &clauses, clauses_used) {
-            Evaluation::True => say(b"true\n"),
-            Evaluation::False => say(b"false\n"),
-            Evaluation::Refused(_) => say(b"refused 2 0\n"),
-        },
+        } => say_evaluation(evaluate(&prefix[..prefix_used], &clauses[..clauses_used])),
     }
+}
+
+fn play(formula: &[u8]) {
+    let mut prefix = [0i32; 1024];
+    let mut clauses = [0i32; 16384];
+    play_read(formula, &mut prefix, &mut clauses);
 }
 
 fn judge(formula: &[u8], proof: &[u8]) {
