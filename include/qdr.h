@@ -1,16 +1,24 @@
-/* Warpmaroon for C: reading and writing formulas, dependency rows, checking refutations, and evaluating small formulas.
- * Link with libcapi.a, which `rt staticlib capi` makes for x86-64 Linux.
+/* Warpmaroon for C: reading and writing formulas, dependency rows, checking refutations, evaluating small formulas, and the lines
+ * that the two programs print. Link with libcapi.a, which `rt staticlib capi` makes for x86-64 Linux.
  *
- * Every function returns 0, or the number of a refusal (enum qdr_refusal), and fills all three words of `out`: after 0 with
- * what the function says below, after a refusal with the refusal's place and two zeros.
+ * The first seven functions return 0, or the number of a refusal (enum qdr_refusal), and fill all five words of `out`. After 0
+ * these are the numbers that the function names below, and zeros; after a refusal they are its place, line, column, variable and
+ * block, of which the last four are 0 in this version. The last two functions return the bytes that they printed.
  *
- * A table or buffer is a pointer and a length. Lengths count elements, not bytes. A pointer is never null, even where the
- * length is 0. What a function writes (`out` too) overlaps nothing else that it is given. Nothing is kept after the call, and
- * nothing is allocated. What is declared const is not written.
+ * A table or buffer is a pointer and a length. Lengths count elements, not bytes. Where the length is 0 the pointer may be null,
+ * and nothing is read or written through it; otherwise it points to that many elements and is aligned for them. `out` is never
+ * null. What a function writes (`out` too) overlaps nothing else that it is given; what it only reads may overlap. Nothing is kept
+ * after the call, and nothing is allocated. What is declared const is not written; all else is written whole, up to its length,
+ * whatever the answer.
  *
  * Tables. The prefix lists the variables from outermost to innermost: v is existential, -v universal, variables being
  * numbered from 1 to 1,024. The clause table holds the clauses one after the other, each its literals and then a 0: v or -v.
- * Input clauses are numbered from 1 to C, steps from C + 1. */
+ * Input clauses are numbered from 1 to C, steps from C + 1.
+ *
+ * Proof file. An optional note, which is not read; the step words, signed and of 32 bits, little-endian; and a trailer of 12
+ * bytes: the distance in bytes from the trailer's start back to the first step word (a multiple of 4) and C, both unsigned and of
+ * 32 bits, little-endian, then the bytes 51 44 52 31 (hexadecimal). A step is `1 i j e L.. 0` or `2 i a L.. 0`, as
+ * qdr_check has it. */
 #ifndef QDR_H
 #define QDR_H
 
@@ -21,9 +29,24 @@
 extern "C" {
 #endif
 
-/* Bytes that qdr_row needs for a row, and that qdr_row and qdr_check need for scratch. */
+/* The words of `out`. */
+#define QDR_OUT_LENGTH 5
+
+/* Bytes that qdr_row needs for a row, and that qdr_row, qdr_check and the last two functions need for scratch. */
 #define QDR_ROW_LENGTH 1025
 #define QDR_SCRATCH_LENGTH 8200
+
+/* The bounds: beyond one of the first five the answer is QDR_OVERSIZED. A table as long as its bound never lacks room. */
+#define QDR_MAX_VARIABLES 1024     /* words of a prefix; no variable has a larger number */
+#define QDR_MAX_CLAUSES 8192       /* input clauses */
+#define QDR_MAX_CLAUSE_WORDS 65536 /* words of a clause table, the closing zeros too */
+#define QDR_MAX_STEP_WORDS 1048576 /* words of a step table */
+#define QDR_MAX_TEXT 1048576       /* bytes of a formula's text */
+#define QDR_MAX_NUMBERED 270336    /* words of starts: input clauses and steps, a step having at least four words */
+
+/* Bytes that hold every line that qdr_check_line prints, and every text that qdr_dependency_lines prints. */
+#define QDR_LINE_LENGTH 128
+#define QDR_LINES_LENGTH 1316864
 
 /* Why a function says no, and what its place is. Bytes and words count from 0. */
 enum qdr_refusal {
@@ -51,10 +74,10 @@ enum qdr_refusal {
 
 /* Checks the tables of a formula.
  * Returns 0, or a refusal: 2, 5, 6, 7, 8 or 9.
- * out: the number of variables, the number of clauses, 0. */
+ * out: the number of variables, the number of clauses. */
 uint32_t qdr_check_tables(const int32_t *prefix, size_t prefix_length,
                           const int32_t *clauses, size_t clauses_length,
-                          uint64_t out[3]);
+                          uint64_t out[QDR_OUT_LENGTH]);
 
 /* Reads a formula's text (QDIMACS) into the two tables.
  * Returns 0, or a refusal: one of 1 to 10.
@@ -63,21 +86,21 @@ uint32_t qdr_check_tables(const int32_t *prefix, size_t prefix_length,
 uint32_t qdr_read(const uint8_t *text, size_t text_length,
                   int32_t *prefix, size_t prefix_length,
                   int32_t *clauses, size_t clauses_length,
-                  uint64_t out[3]);
+                  uint64_t out[QDR_OUT_LENGTH]);
 
 /* Writes the tables as a text, which qdr_read reads back.
  * Returns 0, or a refusal: those of qdr_check_tables, then 3 where the text is short.
- * out: the bytes used, 0, 0.
+ * out: the bytes used.
  * The text holds the bytes used and then zeros; after a refusal zeros alone. */
 uint32_t qdr_write(const int32_t *prefix, size_t prefix_length,
                    const int32_t *clauses, size_t clauses_length,
                    uint8_t *text, size_t text_length,
-                   uint64_t out[3]);
+                   uint64_t out[QDR_OUT_LENGTH]);
 
 /* Says which existentials depend on a universal, which is asked for by its number (positive).
  * Returns 0, or a refusal: those of qdr_check_tables, then 20, then 3 where the row has under QDR_ROW_LENGTH bytes or
  * scratch under QDR_SCRATCH_LENGTH.
- * out: 0, 0, 0.
+ * out: zeros alone.
  * The row holds at v the byte 1 where the variable v depends on the universal, and 0 elsewhere, from QDR_ROW_LENGTH on too;
  * after a refusal zeros alone. Scratch ends as zeros always. */
 uint32_t qdr_row(const int32_t *prefix, size_t prefix_length,
@@ -85,36 +108,64 @@ uint32_t qdr_row(const int32_t *prefix, size_t prefix_length,
                  int32_t variable,
                  uint8_t *row, size_t row_length,
                  uint8_t *scratch, size_t scratch_length,
-                 uint64_t out[3]);
+                 uint64_t out[QDR_OUT_LENGTH]);
 
 /* Reads the step words of a proof file, for a formula of clause_count clauses.
  * Returns 0, or a refusal: 11, 2, 12 or 3.
- * out: the step words, 0, 0.
+ * out: the step words.
  * The table holds the step words and then zeros; after a refusal zeros alone. */
 uint32_t qdr_read_proof(const uint8_t *file, size_t file_length,
                         uint32_t clause_count,
                         int32_t *steps, size_t steps_length,
-                        uint64_t out[3]);
+                        uint64_t out[QDR_OUT_LENGTH]);
 
 /* Checks a refutation: `1 i j e L.. 0` resolves clauses i and j on e, `2 i a L.. 0` takes the universal literal a out of
  * clause i, and L states the result. 0 says that the formula is false.
  * Returns 0, or a refusal: those of qdr_check_tables, then 2 for too many step words, 3 for scratch under
  * QDR_SCRATCH_LENGTH bytes or for starts, which needs a word for each clause and each step, one of 13 to 18 for a step, or 19.
- * out: the number of the first empty clause, the number of steps, 0.
+ * out: the number of the first empty clause, the number of steps.
  * Scratch and starts end as zeros always. */
 uint32_t qdr_check(const int32_t *prefix, size_t prefix_length,
                    const int32_t *clauses, size_t clauses_length,
                    const int32_t *steps, size_t steps_length,
                    uint8_t *scratch, size_t scratch_length,
                    uint32_t *starts, size_t starts_length,
-                   uint64_t out[3]);
+                   uint64_t out[QDR_OUT_LENGTH]);
 
 /* Evaluates a formula of up to 16 variables by playing its game to the end.
  * Returns 0, or a refusal: those of qdr_check_tables, then 2 beyond 16 variables.
- * out: 1 where the formula is true and 0 where it is false, 0, 0. */
+ * out: 1 where the formula is true and 0 where it is false. */
 uint32_t qdr_evaluate(const int32_t *prefix, size_t prefix_length,
                       const int32_t *clauses, size_t clauses_length,
-                      uint64_t out[3]);
+                      uint64_t out[QDR_OUT_LENGTH]);
+
+/* The line that the first program prints for the bytes of its two files: `accepted V C steps empty`, which says that the formula
+ * is false, or `refused number word place`, ended by a line feed. A file of more than file_bound bytes is refused as 2, ahead of
+ * all else in it (the program passes 65536). The formula is settled before the proof is looked at.
+ * Returns the bytes of the line, or 0 where it does not fit; QDR_LINE_LENGTH bytes always do.
+ * The line's buffer holds the line and then zeros, or zeros alone. Every other buffer is room to work in, ends as zeros, and where
+ * it is short the line is that of refusal 3. */
+size_t qdr_check_line(const uint8_t *formula, size_t formula_length,
+                      const uint8_t *proof, size_t proof_length,
+                      size_t file_bound,
+                      int32_t *prefix, size_t prefix_length,
+                      int32_t *clauses, size_t clauses_length,
+                      int32_t *steps, size_t steps_length,
+                      uint8_t *scratch, size_t scratch_length,
+                      uint32_t *starts, size_t starts_length,
+                      uint8_t *line, size_t line_length);
+
+/* The text that the second program prints for the bytes of its file: for each universal in prefix order a line of its number, a
+ * colon, and its dependents in prefix order, a space before each; or the refused line, as above.
+ * Returns the bytes of the text, or 0 where it does not fit; QDR_LINES_LENGTH bytes always do. A formula without universals has
+ * no line, so that 0 is then its answer too.
+ * The text's buffer holds the text and then zeros, or zeros alone. Every other buffer is as above. */
+size_t qdr_dependency_lines(const uint8_t *formula, size_t formula_length,
+                            size_t file_bound,
+                            int32_t *prefix, size_t prefix_length,
+                            int32_t *clauses, size_t clauses_length,
+                            uint8_t *scratch, size_t scratch_length,
+                            uint8_t *text, size_t text_length);
 
 #ifdef __cplusplus
 }

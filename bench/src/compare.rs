@@ -8,11 +8,11 @@ use crate::reference::steps::Rows;
 use crate::reference::tables::Counts;
 use crate::reference::{file, play, row, steps, tables, text, write, Refusal};
 
-/// An entry's answer: 0 or the refusal's number, the three numbers of its output, the buffers after it.
+/// An entry's answer: 0 or the refusal's number, the five numbers of its output, the buffers after it.
 #[derive(Clone, Debug, PartialEq, Eq)]
 pub struct Answer {
     pub number: u32,
-    pub out: [u64; 3],
+    pub out: [u64; 5],
     pub buffers: Vec<Buffer>,
 }
 
@@ -138,14 +138,17 @@ fn numbered<T>(
     buffers: Vec<Buffer>,
 ) -> Answer {
     match answer {
-        Ok(value) => Answer {
-            number: 0,
-            out: out(value),
-            buffers,
-        },
+        Ok(value) => {
+            let [first, second, third] = out(value);
+            Answer {
+                number: 0,
+                out: [first, second, third, 0, 0],
+                buffers,
+            }
+        }
         Err(refusal) => Answer {
             number: refusal.reason.number(),
-            out: [refusal.place as u64, 0, 0],
+            out: [refusal.place as u64, 0, 0, 0, 0],
             buffers,
         },
     }
@@ -252,7 +255,7 @@ fn call(case: &Case, random: &mut Random) -> Answer {
 }
 
 #[cfg(proved)]
-fn answer(number: u32, out: [u64; 3], buffers: Vec<Buffer>) -> Answer {
+fn answer(number: u32, out: [u64; 5], buffers: Vec<Buffer>) -> Answer {
     Answer {
         number,
         out,

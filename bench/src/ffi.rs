@@ -1,5 +1,5 @@
 //! The proved library's C functions, and safe calls of them. Each returns 0 or the refusal's number and
-//! fills three numbers, a refusal's place first.
+//! fills five numbers, a refusal's place first.
 
 #[link(name = "capi", kind = "static")]
 extern "C" {
@@ -70,14 +70,14 @@ extern "C" {
     ) -> u32;
 }
 
-/// The number and the three numbers filled in.
-pub type Returned = (u32, [u64; 3]);
+/// The number and the five numbers filled in.
+pub type Returned = (u32, [u64; 5]);
 
 /// In `out` before each call: whatever the library leaves shows.
-const UNFILLED: [u64; 3] = [u64::MAX; 3];
+const UNFILLED: [u64; 5] = [u64::MAX; 5];
 
 // Every call below hands over pointers and lengths of live slices; the library writes inside the
-// mutable ones and the three numbers alone.
+// mutable ones and the five numbers alone.
 
 pub fn check_tables(prefix: &[i32], clauses: &[i32]) -> Returned {
     let mut out = UNFILLED;

@@ -1,6 +1,8 @@
--- What a C function tells of an answer: a code, 0 or the refusal's number of 01, and the three numbers put into `out`. A
--- refusal tells its place and two zeros; a number that an answer does not use is 0.
+-- What a C function tells of an answer: a code, 0 or the refusal's number of 01, and the five numbers put into `out`. An answer
+-- tells up to three numbers; a refusal tells its place, and has words for a line, a column, a variable and a block, which are 0.
+-- A number that is not used is 0.
 use Prim.Native.Nat.{ℕ}
+use mathlib.Core.Path.{_≡_}
 use mathlib.Core.List.{List, [], _∷_}
 use Rattle.formula.specs.Refusal.{number}
 use Rattle.formula.specs.declared.refusal.Refusal.{Refusal}
@@ -23,11 +25,16 @@ pub record Told : Type 0 where
   pub code : ℕ
   pub numbers : List ℕ
 
+-- A function tells this: it returns the code, and leaves the numbers in `out`.
+pub record Tells (told : Told) (answer : ℕ) (out : List ℕ) : Type 0 where
+  pub returns-code : answer ≡ told .code
+  pub fills-out : out ≡ told .numbers
+
 abbrev pub accepted : ℕ → ℕ → ℕ → Told
-accepted a b c = record { code = 0; numbers = a ∷ b ∷ c ∷ [] }
+accepted a b c = record { code = 0; numbers = a ∷ b ∷ c ∷ 0 ∷ 0 ∷ [] }
 
 abbrev pub refused : Refusal → Told
-refused r = record { code = number (r .reason); numbers = r .place ∷ 0 ∷ 0 ∷ [] }
+refused r = record { code = number (r .reason); numbers = r .place ∷ 0 ∷ 0 ∷ 0 ∷ 0 ∷ [] }
 
 -- The variables and the clauses.
 unfoldable pub tablesTold : TablesAnswer → Told

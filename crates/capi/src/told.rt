@@ -1,22 +1,20 @@
-// What every C function does with an answer: fills `out`, and tells a refusal by its number.
+// What every C function of tables, text and proofs does with an answer: fills `out`, and returns 0 or the refusal's number.
 use formula::refusal::Refusal;
-ghost use mathlib.Core.Path.{_≡_};
-ghost use mathlib.Core.List.{[], _∷_};
-ghost use Rattle.formula.specs.Refusal.{number};
+ghost use Rattle.capi.specs.Told.{Tells, accepted, refused};
 
-// The three numbers, put into `out`.
-pub fn fill(out: &mut [u64; 3], a: u64, b: u64, c: u64)
-    ensures { λ _. ⌜ now (out .exit) ≡ a ∷ b ∷ c ∷ [] ⌝ }
+// An answer: its numbers in `out`, and the code 0.
+pub fn accept(out: &mut [u64; 5], a: u64, b: u64, c: u64) -> u32
+    ensures { λ r. ⌜ Tells (accepted a b c) r (now (out .exit)) ⌝ }
 {
-    *out = [a, b, c];
+    *out = [a, b, c, 0, 0];
+    0
 }
 
 // A refusal: its place in `out`, its number as the code.
-pub fn refuse(out: &mut [u64; 3], refusal: Refusal) -> u32
-    ensures { λ r. ⌜ r ≡ number (refusal .reason) ⌝ }
-    ensures { λ _. ⌜ now (out .exit) ≡ refusal .place ∷ 0 ∷ 0 ∷ [] ⌝ }
+pub fn refuse(out: &mut [u64; 5], refusal: Refusal) -> u32
+    ensures { λ r. ⌜ Tells (refused refusal) r (now (out .exit)) ⌝ }
 {
-    fill(out, refusal.place as u64, 0, 0);
+    *out = [refusal.place as u64, 0, 0, 0, 0];
     let reason = refusal.reason;
     reason.number()
 }

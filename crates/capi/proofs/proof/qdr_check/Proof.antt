@@ -35,8 +35,8 @@ check-proof-requires c κs = search needs
 enum-known-empty : tie.Need-enum-known-empty
 enum-known-empty c = search needs
 
-fill-requires : tie.Need-fill-requires
-fill-requires c κs = search needs
+accept-requires : tie.Need-accept-requires
+accept-requires c κs = search needs
 
 enum-known-r : tie.Need-enum-known-r
 enum-known-r c = search needs
@@ -54,8 +54,8 @@ returns : tie.Need-returns
 unfolding verdictTold
 returns c =
     let made = c .before .before .before .before .before .before .before .before .before .check-proof .ensures in
-    let told = tells verdictTold {due = due (c .before .before .before .before .before .before .before .before .before .before .before .before .before .before)} (made .verdict) (c .before .before .before .empty .given .1) refl (c .fill .ensures) in
-    (told .0, (told .1, promised made))
+    let told = tells verdictTold {due = due (c .before .before .before .before .before .before .before .before .before .before .before .before .before .before)} (made .verdict) (c .before .before .before .empty .given .1) (c .accept .ensures) in
+    (told, promised made)
 
 same-length-3 : tie.Need-same-length-3
 same-length-3 c = search needs
@@ -67,8 +67,8 @@ returns-2 : tie.Need-returns-2
 unfolding verdictTold
 returns-2 c =
     let made = c .before .before .before .before .before .before .before .before .before .check-proof .ensures in
-    let told = tells verdictTold {due = due (c .before .before .before .before .before .before .before .before .before .before .before .before .before .before)} (made .verdict) (c .before .before .before .r .given .1) (c .refuse .ensures .0) (c .refuse .ensures .1) in
-    (told .0, (told .1, promised made))
+    let told = tells verdictTold {due = due (c .before .before .before .before .before .before .before .before .before .before .before .before .before .before)} (made .verdict) (c .before .before .before .r .given .1) (c .refuse .ensures) in
+    (told, promised made)
 
 pub qdr-check-spec : {M : Type 1} → statement M
 qdr-check-spec =
@@ -76,7 +76,7 @@ qdr-check-spec =
     (tie.spec
     check-proof-requires
     enum-known-empty
-    fill-requires
+    accept-requires
     enum-known-r
     refuse-requires
     same-length

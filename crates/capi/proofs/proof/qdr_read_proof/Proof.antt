@@ -12,8 +12,8 @@ read-proof-requires c κs = search needs
 enum-known-words : tie.Need-enum-known-words
 enum-known-words c = search needs
 
-fill-requires : tie.Need-fill-requires
-fill-requires c κs = search needs
+accept-requires : tie.Need-accept-requires
+accept-requires c κs = search needs
 
 enum-known-r : tie.Need-enum-known-r
 enum-known-r c = search needs
@@ -28,8 +28,8 @@ returns : tie.Need-returns
 unfolding proofTold
 returns c =
     let made = c .before .before .before .before .before .before .read-proof .ensures in
-    let told = tells proofTold (made .answer) (c .before .before .before .words .given .1) refl (c .fill .ensures) in
-    (told .0, (told .1, record { answer = refl; steps = made .steps }))
+    let told = tells proofTold (made .answer) (c .before .before .before .words .given .1) (c .accept .ensures) in
+    (told, record { answer = refl; steps = made .steps })
 
 same-length-2 : tie.Need-same-length-2
 same-length-2 c = search needs
@@ -38,8 +38,8 @@ returns-2 : tie.Need-returns-2
 unfolding proofTold
 returns-2 c =
     let made = c .before .before .before .before .before .before .read-proof .ensures in
-    let told = tells proofTold (made .answer) (c .before .before .before .r .given .1) (c .refuse .ensures .0) (c .refuse .ensures .1) in
-    (told .0, (told .1, record { answer = refl; steps = made .steps }))
+    let told = tells proofTold (made .answer) (c .before .before .before .r .given .1) (c .refuse .ensures) in
+    (told, record { answer = refl; steps = made .steps })
 
 pub qdr-read-proof-spec : {M : Type 1} → statement M
 qdr-read-proof-spec =
@@ -47,7 +47,7 @@ qdr-read-proof-spec =
     (tie.spec
     read-proof-requires
     enum-known-words
-    fill-requires
+    accept-requires
     enum-known-r
     refuse-requires
     same-length

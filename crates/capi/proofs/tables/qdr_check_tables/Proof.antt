@@ -1,5 +1,4 @@
 -- `qdr_check_tables` tells what `check_tables` answers. Assumes nothing.
-use mathlib.Core.Path.{refl}
 use Rattle.capi.specs.Told.{tablesTold}
 use Rattle.capi.proofs.Tells.{tells}
 use borrow.Author.Needs.{needs}
@@ -12,8 +11,8 @@ check-tables-requires c κs = search needs
 enum-known-variables : tie.Need-enum-known-variables
 enum-known-variables c = search needs
 
-fill-requires : tie.Need-fill-requires
-fill-requires c κs = search needs
+accept-requires : tie.Need-accept-requires
+accept-requires c κs = search needs
 
 enum-known-r : tie.Need-enum-known-r
 enum-known-r c = search needs
@@ -25,13 +24,13 @@ returns : tie.Need-returns
 unfolding tablesTold
 returns c =
     let made = c .before .before .before .before .before .check-tables .ensures in
-    tells tablesTold made (c .before .before .before .variables .given .1) refl (c .fill .ensures)
+    tells tablesTold made (c .before .before .before .variables .given .1) (c .accept .ensures)
 
 returns-2 : tie.Need-returns-2
 unfolding tablesTold
 returns-2 c =
     let made = c .before .before .before .before .before .check-tables .ensures in
-    tells tablesTold made (c .before .before .before .r .given .1) (c .refuse .ensures .0) (c .refuse .ensures .1)
+    tells tablesTold made (c .before .before .before .r .given .1) (c .refuse .ensures)
 
 pub qdr-check-tables-spec : {M : Type 1} → statement M
 qdr-check-tables-spec =
@@ -39,7 +38,7 @@ qdr-check-tables-spec =
     (tie.spec
     check-tables-requires
     enum-known-variables
-    fill-requires
+    accept-requires
     enum-known-r
     refuse-requires
     returns

@@ -1,5 +1,4 @@
 -- `qdr_evaluate` tells what `evaluate` answers. Assumes nothing.
-use mathlib.Core.Path.{refl}
 use Rattle.capi.specs.Told.{evaluationTold}
 use Rattle.capi.proofs.Tells.{tells}
 use borrow.Author.Needs.{needs}
@@ -12,14 +11,14 @@ evaluate-requires c κs = search needs
 enum-told : tie.Need-enum-told
 enum-told c = search needs
 
-fill-requires : tie.Need-fill-requires
-fill-requires c κs = search needs
+accept-requires : tie.Need-accept-requires
+accept-requires c κs = search needs
 
 enum-told-2 : tie.Need-enum-told-2
 enum-told-2 c = search needs
 
-fill-requires-2 : tie.Need-fill-requires-2
-fill-requires-2 c κs = search needs
+accept-requires-2 : tie.Need-accept-requires-2
+accept-requires-2 c κs = search needs
 
 enum-known-r : tie.Need-enum-known-r
 enum-known-r c = search needs
@@ -31,19 +30,19 @@ returns : tie.Need-returns
 unfolding evaluationTold
 returns c =
     let made = c .before .before .before .before .evaluate .ensures in
-    tells evaluationTold made (c .before .before .enum-told .given .1) refl (c .fill .ensures)
+    tells evaluationTold made (c .before .before .enum-told .given .1) (c .accept .ensures)
 
 returns-2 : tie.Need-returns-2
 unfolding evaluationTold
 returns-2 c =
     let made = c .before .before .before .before .evaluate .ensures in
-    tells evaluationTold made (c .before .before .enum-told2 .given .1) refl (c .fill2 .ensures)
+    tells evaluationTold made (c .before .before .enum-told2 .given .1) (c .accept2 .ensures)
 
 returns-3 : tie.Need-returns-3
 unfolding evaluationTold
 returns-3 c =
     let made = c .before .before .before .before .before .evaluate .ensures in
-    tells evaluationTold made (c .before .before .before .r .given .1) (c .refuse .ensures .0) (c .refuse .ensures .1)
+    tells evaluationTold made (c .before .before .before .r .given .1) (c .refuse .ensures)
 
 pub qdr-evaluate-spec : {M : Type 1} → statement M
 qdr-evaluate-spec =
@@ -51,9 +50,9 @@ qdr-evaluate-spec =
     (tie.spec
     evaluate-requires
     enum-told
-    fill-requires
+    accept-requires
     enum-told-2
-    fill-requires-2
+    accept-requires-2
     enum-known-r
     refuse-requires
     returns

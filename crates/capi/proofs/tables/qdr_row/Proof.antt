@@ -20,8 +20,8 @@ dependency-row-requires c κs = search needs
 enum-told : tie.Need-enum-told
 enum-told c = search needs
 
-fill-requires : tie.Need-fill-requires
-fill-requires c κs = search needs
+accept-requires : tie.Need-accept-requires
+accept-requires c κs = search needs
 
 enum-known-r : tie.Need-enum-known-r
 enum-known-r c = search needs
@@ -40,8 +40,8 @@ unfolding rowTold
 returns c =
     let start = c .before .before .before .before .before .before .before .before .before .before .before .before .before in
     let made = rw (toZ-ofZ (start .fits .variable)) at (c .before .before .before .before .before .before .before .before .dependency-row .ensures) in
-    let told = tells rowTold {due = due start} (made .answered) (c .before .before .enum-told .given .1) refl (c .fill .ensures) in
-    (told .0, (told .1, record { answered = refl; filled = made .filled; cleared = made .cleared }))
+    let told = tells rowTold {due = due start} (made .answered) (c .before .before .enum-told .given .1) (c .accept .ensures) in
+    (told, record { answered = refl; filled = made .filled; cleared = made .cleared })
 
 same-length-3 : tie.Need-same-length-3
 same-length-3 c = search needs
@@ -54,8 +54,8 @@ unfolding rowTold
 returns-2 c =
     let start = c .before .before .before .before .before .before .before .before .before .before .before .before .before .before in
     let made = rw (toZ-ofZ (start .fits .variable)) at (c .before .before .before .before .before .before .before .before .before .dependency-row .ensures) in
-    let told = tells rowTold {due = due start} (made .answered) (c .before .before .before .r .given .1) (c .refuse .ensures .0) (c .refuse .ensures .1) in
-    (told .0, (told .1, record { answered = refl; filled = made .filled; cleared = made .cleared }))
+    let told = tells rowTold {due = due start} (made .answered) (c .before .before .before .r .given .1) (c .refuse .ensures) in
+    (told, record { answered = refl; filled = made .filled; cleared = made .cleared })
 
 pub qdr-row-spec : {M : Type 1} → statement M
 qdr-row-spec =
@@ -63,7 +63,7 @@ qdr-row-spec =
     (tie.spec
     dependency-row-requires
     enum-told
-    fill-requires
+    accept-requires
     enum-known-r
     refuse-requires
     same-length

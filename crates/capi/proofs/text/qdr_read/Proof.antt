@@ -12,8 +12,8 @@ read-formula-requires c κs = search needs
 enum-known-prefix-used : tie.Need-enum-known-prefix-used
 enum-known-prefix-used c = search needs
 
-fill-requires : tie.Need-fill-requires
-fill-requires c κs = search needs
+accept-requires : tie.Need-accept-requires
+accept-requires c κs = search needs
 
 enum-known-r : tie.Need-enum-known-r
 enum-known-r c = search needs
@@ -31,8 +31,8 @@ returns : tie.Need-returns
 unfolding readTold
 returns c =
     let made = c .before .before .before .before .before .before .before .read-formula .ensures in
-    let told = tells readTold (made .answers) (c .before .before .before .prefix-used .given .1) refl (c .fill .ensures) in
-    (told .0, (told .1, record { answers = refl; fillsPrefix = made .fillsPrefix; fillsClauses = made .fillsClauses }))
+    let told = tells readTold (made .answers) (c .before .before .before .prefix-used .given .1) (c .accept .ensures) in
+    (told, record { answers = refl; fillsPrefix = made .fillsPrefix; fillsClauses = made .fillsClauses })
 
 same-length-3 : tie.Need-same-length-3
 same-length-3 c = search needs
@@ -44,8 +44,8 @@ returns-2 : tie.Need-returns-2
 unfolding readTold
 returns-2 c =
     let made = c .before .before .before .before .before .before .before .read-formula .ensures in
-    let told = tells readTold (made .answers) (c .before .before .before .r .given .1) (c .refuse .ensures .0) (c .refuse .ensures .1) in
-    (told .0, (told .1, record { answers = refl; fillsPrefix = made .fillsPrefix; fillsClauses = made .fillsClauses }))
+    let told = tells readTold (made .answers) (c .before .before .before .r .given .1) (c .refuse .ensures) in
+    (told, record { answers = refl; fillsPrefix = made .fillsPrefix; fillsClauses = made .fillsClauses })
 
 pub qdr-read-spec : {M : Type 1} → statement M
 qdr-read-spec =
@@ -53,7 +53,7 @@ qdr-read-spec =
     (tie.spec
     read-formula-requires
     enum-known-prefix-used
-    fill-requires
+    accept-requires
     enum-known-r
     refuse-requires
     same-length

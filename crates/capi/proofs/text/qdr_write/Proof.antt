@@ -19,8 +19,8 @@ write-formula-requires c κs = search needs
 enum-known-used : tie.Need-enum-known-used
 enum-known-used c = search needs
 
-fill-requires : tie.Need-fill-requires
-fill-requires c κs = search needs
+accept-requires : tie.Need-accept-requires
+accept-requires c κs = search needs
 
 enum-known-r : tie.Need-enum-known-r
 enum-known-r c = search needs
@@ -35,8 +35,8 @@ returns : tie.Need-returns
 unfolding writeTold
 returns c =
     let made = c .before .before .before .before .before .before .before .write-formula .ensures in
-    let told = tells writeTold {due = due (c .before .before .before .before .before .before .before .before .before .before)} (made .answers) (c .before .before .before .used .given .1) refl (c .fill .ensures) in
-    (told .0, (told .1, record { answers = refl; leaves = made .leaves }))
+    let told = tells writeTold {due = due (c .before .before .before .before .before .before .before .before .before .before)} (made .answers) (c .before .before .before .used .given .1) (c .accept .ensures) in
+    (told, record { answers = refl; leaves = made .leaves })
 
 same-length-2 : tie.Need-same-length-2
 same-length-2 c = search needs
@@ -45,8 +45,8 @@ returns-2 : tie.Need-returns-2
 unfolding writeTold
 returns-2 c =
     let made = c .before .before .before .before .before .before .before .write-formula .ensures in
-    let told = tells writeTold {due = due (c .before .before .before .before .before .before .before .before .before .before)} (made .answers) (c .before .before .before .r .given .1) (c .refuse .ensures .0) (c .refuse .ensures .1) in
-    (told .0, (told .1, record { answers = refl; leaves = made .leaves }))
+    let told = tells writeTold {due = due (c .before .before .before .before .before .before .before .before .before .before)} (made .answers) (c .before .before .before .r .given .1) (c .refuse .ensures) in
+    (told, record { answers = refl; leaves = made .leaves })
 
 pub qdr-write-spec : {M : Type 1} → statement M
 qdr-write-spec =
@@ -54,7 +54,7 @@ qdr-write-spec =
     (tie.spec
     write-formula-requires
     enum-known-used
-    fill-requires
+    accept-requires
     enum-known-r
     refuse-requires
     same-length
