@@ -1,6 +1,7 @@
 //! The inputs at each bound and one past it.
 
 use super::derive::long_derivation;
+use super::lines::edge_lines;
 use super::proofs::check_case;
 use super::texts::{spell, tokens};
 use super::{push_clause, Case, Random, Shape, Tables};
@@ -47,6 +48,7 @@ pub fn edges(random: &mut Random) -> Vec<Case> {
     }
     cases.extend(edge_texts());
     cases.extend(edge_proofs(random));
+    cases.extend(edge_lines(random));
     cases
 }
 
