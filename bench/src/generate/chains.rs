@@ -58,3 +58,43 @@ pub fn reductions(tables: &Tables, count: usize) -> Vec<i32> {
         .copied()
         .collect()
 }
+
+#[cfg(test)]
+mod tests {
+    use super::*;
+    use crate::reference::row::{passes, row};
+    use crate::reference::steps::{check, Rows};
+
+    #[test]
+    fn rows_and_passes() {
+        let orders = [Order::Near, Order::Far, Order::Shuffled, Order::Zigzag];
+        let taken = orders.map(|order| {
+            let mut tables = chain(&mut Random::new(5), 124, 900, order);
+            let row_of = |tables: &Tables, variable| {
+                let row = row(&tables.prefix, &tables.clauses, variable, 1025, 8200).unwrap();
+                row.iter().filter(|&&byte| byte == 1).count()
+            };
+            assert_eq!([1, 2, 124].map(|u| row_of(&tables, u)), [0; 3]);
+            let steps = reductions(&tables, 4000);
+            let answer = check(
+                &tables.prefix,
+                &tables.clauses,
+                &steps,
+                8200,
+                9000,
+                Rows::Kept,
+            );
+            let refusal = answer.unwrap_err();
+            let last = tables.count() + 4000;
+            assert_eq!((refusal.reason.number(), refusal.place), (19, last));
+            let taken = passes(&tables.prefix, &tables.clauses, 1);
+            tables.clauses.extend([1, -1024, 0]);
+            assert_eq!([1, 2].map(|u| row_of(&tables, u)), [900, 0]);
+            taken
+        });
+        let [near, far, shuffled, zigzag] = taken;
+        assert_eq!((near, far), (2, 901));
+        assert!((400..500).contains(&shuffled), "{shuffled}");
+        assert!((450..455).contains(&zigzag), "{zigzag}");
+    }
+}
