@@ -1,206 +1,71 @@
-//! The proved library's C functions, and safe calls of them. Each returns 0 or the refusal's number and
-//! fills five numbers, a refusal's place first.
+//! The proved library's C functions as safe calls. Those that return a refusal's number fill `out`, a
+//! refusal's place first; the two that print return how many bytes they printed.
+#![allow(clippy::too_many_arguments)]
 
-#[link(name = "capi", kind = "static")]
-extern "C" {
-    fn qdr_check_tables(
-        prefix: *const i32,
-        prefix_len: usize,
-        clauses: *const i32,
-        clauses_len: usize,
-        out: *mut u64,
-    ) -> u32;
-    fn qdr_read(
-        text: *const u8,
-        text_len: usize,
-        prefix: *mut i32,
-        prefix_len: usize,
-        clauses: *mut i32,
-        clauses_len: usize,
-        out: *mut u64,
-    ) -> u32;
-    fn qdr_write(
-        prefix: *const i32,
-        prefix_len: usize,
-        clauses: *const i32,
-        clauses_len: usize,
-        text: *mut u8,
-        text_len: usize,
-        out: *mut u64,
-    ) -> u32;
+/// The words of `out`.
+pub type Out = [u64; 5];
+
+/// Declares functions of the library and a safe call of each under the same name: `const` and `mut` name
+/// slices, which C takes as a pointer and a length; `fill` the words of `out`; `value` a number.
+/// Each call hands over pointers and lengths of live slices, none of which overlap, and the library
+/// writes inside the mutable ones alone.
+macro_rules! library {
+    ($(fn $name:ident($(
+        $(const $slice:ident: [$element:ty])?
+        $(mut $buffer:ident: [$item:ty])?
+        $(fill $out:ident)?
+        $(value $number:ident: $kind:ty)?
+    ),*) -> $result:ty;)*) => {
+        mod symbols {
+            #[link(name = "capi", kind = "static")]
+            extern "C" {
+                $(pub fn $name($(
+                    $(_: *const $element, _: usize,)?
+                    $(_: *mut $item, _: usize,)?
+                    $($out: *mut u64,)?
+                    $(_: $kind,)?
+                )*) -> $result;)*
+            }
+        }
+        $(pub fn $name($(
+            $($slice: &[$element],)?
+            $($buffer: &mut [$item],)?
+            $($out: &mut Out,)?
+            $($number: $kind,)?
+        )*) -> $result {
+            unsafe {
+                symbols::$name($(
+                    $($slice.as_ptr(), $slice.len(),)?
+                    $($buffer.as_mut_ptr(), $buffer.len(),)?
+                    $($out.as_mut_ptr(),)?
+                    $($number,)?
+                )*)
+            }
+        })*
+    };
+}
+
+library! {
+    fn qdr_check_tables(const prefix: [i32], const clauses: [i32], fill out) -> u32;
+    fn qdr_read(const text: [u8], mut prefix: [i32], mut clauses: [i32], fill out) -> u32;
+    fn qdr_write(const prefix: [i32], const clauses: [i32], mut text: [u8], fill out) -> u32;
     fn qdr_row(
-        prefix: *const i32,
-        prefix_len: usize,
-        clauses: *const i32,
-        clauses_len: usize,
-        variable: i32,
-        row: *mut u8,
-        row_len: usize,
-        scratch: *mut u8,
-        scratch_len: usize,
-        out: *mut u64,
+        const prefix: [i32], const clauses: [i32], value variable: i32,
+        mut row: [u8], mut scratch: [u8], fill out
     ) -> u32;
-    fn qdr_read_proof(
-        file: *const u8,
-        file_len: usize,
-        clause_count: u32,
-        steps: *mut i32,
-        steps_len: usize,
-        out: *mut u64,
-    ) -> u32;
+    fn qdr_read_proof(const file: [u8], value clause_count: u32, mut steps: [i32], fill out) -> u32;
     fn qdr_check(
-        prefix: *const i32,
-        prefix_len: usize,
-        clauses: *const i32,
-        clauses_len: usize,
-        steps: *const i32,
-        steps_len: usize,
-        scratch: *mut u8,
-        scratch_len: usize,
-        starts: *mut u32,
-        starts_len: usize,
-        out: *mut u64,
+        const prefix: [i32], const clauses: [i32], const steps: [i32],
+        mut scratch: [u8], mut starts: [u32], fill out
     ) -> u32;
-    fn qdr_evaluate(
-        prefix: *const i32,
-        prefix_len: usize,
-        clauses: *const i32,
-        clauses_len: usize,
-        out: *mut u64,
-    ) -> u32;
-}
-
-/// The number and the five numbers filled in.
-pub type Returned = (u32, [u64; 5]);
-
-/// In `out` before each call: whatever the library leaves shows.
-const UNFILLED: [u64; 5] = [u64::MAX; 5];
-
-// Every call below hands over pointers and lengths of live slices; the library writes inside the
-// mutable ones and the five numbers alone.
-
-pub fn check_tables(prefix: &[i32], clauses: &[i32]) -> Returned {
-    let mut out = UNFILLED;
-    let number = unsafe {
-        qdr_check_tables(
-            prefix.as_ptr(),
-            prefix.len(),
-            clauses.as_ptr(),
-            clauses.len(),
-            out.as_mut_ptr(),
-        )
-    };
-    (number, out)
-}
-
-pub fn read(text: &[u8], prefix: &mut [i32], clauses: &mut [i32]) -> Returned {
-    let mut out = UNFILLED;
-    let number = unsafe {
-        qdr_read(
-            text.as_ptr(),
-            text.len(),
-            prefix.as_mut_ptr(),
-            prefix.len(),
-            clauses.as_mut_ptr(),
-            clauses.len(),
-            out.as_mut_ptr(),
-        )
-    };
-    (number, out)
-}
-
-pub fn write(prefix: &[i32], clauses: &[i32], text: &mut [u8]) -> Returned {
-    let mut out = UNFILLED;
-    let number = unsafe {
-        qdr_write(
-            prefix.as_ptr(),
-            prefix.len(),
-            clauses.as_ptr(),
-            clauses.len(),
-            text.as_mut_ptr(),
-            text.len(),
-            out.as_mut_ptr(),
-        )
-    };
-    (number, out)
-}
-
-pub fn row(
-    prefix: &[i32],
-    clauses: &[i32],
-    variable: i32,
-    row: &mut [u8],
-    scratch: &mut [u8],
-) -> Returned {
-    let mut out = UNFILLED;
-    let number = unsafe {
-        qdr_row(
-            prefix.as_ptr(),
-            prefix.len(),
-            clauses.as_ptr(),
-            clauses.len(),
-            variable,
-            row.as_mut_ptr(),
-            row.len(),
-            scratch.as_mut_ptr(),
-            scratch.len(),
-            out.as_mut_ptr(),
-        )
-    };
-    (number, out)
-}
-
-pub fn read_proof(file: &[u8], clause_count: u32, steps: &mut [i32]) -> Returned {
-    let mut out = UNFILLED;
-    let number = unsafe {
-        qdr_read_proof(
-            file.as_ptr(),
-            file.len(),
-            clause_count,
-            steps.as_mut_ptr(),
-            steps.len(),
-            out.as_mut_ptr(),
-        )
-    };
-    (number, out)
-}
-
-pub fn check(
-    prefix: &[i32],
-    clauses: &[i32],
-    steps: &[i32],
-    scratch: &mut [u8],
-    starts: &mut [u32],
-) -> Returned {
-    let mut out = UNFILLED;
-    let number = unsafe {
-        qdr_check(
-            prefix.as_ptr(),
-            prefix.len(),
-            clauses.as_ptr(),
-            clauses.len(),
-            steps.as_ptr(),
-            steps.len(),
-            scratch.as_mut_ptr(),
-            scratch.len(),
-            starts.as_mut_ptr(),
-            starts.len(),
-            out.as_mut_ptr(),
-        )
-    };
-    (number, out)
-}
-
-pub fn evaluate(prefix: &[i32], clauses: &[i32]) -> Returned {
-    let mut out = UNFILLED;
-    let number = unsafe {
-        qdr_evaluate(
-            prefix.as_ptr(),
-            prefix.len(),
-            clauses.as_ptr(),
-            clauses.len(),
-            out.as_mut_ptr(),
-        )
-    };
-    (number, out)
+    fn qdr_evaluate(const prefix: [i32], const clauses: [i32], fill out) -> u32;
+    fn qdr_check_line(
+        const formula: [u8], const proof: [u8], value file_bound: usize,
+        mut prefix: [i32], mut clauses: [i32], mut steps: [i32],
+        mut scratch: [u8], mut starts: [u32], mut line: [u8]
+    ) -> usize;
+    fn qdr_dependency_lines(
+        const formula: [u8], value file_bound: usize,
+        mut prefix: [i32], mut clauses: [i32], mut scratch: [u8], mut text: [u8]
+    ) -> usize;
 }

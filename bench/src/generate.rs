@@ -1,15 +1,19 @@
 //! Seeded inputs for every entry, short and long, valid and damaged. Here: the generator of numbers,
 //! formulas drawn by shape, and what an input is. The files below draw each kind of input.
 
+pub mod chains;
 pub mod derive;
 mod edges;
 mod files;
+mod lines;
+pub mod long;
 mod proofs;
 mod tables;
 mod texts;
 
 use std::fmt;
 
+use crate::reference::program::Room;
 use crate::reference::{MAX_CLAUSES, MAX_CLAUSE_WORDS, MAX_VARIABLE};
 
 pub use edges::edges;
@@ -57,6 +61,13 @@ impl Random {
 pub struct Tables {
     pub prefix: Vec<i32>,
     pub clauses: Vec<i32>,
+}
+
+impl Tables {
+    /// The number of closed clauses.
+    pub fn count(&self) -> usize {
+        self.clauses.iter().filter(|&&word| word == 0).count()
+    }
 }
 
 /// What a random formula looks like.
@@ -202,6 +213,17 @@ pub enum Case {
     Evaluate {
         tables: Tables,
     },
+    CheckLine {
+        formula: Vec<u8>,
+        proof: Vec<u8>,
+        room: Room,
+        line_room: usize,
+    },
+    DependencyLines {
+        formula: Vec<u8>,
+        room: Room,
+        text_room: usize,
+    },
 }
 
 impl fmt::Display for Case {
@@ -243,6 +265,24 @@ impl fmt::Display for Case {
                 writeln!(f, "{tables}\nsteps {steps:?}")?;
                 write!(f, "scratch of {scratch_room} bytes, {starts_room} starts")
             }
+            Case::CheckLine {
+                formula,
+                proof,
+                room,
+                line_room,
+            } => {
+                writeln!(f, "formula b\"{}\"", formula.escape_ascii())?;
+                writeln!(f, "proof {proof:?}")?;
+                write!(f, "{room:?}, line of {line_room} bytes")
+            }
+            Case::DependencyLines {
+                formula,
+                room,
+                text_room,
+            } => {
+                writeln!(f, "formula b\"{}\"", formula.escape_ascii())?;
+                write!(f, "{room:?}, text of {text_room} bytes")
+            }
         }
     }
 }
@@ -255,7 +295,7 @@ impl fmt::Display for Tables {
 
 /// Some inputs of one kind, drawn together where they share a formula.
 pub fn batch(random: &mut Random) -> Vec<Case> {
-    match random.below(16) {
+    match random.below(19) {
         0 => tables::tables_batch(random),
         1 => texts::cut_texts(random),
         2..=5 => texts::text_batch(random),
@@ -263,6 +303,7 @@ pub fn batch(random: &mut Random) -> Vec<Case> {
         7..=8 => tables::row_batch(random),
         9 => files::file_batch(random),
         10..=14 => proofs::proof_batch(random),
+        15..=17 => lines::line_batch(random),
         _ => tables::game_batch(random),
     }
 }

@@ -1,26 +1,35 @@
-//! A second implementation of every entry beside the proved one.
-//! `compare [seed] [inputs]` sets the two against each other, `inputs` tells what the same inputs draw
-//! from the reference alone, `time` measures both,
-//! and `reference check FORMULA PROOF` and `reference deps FORMULA` are the two programs by the reference.
+//! A second implementation of every entry beside the proved one. `compare` sets the two against each other,
+//! `inputs` tells what the same inputs draw from the reference alone, `time` and `hostile` measure both,
+//! `long` writes a long refutation, and `reference` and `full` print the two programs' lines by the reference.
 
 mod compare;
 #[cfg(proved)]
 mod ffi;
 mod generate;
+mod hostile;
 mod reference;
 mod time;
 
 use std::env;
+use std::path::Path;
 use std::process::ExitCode;
 
-use reference::program::{check_line, dependency_lines};
+use generate::long::{damaged, refutation};
+use reference::file::write_proof;
+use reference::program::{check_line, dependency_lines, printed, Room};
+use reference::write::write;
+use reference::{MAX_STEP_WORDS, MAX_TEXT};
 
 const USAGE: &str = "\
 bench compare [seed] [inputs]
 bench inputs [seed] [inputs]
 bench time
-bench reference check formula.qdimacs proof.qdr
-bench reference deps formula.qdimacs";
+bench hostile
+bench long WORDS FOLDER [--damaged]
+bench reference check FORMULA PROOF
+bench reference deps FORMULA
+bench full check FORMULA PROOF
+bench full deps FORMULA";
 
 fn main() -> ExitCode {
     let arguments: Vec<String> = env::args().skip(1).collect();
@@ -42,14 +51,16 @@ fn main() -> ExitCode {
             time::time();
             ExitCode::SUCCESS
         }
-        ["reference", "check", formula, proof] => {
-            print!("{}", check_line(&file(formula), || file(proof)));
+        ["hostile"] => {
+            hostile::hostile();
             ExitCode::SUCCESS
         }
-        ["reference", "deps", formula] => {
-            print!("{}", dependency_lines(&file(formula)));
-            ExitCode::SUCCESS
-        }
+        ["long", words, folder] => long(words, folder, false),
+        ["long", words, folder, "--damaged"] => long(words, folder, true),
+        ["reference", "check", formula, proof] => check(Room::PROGRAMS, formula, proof),
+        ["reference", "deps", formula] => deps(Room::PROGRAMS, formula),
+        ["full", "check", formula, proof] => check(Room::FULL, formula, proof),
+        ["full", "deps", formula] => deps(Room::FULL, formula),
         _ => usage(),
     }
 }
@@ -64,6 +75,42 @@ fn file(path: &str) -> Vec<u8> {
     std::fs::read(path).unwrap_or_default()
 }
 
+/// The first program's line with this room.
+fn check(room: Room, formula: &str, proof: &str) -> ExitCode {
+    let line = check_line(room, &file(formula), || file(proof));
+    print!("{}", printed(line));
+    ExitCode::SUCCESS
+}
+
+/// The second program's lines with this room.
+fn deps(room: Room, formula: &str) -> ExitCode {
+    print!("{}", printed(dependency_lines(room, &file(formula))));
+    ExitCode::SUCCESS
+}
+
+/// Writes formula.qdimacs and proof.qdr, a refutation of about so many words, and prints the line due.
+fn long(words: &str, folder: &str, damage: bool) -> ExitCode {
+    let Some(words) = words.parse().ok().filter(|&words| words <= MAX_STEP_WORDS) else {
+        return usage();
+    };
+    let (tables, mut steps) = refutation(words);
+    if damage {
+        steps = damaged(steps);
+    }
+    let formula = write(&tables.prefix, &tables.clauses, MAX_TEXT).unwrap_or_default();
+    let proof = write_proof(b"", &steps, tables.count() as u32);
+    let folder = Path::new(folder);
+    let written = std::fs::create_dir_all(folder)
+        .and_then(|()| std::fs::write(folder.join("formula.qdimacs"), &formula))
+        .and_then(|()| std::fs::write(folder.join("proof.qdr"), &proof));
+    if let Err(trouble) = written {
+        eprintln!("{}: {trouble}", folder.display());
+        return ExitCode::FAILURE;
+    }
+    print!("{}", printed(check_line(Room::FULL, &formula, || proof)));
+    ExitCode::SUCCESS
+}
+
 /// Compares the reference with the library, or with itself where only the inputs are of interest.
 fn compare_all(with_library: bool, seed: u64, inputs: usize) -> ExitCode {
     let outcome = if with_library {
@@ -75,7 +122,7 @@ fn compare_all(with_library: bool, seed: u64, inputs: usize) -> ExitCode {
         #[cfg(proved)]
         compare::compare(compare::proved_answer, seed, inputs)
     } else {
-        compare::compare(|case, _| compare::reference_answer(case), seed, inputs)
+        compare::compare(|case, _| compare::reference_answer(case).1, seed, inputs)
     };
     let seen = match outcome {
         Ok(seen) => seen,

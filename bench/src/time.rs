@@ -1,73 +1,124 @@
-//! Times each entry at full size, the proved library against the reference: best and median of several
-//! runs, and the ratio of each. Without the library the reference is timed alone.
+//! Times each entry at full size, the proved library against one reference or several: best and median of
+//! some runs, and the ratio of each. Without the library the references are timed alone.
 
 use std::hint::black_box;
 use std::time::{Duration, Instant};
 
 use crate::generate::derive::long_derivation;
+use crate::generate::long::refutation;
 use crate::generate::{Random, Shape, Tables};
 use crate::reference::file::{read_proof, write_proof};
 use crate::reference::play::{evaluate, evaluate_by_words};
-use crate::reference::row::{row, row_by_passes, Row};
+use crate::reference::program::{check_line, dependency_lines, Room};
+use crate::reference::row::{row, row_by_passes};
 use crate::reference::steps::{check, Rows};
 use crate::reference::tables::check_tables;
 use crate::reference::text::read;
 use crate::reference::write::write;
 use crate::reference::{
-    Refusal, MAX_CLAUSES, MAX_CLAUSE_WORDS, MAX_STEP_WORDS, MAX_TEXT, MAX_VARIABLE, ROW_BYTES,
-    SCRATCH_BYTES,
+    MAX_CLAUSES, MAX_CLAUSE_WORDS, MAX_STEP_WORDS, MAX_TEXT, MAX_VARIABLE, ROW_BYTES, SCRATCH_BYTES,
 };
 
-/// The best and the median of some runs.
+/// The best and the median of some runs, in milliseconds.
 #[derive(Clone, Copy)]
 struct Times {
     best: f64,
     median: f64,
 }
 
-const RUNS: usize = 15;
-/// Slow work is run less often.
-const LONG: Duration = Duration::from_secs(6);
-
-fn times(mut runs: Vec<f64>) -> Times {
-    runs.sort_by(f64::total_cmp);
-    Times {
-        best: runs[0],
-        median: runs[runs.len() / 2],
+impl Times {
+    fn of(mut runs: Vec<f64>) -> Times {
+        runs.sort_by(f64::total_cmp);
+        Times {
+            best: runs[0],
+            median: runs[runs.len() / 2],
+        }
     }
 }
 
-fn milliseconds(work: &mut impl FnMut()) -> f64 {
+fn milliseconds(work: &mut dyn FnMut()) -> f64 {
     let start = Instant::now();
     work();
     start.elapsed().as_secs_f64() * 1000.0
 }
 
-/// Prints one line: the times in milliseconds, and the ratios where the library is linked. The two take
-/// turns, so that a busy spell of the machine falls on both.
-fn report(name: &str, mut reference: impl FnMut(), mut proved: Option<impl FnMut()>) {
-    let (mut references, mut proveds) = (Vec::new(), Vec::new());
+/// How often something is run: so often, or less if it takes long, but some times in any case. References are
+/// run REPEATED times at least.
+#[derive(Clone, Copy)]
+pub struct Runs {
+    pub most: usize,
+    pub least: usize,
+}
+
+const LONG: Duration = Duration::from_secs(6);
+const REPEATED: usize = 3;
+const RUNS: Runs = Runs {
+    most: 15,
+    least: REPEATED,
+};
+
+/// A reference's name and its work.
+pub type Reference<'a> = (&'a str, &'a mut dyn FnMut());
+
+/// Prints a line for each reference, and the proved times on the first. All take turns, so that a busy spell
+/// of the machine falls on each.
+pub fn report(
+    name: &str,
+    runs: Runs,
+    mut proved: Option<impl FnMut()>,
+    references: &mut [Reference],
+) {
+    let mut proved_runs = Vec::new();
+    let mut reference_runs = vec![Vec::new(); references.len()];
     let begun = Instant::now();
-    while references.len() < RUNS && (references.len() < 3 || begun.elapsed() < LONG) {
-        references.push(milliseconds(&mut reference));
-        proveds.extend(proved.as_mut().map(milliseconds));
+    for turn in 0..runs.most {
+        if turn >= runs.least && begun.elapsed() > LONG {
+            break;
+        }
+        for ((_, work), runs) in references.iter_mut().zip(&mut reference_runs) {
+            runs.push(milliseconds(work));
+        }
+        if let Some(work) = &mut proved {
+            proved_runs.push(milliseconds(work));
+        }
     }
-    let reference = times(references);
-    print!(
-        "{name:<42}{:>9.3} {:>9.3}",
-        reference.best, reference.median
-    );
-    if proveds.is_empty() {
-        println!();
-        return;
+    for ((_, work), runs) in references.iter_mut().zip(&mut reference_runs) {
+        while runs.len() < REPEATED {
+            runs.push(milliseconds(work));
+        }
     }
-    let proved = times(proveds);
+    let proved = (!proved_runs.is_empty()).then(|| Times::of(proved_runs));
+    print!("{name:<54}");
+    match proved {
+        Some(times) => print!("{:>10.3} {:>10.3}", times.best, times.median),
+        None => print!("{:>21}", ""),
+    }
+    for (turn, ((label, _), runs)) in references.iter().zip(reference_runs).enumerate() {
+        let times = Times::of(runs);
+        if turn > 0 {
+            print!("{:75}", "");
+        }
+        print!("{:>11.3} {:>10.3}", times.best, times.median);
+        match proved {
+            Some(proved) => {
+                ratio(proved.best / times.best);
+                ratio(proved.median / times.median);
+            }
+            None => print!("{:>18}", ""),
+        }
+        println!("  {label}");
+    }
+}
+
+fn ratio(ratio: f64) {
+    let decimals = if ratio < 100.0 { 2 } else { 0 };
+    print!("{ratio:>9.decimals$}");
+}
+
+pub fn heading() {
     println!(
-        "{:>10.3} {:>9.3}{:>8.2} {:>6.2}",
-        proved.best,
-        proved.median,
-        proved.best / reference.best,
-        proved.median / reference.median
+        "{:<54}{:>10} {:>10}{:>11} {:>10}{:>9}{:>9}  reference",
+        "milliseconds", "proved", "median", "reference", "median", "ratio", "median"
     );
 }
 
@@ -76,7 +127,7 @@ macro_rules! proved {
     ($call:expr) => {{
         #[cfg(proved)]
         let call = Some(|| {
-            black_box($call);
+            std::hint::black_box($call);
         });
         #[cfg(not(proved))]
         let call: Option<fn()> = None;
@@ -84,18 +135,26 @@ macro_rules! proved {
     }};
 }
 
+/// A reference's call.
+macro_rules! reference {
+    ($call:expr) => {
+        &mut || {
+            std::hint::black_box($call).ok();
+        }
+    };
+}
+
 pub fn time() {
-    println!(
-        "{:<42}{:>9} {:>9}{:>10} {:>9}{:>8} {:>6}",
-        "milliseconds", "reference", "median", "proved", "median", "ratio", "median"
-    );
+    heading();
     let mut random = Random::new(3);
     let tables = full_tables(&mut random);
     time_tables(&tables);
-    time_rows(&tables);
+    let name = "row, each of 512 universals, 65,536 clause words";
+    time_rows(name, RUNS, &tables, true);
     time_proof_file(&mut random);
     time_checks(&mut random, &tables);
     time_games(&mut random);
+    time_lines(&tables);
 }
 
 /// 512 universals among 1,024 variables and 8,192 clauses of seven literals: 65,536 clause words.
@@ -118,26 +177,40 @@ fn full_tables(random: &mut Random) -> Tables {
 }
 
 fn time_tables(tables: &Tables) {
+    time_check_tables("check_tables, clauses of 7, 65,536 words", tables);
+    let wide: Vec<i32> = tables.prefix[..1023].iter().copied().chain([0]).collect();
+    let wide = Tables {
+        prefix: tables.prefix.clone(),
+        clauses: wide.repeat(64),
+    };
+    time_check_tables("check_tables, clauses of 1,023, 65,536 words", &wide);
     let Tables { prefix, clauses } = tables;
-    report(
-        "check_tables, 65,536 clause words",
-        || {
-            black_box(check_tables(prefix, clauses)).ok();
-        },
-        proved!(crate::ffi::check_tables(prefix, clauses)),
-    );
     let text = write(prefix, clauses, MAX_TEXT).unwrap_or_default();
     #[cfg(proved)]
     let mut room = vec![0; MAX_TEXT];
     report(
-        "write, 65,536 clause words",
-        || {
-            black_box(write(prefix, clauses, MAX_TEXT)).ok();
-        },
-        proved!(crate::ffi::write(prefix, clauses, &mut room)),
+        &format!("write, 65,536 clause words, {} bytes", text.len()),
+        RUNS,
+        proved!(crate::ffi::qdr_write(
+            prefix,
+            clauses,
+            &mut room,
+            &mut [0; 5]
+        )),
+        &mut [("", reference!(write(prefix, clauses, MAX_TEXT)))],
     );
-    time_read("read, 65,536 clause words as written", &text);
+    time_read("read, the same text", &text);
     time_read("read, the same spread to a megabyte", &spread(&text));
+}
+
+fn time_check_tables(name: &str, tables: &Tables) {
+    let Tables { prefix, clauses } = tables;
+    report(
+        name,
+        RUNS,
+        proved!(crate::ffi::qdr_check_tables(prefix, clauses, &mut [0; 5])),
+        &mut [("", reference!(check_tables(prefix, clauses)))],
+    );
 }
 
 /// The text with a comment ahead and more blanks, up to the bound.
@@ -160,47 +233,43 @@ fn time_read(name: &str, text: &[u8]) {
     let (mut prefix, mut clauses) = (vec![0; MAX_VARIABLE], vec![0; MAX_CLAUSE_WORDS]);
     report(
         name,
-        || {
-            black_box(read(text, MAX_VARIABLE, MAX_CLAUSE_WORDS)).ok();
-        },
-        proved!(crate::ffi::read(text, &mut prefix, &mut clauses)),
+        RUNS,
+        proved!(crate::ffi::qdr_read(
+            text,
+            &mut prefix,
+            &mut clauses,
+            &mut [0; 5]
+        )),
+        &mut [("", reference!(read(text, MAX_VARIABLE, MAX_CLAUSE_WORDS)))],
     );
 }
 
-fn time_rows(tables: &Tables) {
+/// Every row, against a search by worklist and, where that is of interest, one by passes.
+pub fn time_rows(name: &str, runs: Runs, tables: &Tables, with_passes: bool) {
     let Tables { prefix, clauses } = tables;
-    time_every_row("row, each of 512 universals", tables, |variable| {
-        row(prefix, clauses, variable, ROW_BYTES, SCRATCH_BYTES)
-    });
-    time_every_row("  the same, reference by passes", tables, |variable| {
-        row_by_passes(prefix, clauses, variable)
-    });
-}
-
-fn time_every_row(name: &str, tables: &Tables, row: impl Fn(i32) -> Result<Row, Refusal>) {
-    let prefix = &tables.prefix;
     let universals = || prefix.iter().filter(|&&word| word < 0).map(|word| -word);
+    let by_worklist = &mut || {
+        for variable in universals() {
+            black_box(row(prefix, clauses, variable, ROW_BYTES, SCRATCH_BYTES)).ok();
+        }
+    };
+    let by_passes = &mut || {
+        for variable in universals() {
+            black_box(row_by_passes(prefix, clauses, variable)).ok();
+        }
+    };
     #[cfg(proved)]
     let (mut bytes, mut scratch) = (vec![0; ROW_BYTES], vec![0; SCRATCH_BYTES]);
+    let references: &mut [Reference] =
+        &mut [("by worklist", by_worklist), ("by passes", by_passes)];
     report(
         name,
-        || {
-            for variable in universals() {
-                black_box(row(variable)).ok();
-            }
-        },
-        proved!({
-            for variable in universals() {
-                let (clauses, row) = (&tables.clauses, &mut bytes);
-                black_box(crate::ffi::row(
-                    prefix,
-                    clauses,
-                    variable,
-                    row,
-                    &mut scratch,
-                ));
-            }
+        runs,
+        proved!(for variable in universals() {
+            let (row, scratch) = (&mut bytes[..], &mut scratch[..]);
+            crate::ffi::qdr_row(prefix, clauses, variable, row, scratch, &mut [0; 5]);
         }),
+        &mut references[..1 + usize::from(with_passes)],
     );
 }
 
@@ -211,10 +280,9 @@ fn time_proof_file(random: &mut Random) {
     let mut room = vec![0; MAX_STEP_WORDS];
     report(
         "read_proof, 1,048,576 step words",
-        || {
-            black_box(read_proof(&file, 5, MAX_STEP_WORDS)).ok();
-        },
-        proved!(crate::ffi::read_proof(&file, 5, &mut room)),
+        RUNS,
+        proved!(crate::ffi::qdr_read_proof(&file, 5, &mut room, &mut [0; 5])),
+        &mut [("", reference!(read_proof(&file, 5, MAX_STEP_WORDS)))],
     );
 }
 
@@ -229,41 +297,52 @@ fn time_checks(random: &mut Random, full: &Tables) {
     };
     let tables = shape.tables(random);
     let steps = long_derivation(random, &tables, MAX_STEP_WORDS, 14, usize::MAX);
-    time_check("check, resolutions", &tables, &steps, Rows::Kept);
+    let name = "check, resolutions, 1,048,576 step words";
+    time_check(name, RUNS, &tables, &steps, &[Rows::Kept]);
     let steps = long_derivation(random, &tables, MAX_STEP_WORDS, 14, 2);
-    let name = "check, resolutions and reductions";
-    time_check(name, &tables, &steps, Rows::Kept);
-    time_check(
-        "  the same, a row for each reduction",
-        &tables,
-        &steps,
-        Rows::Anew,
-    );
+    let name = "check, the same with reductions";
+    time_check(name, RUNS, &tables, &steps, &[Rows::Kept, Rows::Anew]);
     let steps = long_derivation(random, full, MAX_STEP_WORDS, 20, 200);
     let name = "check, few reductions, 65,536 clause words";
-    time_check(name, full, &steps, Rows::Kept);
-    let name = "  the same, a row for each reduction";
-    time_check(name, full, &steps, Rows::Anew);
+    time_check(name, RUNS, full, &steps, &[Rows::Kept, Rows::Anew]);
 }
 
-fn time_check(name: &str, tables: &Tables, steps: &[i32], rows: Rows) {
+pub fn time_check(name: &str, runs: Runs, tables: &Tables, steps: &[i32], kinds: &[Rows]) {
     let Tables { prefix, clauses } = tables;
-    let starts_room = MAX_CLAUSES + steps.len() / 4;
+    let room = Room::FULL;
     #[cfg(proved)]
-    let (mut scratch, mut starts) = (vec![0; SCRATCH_BYTES], vec![0; starts_room]);
+    let (mut scratch, mut starts) = (vec![0; room.scratch], vec![0; room.starts]);
+    let mut work: Vec<_> = kinds
+        .iter()
+        .map(|&rows| {
+            move || {
+                let Room {
+                    scratch, starts, ..
+                } = room;
+                black_box(check(prefix, clauses, steps, scratch, starts, rows)).ok();
+            }
+        })
+        .collect();
+    let mut references: Vec<Reference> = Vec::new();
+    for (work, rows) in work.iter_mut().zip(kinds) {
+        let label = match rows {
+            Rows::Kept => "rows kept",
+            Rows::Anew => "a row for each reduction",
+        };
+        references.push((label, work));
+    }
     report(
         name,
-        || {
-            let room = (SCRATCH_BYTES, starts_room);
-            black_box(check(prefix, clauses, steps, room.0, room.1, rows)).ok();
-        },
-        proved!(crate::ffi::check(
+        runs,
+        proved!(crate::ffi::qdr_check(
             prefix,
             clauses,
             steps,
             &mut scratch,
-            &mut starts
+            &mut starts,
+            &mut [0; 5]
         )),
+        &mut references,
     );
 }
 
@@ -297,16 +376,64 @@ fn time_game(name: &str, tables: &Tables) {
     let Tables { prefix, clauses } = tables;
     report(
         name,
-        || {
-            black_box(evaluate(prefix, clauses)).ok();
-        },
-        proved!(crate::ffi::evaluate(prefix, clauses)),
+        RUNS,
+        proved!(crate::ffi::qdr_evaluate(prefix, clauses, &mut [0; 5])),
+        &mut [
+            ("masks", reference!(evaluate(prefix, clauses))),
+            (
+                "clause words",
+                reference!(evaluate_by_words(prefix, clauses)),
+            ),
+        ],
+    );
+}
+
+/// The two entries that go from bytes to bytes.
+fn time_lines(full: &Tables) {
+    let room = Room::FULL;
+    let (tables, steps) = refutation(MAX_STEP_WORDS);
+    let formula = write(&tables.prefix, &tables.clauses, MAX_TEXT).unwrap_or_default();
+    let proof = write_proof(b"", &steps, tables.count() as u32);
+    #[cfg(proved)]
+    let (mut prefix, mut clauses) = (vec![0; room.prefix], vec![0; room.clauses]);
+    #[cfg(proved)]
+    let (mut scratch, mut starts) = (vec![0; room.scratch], vec![0; room.starts]);
+    #[cfg(proved)]
+    let (mut words, mut text) = (
+        vec![0; room.steps],
+        vec![0; crate::reference::program::LINES_BYTES],
     );
     report(
-        "  the same, reference on clause words",
-        || {
-            black_box(evaluate_by_words(prefix, clauses)).ok();
-        },
-        proved!(crate::ffi::evaluate(prefix, clauses)),
+        &format!("check_line, refutation of {} words", steps.len()),
+        RUNS,
+        proved!(crate::ffi::qdr_check_line(
+            &formula,
+            &proof,
+            room.file,
+            &mut prefix,
+            &mut clauses,
+            &mut words,
+            &mut scratch,
+            &mut starts,
+            &mut text
+        )),
+        &mut [(
+            "rows kept",
+            reference!(check_line(room, &formula, || &proof)),
+        )],
+    );
+    let formula = write(&full.prefix, &full.clauses, MAX_TEXT).unwrap_or_default();
+    report(
+        "dependency_lines, 512 universals, 65,536 clause words",
+        RUNS,
+        proved!(crate::ffi::qdr_dependency_lines(
+            &formula,
+            room.file,
+            &mut prefix,
+            &mut clauses,
+            &mut scratch,
+            &mut text
+        )),
+        &mut [("by worklist", reference!(dependency_lines(room, &formula)))],
     );
 }

@@ -1,12 +1,14 @@
 //! The inputs at each bound and one past it.
 
+use super::chains::{chain, reductions, Order};
 use super::derive::long_derivation;
+use super::lines::edge_lines;
 use super::proofs::check_case;
 use super::texts::{spell, tokens};
 use super::{push_clause, Case, Random, Shape, Tables};
 use crate::reference::file::write_proof;
 use crate::reference::{
-    MAX_CLAUSES, MAX_CLAUSE_WORDS, MAX_STEP_WORDS, MAX_TEXT, MAX_VARIABLE, SCRATCH_BYTES,
+    MAX_CLAUSES, MAX_CLAUSE_WORDS, MAX_STEP_WORDS, MAX_TEXT, MAX_VARIABLE, ROW_BYTES, SCRATCH_BYTES,
 };
 
 pub fn edges(random: &mut Random) -> Vec<Case> {
@@ -47,6 +49,8 @@ pub fn edges(random: &mut Random) -> Vec<Case> {
     }
     cases.extend(edge_texts());
     cases.extend(edge_proofs(random));
+    cases.extend(edge_chains(random));
+    cases.extend(edge_lines(random));
     cases
 }
 
@@ -126,6 +130,28 @@ fn edge_texts() -> Vec<Case> {
             })
         })
         .collect()
+}
+
+/// Rows and reductions on long chains, without a dependent, and with a clause more that makes all of the chain
+/// depend on the first universal.
+fn edge_chains(random: &mut Random) -> Vec<Case> {
+    let mut cases = Vec::new();
+    for order in [Order::Near, Order::Far, Order::Shuffled, Order::Zigzag] {
+        let free = chain(random, 124, 900, order);
+        let mut bound = free.clone();
+        bound.clauses.extend([1, -1024, 0]);
+        for tables in [free, bound] {
+            let steps = reductions(&tables, 6);
+            cases.push(check_case(random, &tables, steps));
+            cases.extend([1, 2].map(|variable| Case::Row {
+                tables: tables.clone(),
+                variable,
+                row_room: ROW_BYTES,
+                scratch_room: SCRATCH_BYTES,
+            }));
+        }
+    }
+    cases
 }
 
 fn edge_proofs(random: &mut Random) -> Vec<Case> {

@@ -8,7 +8,7 @@ use crate::reference::file::write_proof;
 pub fn file_batch(random: &mut Random) -> Vec<Case> {
     let mut cases = Vec::new();
     for _ in 0..8 {
-        let note: Vec<u8> = (0..random.below(20)).map(|_| random.next() as u8).collect();
+        let note = note(random);
         let steps: Vec<i32> = (0..random.below(30)).map(|_| odd_word(random)).collect();
         let clause_count = random.pick(&[0, 1, 5, 8192, u32::MAX]);
         let mut file = write_proof(&note, &steps, clause_count);
@@ -22,8 +22,12 @@ pub fn file_batch(random: &mut Random) -> Vec<Case> {
     cases
 }
 
+pub fn note(random: &mut Random) -> Vec<u8> {
+    (0..random.below(20)).map(|_| random.next() as u8).collect()
+}
+
 /// Changes the trailer, or cuts the file at either end, or leaves it.
-fn damage_file(random: &mut Random, file: &mut Vec<u8>) {
+pub fn damage_file(random: &mut Random, file: &mut Vec<u8>) {
     let trailer = file.len() - 12;
     match random.below(12) {
         0 => {

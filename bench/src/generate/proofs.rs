@@ -7,7 +7,7 @@ use super::{Case, Random, Shape, Tables};
 use crate::reference::SCRATCH_BYTES;
 
 /// The places at which steps begin, up to the first that is broken.
-fn step_places(steps: &[i32]) -> Vec<usize> {
+pub fn step_places(steps: &[i32]) -> Vec<usize> {
     let mut places = Vec::new();
     let mut at = 0;
     while at < steps.len() {
@@ -22,7 +22,8 @@ fn step_places(steps: &[i32]) -> Vec<usize> {
     places
 }
 
-pub fn proof_batch(random: &mut Random) -> Vec<Case> {
+/// A formula, mostly tight, and a lawful derivation.
+pub fn lawful(random: &mut Random) -> (Tables, Vec<i32>) {
     let shape = match random.below(60) {
         0 => Shape::middling(random),
         1..=5 => Shape::small(random),
@@ -31,6 +32,11 @@ pub fn proof_batch(random: &mut Random) -> Vec<Case> {
     let tables = shape.tables(random);
     let count = random.pick(&[3, 10, 30, 60]);
     let steps = derivation(random, &tables, count, 16);
+    (tables, steps)
+}
+
+pub fn proof_batch(random: &mut Random) -> Vec<Case> {
+    let (tables, steps) = lawful(random);
     let mut cases = vec![check_case(random, &tables, steps.clone())];
     for _ in 0..8 {
         let mut damaged = steps.clone();
@@ -45,7 +51,7 @@ pub fn proof_batch(random: &mut Random) -> Vec<Case> {
 }
 
 pub fn check_case(random: &mut Random, tables: &Tables, steps: Vec<i32>) -> Case {
-    let inputs = tables.clauses.iter().filter(|&&word| word == 0).count();
+    let inputs = tables.count();
     let numbered = inputs + step_places(&steps).len();
     let starts_room = match random.below(40) {
         0 => inputs.saturating_sub(1),
@@ -64,7 +70,7 @@ pub fn check_case(random: &mut Random, tables: &Tables, steps: Vec<i32>) -> Case
     }
 }
 
-fn damage_steps(random: &mut Random, tables: &Tables, steps: &mut Vec<i32>) {
+pub fn damage_steps(random: &mut Random, tables: &Tables, steps: &mut Vec<i32>) {
     let places = step_places(steps);
     if places.is_empty() || random.one_in(6) {
         steps.extend(wild_step(random, tables, places.len()));

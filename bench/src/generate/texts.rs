@@ -53,7 +53,7 @@ const ODD_TOKENS: [&str; 36] = [
 pub fn tokens(random: &mut Random, tables: &Tables) -> Vec<String> {
     let largest = tables.prefix.iter().map(|w| w.unsigned_abs()).max();
     let largest = largest.unwrap_or(0) as usize;
-    let count = tables.clauses.iter().filter(|&&w| w == 0).count();
+    let count = tables.count();
     let (declared, stated) = match random.below(20) {
         0 => (largest.saturating_sub(1), count),
         1 => (largest, count + 1),
@@ -113,7 +113,7 @@ pub fn spell(random: &mut Random, tokens: &[String]) -> Vec<u8> {
     text
 }
 
-fn damage_tokens(random: &mut Random, tokens: &mut Vec<String>) {
+pub fn damage_tokens(random: &mut Random, tokens: &mut Vec<String>) {
     let place = random.below(tokens.len());
     match random.below(8) {
         0 => {

@@ -6,7 +6,7 @@ use std::io::Write;
 use std::path::Path;
 
 use super::file::write_proof;
-use super::program::{check_line, dependency_lines};
+use super::program::{self, printed, Room};
 use super::row::row;
 use super::steps::{check, Rows, Verdict};
 use super::tables::check_tables;
@@ -22,6 +22,15 @@ const STEPS: [i32; 27] = [
 fn dependents(prefix: &[i32], clauses: &[i32], variable: i32) -> Vec<usize> {
     let row = row(prefix, clauses, variable, 1025, 8200).unwrap();
     (0..1025).filter(|&v| row[v] == 1).collect()
+}
+
+/// The lines of the two programs, with their room.
+fn check_line(formula: &[u8], proof: impl FnOnce() -> Vec<u8>) -> String {
+    printed(program::check_line(Room::PROGRAMS, formula, proof))
+}
+
+fn dependency_lines(formula: &[u8]) -> String {
+    printed(program::dependency_lines(Room::PROGRAMS, formula))
 }
 
 /// The empty clause and the number of steps, or the refusal's number and place.

@@ -1,79 +1,77 @@
-//! The two programs: what they print for a formula's text and a proof file.
+//! The two programs: what they print for a formula's text and a proof file, with the room they are lent.
 
 use super::file::read_proof;
-use super::row::row;
+use super::row::Occurrences;
 use super::steps::{check, Rows};
+use super::tables::Counts;
 use super::text::{read, Reading};
-use super::{Reason, Refusal, MAX_VARIABLE, ROW_BYTES, SCRATCH_BYTES};
+use super::{
+    Reason, Refusal, MAX_CLAUSES, MAX_CLAUSE_WORDS, MAX_STEP_WORDS, MAX_VARIABLE, SCRATCH_BYTES,
+};
 
-/// The longest file either program takes.
-pub const FILE_BYTES: usize = 65_536;
-/// The room for clause words, for step words and for starts.
-pub const PROGRAM_WORDS: usize = 16_384;
+/// The longest file that is taken, and the lengths of the tables and of the scratch.
+#[derive(Clone, Copy, Debug, PartialEq, Eq)]
+pub struct Room {
+    pub file: usize,
+    pub prefix: usize,
+    pub clauses: usize,
+    pub steps: usize,
+    pub scratch: usize,
+    pub starts: usize,
+}
+
+impl Room {
+    /// What the specification gives the two programs.
+    pub const PROGRAMS: Room = Room {
+        file: 65_536,
+        prefix: MAX_VARIABLE,
+        clauses: 16_384,
+        steps: 16_384,
+        scratch: SCRATCH_BYTES,
+        starts: 16_384,
+    };
+
+    /// What suffices for every formula and proof within the bounds: a step has four words at least.
+    pub const FULL: Room = Room {
+        file: usize::MAX,
+        prefix: MAX_VARIABLE,
+        clauses: MAX_CLAUSE_WORDS,
+        steps: MAX_STEP_WORDS,
+        scratch: SCRATCH_BYTES,
+        starts: MAX_CLAUSES + MAX_STEP_WORDS / 4,
+    };
+}
+
+/// Holds every text of the second program: a line has six bytes at most for its universal and five for each
+/// dependent, and there are no more pairs of a universal and an existential than 512 times 512.
+pub const LINES_BYTES: usize = 6 * MAX_VARIABLE + 5 * (MAX_VARIABLE / 2) * (MAX_VARIABLE / 2);
+
+/// What a program prints for an answer.
+pub fn printed(answer: Result<String, Refusal>) -> String {
+    answer.unwrap_or_else(|Refusal { reason, place }| {
+        format!("refused {} {} {place}\n", reason.number(), reason.word())
+    })
+}
 
 /// The line of the first program. The proof file is asked for once the formula is settled.
-pub fn check_line(formula: &[u8], proof: impl FnOnce() -> Vec<u8>) -> String {
-    match verdict(formula, proof) {
-        Ok(line) => line,
-        Err(refusal) => refused(refusal),
-    }
-}
-
-/// The lines of the second program.
-pub fn dependency_lines(formula: &[u8]) -> String {
-    let reading = match read_formula(formula) {
-        Ok(reading) => reading,
-        Err(refusal) => return refused(refusal),
-    };
-    let mut lines = String::new();
-    for &word in reading.prefix.iter().filter(|&&word| word < 0) {
-        let row = row(
-            &reading.prefix,
-            &reading.clauses,
-            -word,
-            ROW_BYTES,
-            SCRATCH_BYTES,
-        );
-        let row = match row {
-            Ok(row) => row,
-            Err(refusal) => return refused(refusal),
-        };
-        lines += &format!("{}:", -word);
-        for &word in &reading.prefix {
-            if row[word.unsigned_abs() as usize] == 1 {
-                lines += &format!(" {word}");
-            }
-        }
-        lines.push('\n');
-    }
-    lines
-}
-
-fn refused(refusal: Refusal) -> String {
-    let Refusal { reason, place } = refusal;
-    format!("refused {} {} {place}\n", reason.number(), reason.word())
-}
-
-fn read_formula(formula: &[u8]) -> Result<Reading, Refusal> {
-    if formula.len() > FILE_BYTES {
-        return Err(Reason::Oversized.at(0));
-    }
-    read(formula, MAX_VARIABLE, PROGRAM_WORDS)
-}
-
-fn verdict(formula: &[u8], proof: impl FnOnce() -> Vec<u8>) -> Result<String, Refusal> {
-    let reading = read_formula(formula)?;
+pub fn check_line<P: AsRef<[u8]>>(
+    room: Room,
+    formula: &[u8],
+    proof: impl FnOnce() -> P,
+) -> Result<String, Refusal> {
+    let reading = read_formula(room, formula)?;
     let proof = proof();
-    if proof.len() > FILE_BYTES {
+    let proof = proof.as_ref();
+    if proof.len() > room.file {
         return Err(Reason::Oversized.at(0));
     }
-    let steps = read_proof(&proof, reading.count as u32, PROGRAM_WORDS)?;
+    let steps = read_proof(proof, reading.count as u32, room.steps)?;
     let verdict = check(
         &reading.prefix,
         &reading.clauses,
         &steps,
-        SCRATCH_BYTES,
-        PROGRAM_WORDS,
+        room.scratch,
+        room.starts,
         Rows::Kept,
     )?;
     Ok(format!(
@@ -83,4 +81,36 @@ fn verdict(formula: &[u8], proof: impl FnOnce() -> Vec<u8>) -> Result<String, Re
         verdict.steps,
         verdict.empty
     ))
+}
+
+/// The lines of the second program.
+pub fn dependency_lines(room: Room, formula: &[u8]) -> Result<String, Refusal> {
+    let reading = read_formula(room, formula)?;
+    if room.scratch < SCRATCH_BYTES {
+        return Err(Reason::NoRoom.at(0));
+    }
+    let counts = Counts {
+        variables: reading.prefix.len(),
+        clauses: reading.count,
+    };
+    let occurrences = Occurrences::of(&reading.clauses, counts);
+    let mut lines = String::new();
+    for &word in reading.prefix.iter().filter(|&&word| word < 0) {
+        let row = occurrences.row(&reading.prefix, -word);
+        lines += &format!("{}:", -word);
+        for &word in &reading.prefix {
+            if row[word.unsigned_abs() as usize] == 1 {
+                lines += &format!(" {word}");
+            }
+        }
+        lines.push('\n');
+    }
+    Ok(lines)
+}
+
+fn read_formula(room: Room, formula: &[u8]) -> Result<Reading, Refusal> {
+    if formula.len() > room.file {
+        return Err(Reason::Oversized.at(0));
+    }
+    read(formula, room.prefix, room.clauses)
 }

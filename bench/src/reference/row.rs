@@ -32,7 +32,17 @@ pub fn row_by_passes(prefix: &[i32], clauses: &[i32], variable: i32) -> Result<R
         return Err(Reason::NotUniversal.at(0));
     }
     let scope = Scope::of(prefix, variable);
-    Ok(scope.row(variable, |start| reached_by_passes(clauses, start, &scope)))
+    Ok(scope.row(variable, |start| {
+        let (reached, _) = reached_by_passes(clauses, start, &scope);
+        reached
+    }))
+}
+
+/// How many passes the longer of the two searches takes, the last of which changes nothing.
+pub fn passes(prefix: &[i32], clauses: &[i32], variable: i32) -> usize {
+    let scope = Scope::of(prefix, variable);
+    let passes = |start| reached_by_passes(clauses, start, &scope).1;
+    passes(variable).max(passes(-variable))
 }
 
 /// The existential variables right of a universal one.
@@ -71,14 +81,17 @@ impl Scope {
     }
 }
 
-fn reached_by_passes(clauses: &[i32], start: i32, scope: &Scope) -> [bool; LITERALS] {
+/// The literals reached, and the passes it took.
+fn reached_by_passes(clauses: &[i32], start: i32, scope: &Scope) -> ([bool; LITERALS], usize) {
     let mut reached = [false; LITERALS];
     let mut entries = [false; LITERALS];
     entries[literal_index(start)] = true;
     let mut left = 2 * scope.variables.len();
     let mut before = usize::MAX;
+    let mut passes = 0;
     while left > 0 && left < before {
         before = left;
+        passes += 1;
         for clause in clauses.split(|&word| word == 0) {
             let is_entry = |literal: &&i32| entries[literal_index(**literal)];
             let mut entered = clause.iter().filter(is_entry);
@@ -99,7 +112,7 @@ fn reached_by_passes(clauses: &[i32], start: i32, scope: &Scope) -> [bool; LITER
             }
         }
     }
-    reached
+    (reached, passes)
 }
 
 /// Where each clause begins, and for each literal the clauses that hold it.

@@ -1,5 +1,5 @@
-//! Reading a formula's text: comments, the header, quantifier sets, clauses. Tokens are judged from the
-//! left; the first wrong one refuses. Every place is a byte of the text.
+//! Reading a formula's text in one pass: comments, the header, quantifier sets, clauses. Tokens are judged
+//! from the left; the first wrong one refuses. Every place is a byte of the text.
 
 use super::tables::Seen;
 use super::{Reason, Refusal, MAX_CLAUSES, MAX_CLAUSE_WORDS, MAX_TEXT, MAX_VARIABLE};
@@ -17,39 +17,37 @@ pub fn read(text: &[u8], prefix_room: usize, clause_room: usize) -> Result<Readi
         return Err(Reason::Oversized.at(0));
     }
     let mut tokens = Tokens { text, at: 0 };
-    let (largest, count) = header(&mut tokens)?;
-    let mut body = Body {
-        largest,
-        count,
-        prefix_room,
-        clause_room,
-        prefix: Vec::with_capacity(largest.min(prefix_room)),
-        clauses: Vec::with_capacity((text.len() / 2).min(MAX_CLAUSE_WORDS).min(clause_room)),
-        closed: 0,
-        seen: Seen::new(),
-    };
-    let mut inside = Inside::Nothing;
-    while let Some(token) = tokens.next() {
-        inside = body.token(inside, token)?;
-    }
-    if inside != Inside::Nothing {
-        return Err(Reason::Unfinished.at(text.len()));
-    }
-    if body.closed < count {
-        return Err(Reason::Miscount.at(text.len()));
-    }
+    let (largest, count) = tokens.header()?;
+    let mut seen = Seen::new();
+    let room = prefix_room;
+    let (prefix, first) = tokens.sets(largest, count, &mut seen, room)?;
+    let room = clause_room;
+    let clauses = tokens.clauses(first, largest, count, &mut seen, room)?;
     Ok(Reading {
-        prefix: body.prefix,
-        clauses: body.clauses,
+        prefix,
+        clauses,
         count,
     })
 }
 
+/// A token and the place of its first byte.
 #[derive(Clone, Copy)]
-struct Token<'a> {
+struct Token {
     place: usize,
-    bytes: &'a [u8],
+    kind: Kind,
 }
+
+#[derive(Clone, Copy)]
+enum Kind {
+    /// A number, those of ten digits and more as VAST.
+    Number(i32),
+    /// One byte that is no number.
+    Letter(u8),
+    Other,
+}
+
+/// Above every bound: what longer numbers count as.
+const VAST: i32 = 1_000_000_000;
 
 struct Tokens<'a> {
     text: &'a [u8],
@@ -60,21 +58,54 @@ fn is_blank(byte: u8) -> bool {
     matches!(byte, b' ' | b'\t' | b'\r' | b'\n')
 }
 
-impl<'a> Tokens<'a> {
-    fn next(&mut self) -> Option<Token<'a>> {
-        let rest = &self.text[self.at..];
-        let skipped = rest.iter().position(|&byte| !is_blank(byte))?;
-        let rest = &rest[skipped..];
-        let length = rest
-            .iter()
-            .position(|&byte| is_blank(byte))
-            .unwrap_or(rest.len());
-        let place = self.at + skipped;
-        self.at = place + length;
-        Some(Token {
-            place,
-            bytes: &rest[..length],
-        })
+impl Tokens<'_> {
+    /// The next token. Past one that is no number and no letter the text is not read on: it refuses.
+    #[inline(always)]
+    fn next(&mut self) -> Option<Token> {
+        let mut at = self.at;
+        while is_blank(*self.text.get(at)?) {
+            at += 1;
+        }
+        let place = at;
+        let negative = self.text[at] == b'-';
+        at += usize::from(negative);
+        let digits = at;
+        let mut value: i32 = 0;
+        let after = loop {
+            let byte = *self.text.get(at).unwrap_or(&b' ');
+            let digit = byte.wrapping_sub(b'0');
+            if digit > 9 {
+                break byte;
+            }
+            value = value.wrapping_mul(10).wrapping_add(i32::from(digit));
+            at += 1;
+        };
+        self.at = at;
+        let length = at - digits;
+        let kind = if !is_blank(after) || length == 0 {
+            self.letter(place)
+        } else if self.text[digits] == b'0' {
+            // 0 itself is a number; -0 and 01 are none.
+            if at - place == 1 {
+                Kind::Number(0)
+            } else {
+                Kind::Other
+            }
+        } else {
+            let value = if length > 9 { VAST } else { value };
+            Kind::Number(if negative { -value } else { value })
+        };
+        Some(Token { place, kind })
+    }
+
+    /// A token that is no number: moves past it if it is one byte.
+    #[cold]
+    fn letter(&mut self, place: usize) -> Kind {
+        self.at = place + 1;
+        if self.text.get(self.at).is_none_or(|&byte| is_blank(byte)) {
+            return Kind::Letter(self.text[place]);
+        }
+        Kind::Other
     }
 
     /// Moves past blanks and comment lines, to the first token or the end.
@@ -92,144 +123,127 @@ impl<'a> Tokens<'a> {
             }
         }
     }
-}
 
-/// Far above every bound and far below overflow: longer numbers stay here.
-const VAST: i64 = 1 << 40;
+    /// V and C.
+    fn header(&mut self) -> Result<(usize, usize), Refusal> {
+        self.skip_comments();
+        self.header_word(b"p")?;
+        self.header_word(b"cnf")?;
+        let largest = self.header_number(MAX_VARIABLE)?;
+        let count = self.header_number(MAX_CLAUSES)?;
+        Ok((largest, count))
+    }
 
-/// 0, or an optional minus and digits that start with 1 to 9. Never wraps.
-fn number(token: &[u8]) -> Option<i64> {
-    if token == b"0" {
-        return Some(0);
-    }
-    let (negative, digits) = match token {
-        [b'-', digits @ ..] => (true, digits),
-        digits => (false, digits),
-    };
-    if !matches!(digits.first(), Some(b'1'..=b'9')) {
-        return None;
-    }
-    let mut value = 0;
-    for &digit in digits {
-        if !digit.is_ascii_digit() {
-            return None;
+    fn header_word(&mut self, word: &[u8]) -> Result<(), Refusal> {
+        let rest = &self.text[self.at..];
+        let blanks = rest.iter().position(|&byte| !is_blank(byte));
+        let place = self.at + blanks.unwrap_or(rest.len());
+        let rest = &self.text[place..];
+        self.at = place + word.len();
+        if rest.starts_with(word) && rest.get(word.len()).is_none_or(|&byte| is_blank(byte)) {
+            return Ok(());
         }
-        value = (10 * value + i64::from(digit - b'0')).min(VAST);
+        Err(Reason::Headless.at(place))
     }
-    Some(if negative { -value } else { value })
-}
 
-fn header(tokens: &mut Tokens) -> Result<(usize, usize), Refusal> {
-    tokens.skip_comments();
-    for expected in [&b"p"[..], b"cnf"] {
-        let token = header_token(tokens)?;
-        if token.bytes != expected {
-            return Err(Reason::Headless.at(token.place));
-        }
-    }
-    let largest = header_number(tokens, MAX_VARIABLE)?;
-    let count = header_number(tokens, MAX_CLAUSES)?;
-    Ok((largest, count))
-}
-
-fn header_token<'a>(tokens: &mut Tokens<'a>) -> Result<Token<'a>, Refusal> {
-    let end = tokens.text.len();
-    tokens.next().ok_or(Reason::Headless.at(end))
-}
-
-fn header_number(tokens: &mut Tokens, bound: usize) -> Result<usize, Refusal> {
-    let token = header_token(tokens)?;
-    match number(token.bytes) {
-        Some(value) if value > bound as i64 => Err(Reason::Oversized.at(0)),
-        Some(value) if value >= 0 => Ok(value as usize),
-        _ => Err(Reason::Headless.at(token.place)),
-    }
-}
-
-#[derive(Clone, Copy, PartialEq, Eq)]
-enum Inside {
-    Nothing,
-    /// A set: its sign in the prefix table, and whether it has a variable yet.
-    Set {
-        sign: i32,
-        empty: bool,
-    },
-    Clause,
-}
-
-struct Body {
-    largest: usize,
-    count: usize,
-    prefix_room: usize,
-    clause_room: usize,
-    prefix: Vec<i32>,
-    clauses: Vec<i32>,
-    closed: usize,
-    seen: Seen,
-}
-
-impl Body {
-    fn token(&mut self, inside: Inside, token: Token) -> Result<Inside, Refusal> {
-        match inside {
-            Inside::Set { sign, empty } => self.set(sign, empty, token),
-            Inside::Clause => self.clause(token),
-            Inside::Nothing => match token.bytes {
-                b"a" if self.closed == 0 => Ok(Inside::Set {
-                    sign: -1,
-                    empty: true,
-                }),
-                b"e" if self.closed == 0 => Ok(Inside::Set {
-                    sign: 1,
-                    empty: true,
-                }),
-                _ if self.closed == self.count => Err(Reason::Miscount.at(token.place)),
-                _ => self.clause(token),
-            },
+    fn header_number(&mut self, bound: usize) -> Result<usize, Refusal> {
+        let end = Reason::Headless.at(self.text.len());
+        let token = self.next().ok_or(end)?;
+        match token.kind {
+            Kind::Number(value) if value > bound as i32 => Err(Reason::Oversized.at(0)),
+            Kind::Number(value) if value >= 0 => Ok(value as usize),
+            _ => Err(Reason::Headless.at(token.place)),
         }
     }
 
-    fn set(&mut self, sign: i32, empty: bool, token: Token) -> Result<Inside, Refusal> {
-        let value = match number(token.bytes) {
-            Some(0) if !empty => return Ok(Inside::Nothing),
-            Some(value) if value > 0 => value as usize,
-            _ => return Err(Reason::BadToken.at(token.place)),
-        };
-        if value > self.largest {
-            return Err(Reason::OutOfRange.at(token.place));
-        }
-        if !self.seen.bind(value) {
-            return Err(Reason::BoundTwice.at(token.place));
-        }
-        if self.prefix.len() == self.prefix_room {
-            return Err(Reason::NoRoom.at(token.place));
-        }
-        self.prefix.push(sign * value as i32);
-        Ok(Inside::Set { sign, empty: false })
+    fn unfinished(&self) -> Refusal {
+        Reason::Unfinished.at(self.text.len())
     }
 
-    fn clause(&mut self, token: Token) -> Result<Inside, Refusal> {
-        let value = number(token.bytes).ok_or(Reason::BadToken.at(token.place))?;
-        let variable = value.unsigned_abs() as usize;
-        if variable > self.largest {
-            return Err(Reason::OutOfRange.at(token.place));
+    /// The prefix words of the sets, and the token after them.
+    fn sets(
+        &mut self,
+        largest: usize,
+        count: usize,
+        seen: &mut Seen,
+        room: usize,
+    ) -> Result<(Vec<i32>, Option<Token>), Refusal> {
+        let mut prefix = Vec::with_capacity(largest.min(room));
+        while let Some(token) = self.next() {
+            let sign = match token.kind {
+                Kind::Letter(b'a') => -1,
+                Kind::Letter(b'e') => 1,
+                _ if count == 0 => return Err(Reason::Miscount.at(token.place)),
+                _ => return Ok((prefix, Some(token))),
+            };
+            let before = prefix.len();
+            loop {
+                let token = self.next().ok_or_else(|| self.unfinished())?;
+                let variable = match token.kind {
+                    Kind::Number(0) if prefix.len() > before => break,
+                    Kind::Number(value) if value > 0 => value as usize,
+                    _ => return Err(Reason::BadToken.at(token.place)),
+                };
+                if variable > largest {
+                    return Err(Reason::OutOfRange.at(token.place));
+                }
+                if !seen.bind(variable) {
+                    return Err(Reason::BoundTwice.at(token.place));
+                }
+                if prefix.len() == room {
+                    return Err(Reason::NoRoom.at(token.place));
+                }
+                prefix.push(sign * variable as i32);
+            }
         }
-        if self.clauses.len() == MAX_CLAUSE_WORDS {
-            return Err(Reason::Oversized.at(0));
+        Ok((prefix, None))
+    }
+
+    /// The words of so many clauses, from this token on, and then the end.
+    fn clauses(
+        &mut self,
+        first: Option<Token>,
+        largest: usize,
+        count: usize,
+        seen: &mut Seen,
+        room: usize,
+    ) -> Result<Vec<i32>, Refusal> {
+        let most = (self.text.len() / 2).min(MAX_CLAUSE_WORDS).min(room);
+        let mut clauses = Vec::with_capacity(most);
+        let mut next = first;
+        for _ in 0..count {
+            let mut token = next.ok_or(Reason::Miscount.at(self.text.len()))?;
+            loop {
+                let Kind::Number(value) = token.kind else {
+                    return Err(Reason::BadToken.at(token.place));
+                };
+                let variable = value.unsigned_abs() as usize;
+                if variable > largest {
+                    return Err(Reason::OutOfRange.at(token.place));
+                }
+                if clauses.len() == MAX_CLAUSE_WORDS {
+                    return Err(Reason::Oversized.at(0));
+                }
+                if value != 0 {
+                    let met = seen.meet(variable);
+                    met.map_err(|reason| reason.at(token.place))?;
+                }
+                if clauses.len() == room {
+                    return Err(Reason::NoRoom.at(token.place));
+                }
+                clauses.push(value);
+                if value == 0 {
+                    break;
+                }
+                token = self.next().ok_or_else(|| self.unfinished())?;
+            }
+            seen.next_clause();
+            next = self.next();
         }
-        if value != 0 {
-            let met = self.seen.meet(variable);
-            met.map_err(|reason| reason.at(token.place))?;
+        match next {
+            Some(token) => Err(Reason::Miscount.at(token.place)),
+            None => Ok(clauses),
         }
-        if self.clauses.len() == self.clause_room {
-            return Err(Reason::NoRoom.at(token.place));
-        }
-        self.clauses.push(value as i32);
-        if value != 0 {
-            return Ok(Inside::Clause);
-        }
-        self.seen.next_clause();
-        self.closed += 1;
-        Ok(Inside::Nothing)
     }
 }
 

@@ -1,0 +1,153 @@
+//! Inputs of the two programs: the bytes of a formula and of a proof file, each whole or damaged, with room
+//! about what they need, for the line too.
+
+use super::files::{damage_file, note};
+use super::proofs::{damage_steps, lawful, step_places};
+use super::tables::{damaged_tables, room};
+use super::texts::{damage_bytes, damage_tokens, spell, tokens};
+use super::{Case, Random, Tables};
+use crate::reference::file::write_proof;
+use crate::reference::program::{check_line, dependency_lines, printed, Room, LINES_BYTES};
+use crate::reference::{MAX_STEP_WORDS, MAX_TEXT, SCRATCH_BYTES};
+
+pub fn line_batch(random: &mut Random) -> Vec<Case> {
+    let (tables, steps) = lawful(random);
+    let mut cases = Vec::new();
+    for turn in 0..8 {
+        let (mut tables, mut steps) = (tables.clone(), steps.clone());
+        match turn {
+            1 | 2 => damage_steps(random, &tables, &mut steps),
+            3 => tables = damaged_tables(random, &tables),
+            _ => {}
+        }
+        let mut proof = write_proof(&note(random), &steps, tables.count() as u32);
+        if turn == 4 {
+            damage_file(random, &mut proof);
+        }
+        let mut spelled = tokens(random, &tables);
+        if turn == 5 {
+            damage_tokens(random, &mut spelled);
+        }
+        let mut formula = spell(random, &spelled);
+        if turn == 6 {
+            damage_bytes(random, &mut formula);
+        }
+        let lent = drawn_room(random, &tables, &steps, formula.len(), proof.len());
+        cases.push(check_case(random, &formula, &proof, lent));
+        if turn == 0 || turn >= 5 {
+            cases.push(dependency_case(random, &formula, lent));
+        }
+    }
+    cases
+}
+
+/// Enough of everything, or more; seldom one part short.
+fn drawn_room(
+    random: &mut Random,
+    tables: &Tables,
+    steps: &[i32],
+    formula: usize,
+    proof: usize,
+) -> Room {
+    let mut more = |needed: usize| needed + random.pick(&[0, 0, 1, 30]);
+    let mut lent = Room {
+        file: more(formula.max(proof)),
+        prefix: more(tables.prefix.len()),
+        clauses: more(tables.clauses.len()),
+        steps: more(steps.len()),
+        scratch: more(SCRATCH_BYTES),
+        starts: more(tables.count() + step_places(steps).len()),
+    };
+    match random.below(30) {
+        0 => lent.file = random.pick(&[formula, proof]).saturating_sub(1),
+        1 => lent.file = random.pick(&[formula, proof]),
+        2 => lent.prefix = room(random, tables.prefix.len()),
+        3 => lent.clauses = room(random, tables.clauses.len()),
+        4 => lent.steps = room(random, steps.len()),
+        5 => lent.scratch = random.pick(&[0, SCRATCH_BYTES / 2, SCRATCH_BYTES - 1]),
+        6 => lent.starts = random.below(lent.starts + 1),
+        7..=12 => lent.file = 65_536,
+        _ => lent.file = usize::MAX,
+    }
+    lent
+}
+
+/// A buffer for a line of so many bytes, or a little too short for it.
+fn line_room(random: &mut Random, length: usize) -> usize {
+    match random.below(20) {
+        0 => length.saturating_sub(1),
+        1 => random.below(length + 1),
+        2 => 0,
+        3..=8 => length,
+        _ => length + 100,
+    }
+}
+
+pub fn check_case(random: &mut Random, formula: &[u8], proof: &[u8], room: Room) -> Case {
+    let line = printed(check_line(room, formula, || proof));
+    Case::CheckLine {
+        formula: formula.to_vec(),
+        proof: proof.to_vec(),
+        room,
+        line_room: line_room(random, line.len()),
+    }
+}
+
+pub fn dependency_case(random: &mut Random, formula: &[u8], room: Room) -> Case {
+    let text = printed(dependency_lines(room, formula));
+    Case::DependencyLines {
+        formula: formula.to_vec(),
+        room,
+        text_room: line_room(random, text.len()),
+    }
+}
+
+/// Files at each bound and one past it, with the programs' room and with all the room there can be.
+pub fn edge_lines(random: &mut Random) -> Vec<Case> {
+    let formula = b"p cnf 2 3\ne 1 0\na 2 0\n1 0\n-1 0\n2 0\n";
+    let refutation = [1, 1, 2, 1, 0];
+    let shortest = [2, 3, 2, 0];
+    let mut pairs = Vec::new();
+    for length in [65_536, 65_537, MAX_TEXT, MAX_TEXT + 1] {
+        let mut text = formula.to_vec();
+        text.resize(length, b' ');
+        pairs.push((text, write_proof(b"", &refutation, 3)));
+        let note = vec![b'n'; length - 12 - 4 * refutation.len()];
+        pairs.push((formula.to_vec(), write_proof(&note, &refutation, 3)));
+    }
+    for words in [16_384, 16_388, MAX_STEP_WORDS, MAX_STEP_WORDS + 4] {
+        let mut steps = shortest.repeat(words / 4);
+        pairs.push((formula.to_vec(), write_proof(b"", &steps, 3)));
+        steps[words - 2] = -2;
+        pairs.push((formula.to_vec(), write_proof(b"", &steps, 3)));
+    }
+    let mut cases = Vec::new();
+    for (formula, proof) in pairs {
+        for room in [Room::PROGRAMS, Room::FULL] {
+            cases.push(check_case(random, &formula, &proof, room));
+            cases.push(dependency_case(random, &formula, room));
+        }
+    }
+    let formula = all_dependent();
+    let length = printed(dependency_lines(Room::FULL, &formula)).len();
+    cases.extend(
+        [length - 1, length, LINES_BYTES].map(|text_room| Case::DependencyLines {
+            formula: formula.clone(),
+            room: Room::FULL,
+            text_room,
+        }),
+    );
+    cases
+}
+
+/// 512 universals, and 512 existentials that depend on each: the longest text but for some digits.
+fn all_dependent() -> Vec<u8> {
+    let numbers = |sign: i32| {
+        let literals = (1..=1024).map(|v| (sign * v).to_string());
+        literals.collect::<Vec<String>>()
+    };
+    let (all, none) = (numbers(1), numbers(-1).join(" "));
+    let (universals, existentials) = (all[..512].join(" "), all[512..].join(" "));
+    let all = all.join(" ");
+    format!("p cnf 1024 2\na {universals} 0\ne {existentials} 0\n{all} 0\n{none} 0\n").into_bytes()
+}

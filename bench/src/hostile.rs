@@ -1,0 +1,32 @@
+//! Times rows and reductions on chains of clauses in orders that make a search by passes slow: the proved
+//! library against a reference that searches by worklist and keeps rows.
+
+use crate::generate::chains::{chain, reductions, Order};
+use crate::generate::Random;
+use crate::reference::row::passes;
+use crate::reference::steps::Rows;
+use crate::time::{heading, time_check, time_rows, Runs};
+
+/// What takes long is run once.
+const RUNS: Runs = Runs { most: 3, least: 1 };
+const REDUCTIONS: usize = 4000;
+
+pub fn hostile() {
+    println!("chains of binary clauses; passes: of a search that goes by passes from the left");
+    heading();
+    for order in [Order::Near, Order::Far, Order::Shuffled, Order::Zigzag] {
+        time_chain(124, 900, order);
+    }
+    time_chain(512, 512, Order::Far);
+}
+
+fn time_chain(universals: i32, existentials: i32, order: Order) {
+    let tables = chain(&mut Random::new(5), universals, existentials, order);
+    let passes = passes(&tables.prefix, &tables.clauses, 1);
+    let order = format!("{order:?}").to_lowercase();
+    let name = format!("{universals} rows, {existentials} {order}, {passes} passes");
+    time_rows(&name, RUNS, &tables, false);
+    let steps = reductions(&tables, REDUCTIONS);
+    let name = format!("{REDUCTIONS} reductions, {existentials} {order}");
+    time_check(&name, RUNS, &tables, &steps, &[Rows::Kept]);
+}
