@@ -6,29 +6,15 @@ use files::print_first;
 use files::read_file;
 use formula::read::ReadAnswer;
 use formula::read::read_formula;
-use report::check::check_line;
+use report::program::program_line;
 
 fn say(text: &[u8]) {
     print_first(text, text.len());
 }
 
 fn check(formula: &[u8], proof: &[u8]) {
-    let mut prefix = [0i32; 1024];
-    let mut clauses = [0i32; 16384];
-    let mut steps = [0i32; 16384];
-    let mut scratch = [0u8; 8200];
-    let mut starts = [0u32; 16384];
     let mut line = [0u8; 128];
-    let n = check_line(
-        formula,
-        proof,
-        &mut prefix,
-        &mut clauses,
-        &mut steps,
-        &mut scratch,
-        &mut starts,
-        &mut line,
-    );
+    let n = program_line(formula, proof, &mut line);
     print_first(&line, n);
 }
 

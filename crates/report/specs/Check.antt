@@ -1,6 +1,6 @@
 -- The line of the first program (01, "Programs") from the bytes of its two files: the formula is settled before the proof file
 -- is looked at. Then the contract of `check_line`, with the claim that an `accepted` line is to be trusted for.
-use Prim.Native.Nat.{ℕ}
+use Prim.Native.Nat.{ℕ, _≤_}
 use mathlib.Core.Path.{_≡_}
 use mathlib.Core.Bool.{Bool, true, false}
 use mathlib.Core.List.{List}
@@ -18,10 +18,11 @@ use Rattle.checker.specs.ProofFile.{read as readSteps, refused as refusedFile}
 use Rattle.checker.specs.declared.verdict.Verdict.{Verdict}
 use Rattle.checker.specs.declared.verdict.Verdict.the-variants.{Accepted, Refused}
 use Rattle.checker.specs.Verdict.{verdictOf}
-use Rattle.report.specs.Line.{acceptedText, acceptedLine, refusedLine, fileBound, settled, used, held}
+use Rattle.report.specs.Line.{acceptedText, acceptedLine, refusedLine, lineRoom, settled, used, held}
 
--- The lengths of the buffers lent, in words and bytes.
+-- The largest file taken, in bytes, and the lengths of the buffers lent, in words and bytes.
 pub record Room : Type 0 where
+  pub file : ℕ
   pub prefix : ℕ
   pub clauses : ℕ
   pub steps : ℕ
@@ -45,11 +46,11 @@ fileLine false later = refusedLine (refusal Oversized 0)
 -- The formula is settled; 2 on the proof file's length comes ahead of all else in it.
 abbrev pub proofLine : Room → (proof : List ℕ) → Reading → List ℕ
 proofLine room proof (read prefix clauses count) =
-    fileLine (leb (length proof) fileBound) (stepsLine room prefix clauses count (proofReading proof count (room .steps)))
+    fileLine (leb (length proof) (room .file)) (stepsLine room prefix clauses count (proofReading proof count (room .steps)))
 proofLine room proof (refused r) = refusedLine r
 
 unfoldable pub checkLine : Room → (formula proof : List ℕ) → List ℕ
-checkLine room formula proof = proofLine room proof (settled formula (room .prefix) (room .clauses))
+checkLine room formula proof = proofLine room proof (settled (room .file) formula (room .prefix) (room .clauses))
 
 -- The text denotes a formula whose game is lost.
 pub record DenotesLost (room : Room) (formula : List ℕ) : Type 0 where
@@ -59,10 +60,11 @@ pub record DenotesLost (room : Room) (formula : List ℕ) : Type 0 where
   pub denotes : reading formula (room .prefix) (room .clauses) ≡ read prefix clauses count
   pub lost : Lost (formulaOf prefix clauses)
 
--- What `check_line` promises. Its tables, scratch and starts end as zeros, each of its own length.
+-- What `check_line` promises; `lineRoom` bytes hold every line. Its tables, scratch and starts end as zeros, each of its own length.
 pub record LineChecked (room : Room) (formula proof line line′ : List ℕ) (answer : ℕ) (prefix′ clauses′ steps′ : List ℤ) (scratch′ starts′ : List ℕ) : Type 0 where
   pub answers : answer ≡ used (checkLine room formula proof) (length line)
   pub prints : line′ ≡ held (checkLine room formula proof) (length line)
+  pub short : length (checkLine room formula proof) ≤ lineRoom
   pub prefix-cleared : prefix′ ≡ replicate (room .prefix) (pos 0)
   pub clauses-cleared : clauses′ ≡ replicate (room .clauses) (pos 0)
   pub steps-cleared : steps′ ≡ replicate (room .steps) (pos 0)

@@ -11,10 +11,11 @@ use Rattle.checker.specs.Verdict.{verdictOf}
 use Rattle.report.specs.Check.{Room, verdictLine}
 use Rattle.report.specs.Line.{refusedLine}
 
--- The lengths of the buffers lent.
-abbrev pub lent : (prefix clauses steps : List ℤ) (scratch starts : List ℕ) → Room
-lent prefix clauses steps scratch starts =
+-- The largest file taken, and the lengths of the buffers lent.
+abbrev pub lent : (file : ℕ) (prefix clauses steps : List ℤ) (scratch starts : List ℕ) → Room
+lent file prefix clauses steps scratch starts =
     record {
+      file = file;
       prefix = length prefix;
       clauses = length clauses;
       steps = length steps;

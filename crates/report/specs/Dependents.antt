@@ -1,6 +1,6 @@
 -- The lines of the second program (01, "Programs") from the bytes of its file: for each universal in prefix order its number, a
 -- colon, and its dependents in prefix order, a space before each; or the refused line. Bytes: 58 the colon.
-use Prim.Native.Nat.{ℕ}
+use Prim.Native.Nat.{ℕ, _≤_}
 use mathlib.Core.Path.{_≡_}
 use mathlib.Core.Bool.{Bool, true, false}
 use mathlib.Core.List.{List, [], _∷_, _++_}
@@ -15,6 +15,7 @@ use Rattle.formula.specs.Refusal.{refusal}
 use Rattle.formula.specs.declared.refusal.Reason.the-variants.{NoRoom}
 use Rattle.formula.specs.Text.{Reading, read, refused}
 use Rattle.report.specs.Line.{refusedLine, settled, used, held}
+use Rattle.report.specs.Check.{Room}
 
 -- A dependent is printed with a space before it; a variable that is none is left out.
 abbrev pub ifDependent : Bool → ℕ → List ℕ
@@ -47,13 +48,20 @@ abbrev pub linesOf : (scratch : ℕ) → Reading → List ℕ
 linesOf scratch (read prefix clauses count) = ifRoom (leb 8200 scratch) (universalLines (formulaOf prefix clauses) prefix prefix)
 linesOf scratch (refused r) = refusedLine r
 
-unfoldable pub dependencyText : (prefixRoom clauseRoom scratch : ℕ) (formula : List ℕ) → List ℕ
-dependencyText prefixRoom clauseRoom scratch formula = linesOf scratch (settled formula prefixRoom clauseRoom)
+-- No steps are read: of the room that is lent, `steps` and `starts` are not used.
+unfoldable pub dependencyText : Room → (formula : List ℕ) → List ℕ
+dependencyText room formula = linesOf (room .scratch) (settled (room .file) formula (room .prefix) (room .clauses))
 
--- What `dependency_lines` promises. Its tables and scratch end as zeros.
-pub record LinesPrinted (formula text text′ : List ℕ) (answer : ℕ) (prefix prefix′ clauses clauses′ : List ℤ) (scratch scratch′ : List ℕ) : Type 0 where
-  pub answers : answer ≡ used (dependencyText (length prefix) (length clauses) (length scratch) formula) (length text)
-  pub prints : text′ ≡ held (dependencyText (length prefix) (length clauses) (length scratch) formula) (length text)
-  pub prefix-cleared : prefix′ ≡ replicate (length prefix) (pos 0)
-  pub clauses-cleared : clauses′ ≡ replicate (length clauses) (pos 0)
-  pub scratch-cleared : scratch′ ≡ replicate (length scratch) 0
+-- What a buffer for the text has room for: no text is longer. Of 1,024 variables u are universal and e existential: u lines of
+-- at most four digits, a colon and LF, and at most u × e dependents of a space and four digits; 6 × 1,024 + 5 × 512 × 512 bytes.
+abbrev pub textRoom : ℕ
+textRoom = 1316864
+
+-- What `dependency_lines` promises; `textRoom` bytes hold every text. Its tables and scratch end as zeros.
+pub record LinesPrinted (room : Room) (formula text text′ : List ℕ) (answer : ℕ) (prefix′ clauses′ : List ℤ) (scratch′ : List ℕ) : Type 0 where
+  pub answers : answer ≡ used (dependencyText room formula) (length text)
+  pub prints : text′ ≡ held (dependencyText room formula) (length text)
+  pub short : length (dependencyText room formula) ≤ textRoom
+  pub prefix-cleared : prefix′ ≡ replicate (room .prefix) (pos 0)
+  pub clauses-cleared : clauses′ ≡ replicate (room .clauses) (pos 0)
+  pub scratch-cleared : scratch′ ≡ replicate (room .scratch) 0

@@ -1,7 +1,8 @@
--- The definitions that the contracts of the printed lines cite. What a reader must believe: Line, Check, Dependents.
+-- The definitions that the contracts of the printed lines cite. What a reader must believe: Line, Check, Dependents, Program.
 pub mod Line
 pub mod Check
 pub mod Dependents
+pub mod Program
 pub mod Printing
 pub mod Settled
 pub mod Checking

@@ -33,7 +33,7 @@ acceptedLine variables clauses steps empty = acceptedText ++ (spaced variables +
 unfoldable pub refusedLine : Refusal → List ℕ
 refusedLine r = refusedText ++ (spaced (number (r .reason)) ++ (word (r .reason) ++ (32 ∷ last (r .place))))
 
--- The largest file that a program takes, in bytes.
+-- The largest file that the programs of 01 take, in bytes.
 abbrev pub fileBound : ℕ
 fileBound = 65536
 
@@ -41,9 +41,13 @@ abbrev pub ifWithin : Bool → Reading → Reading
 ifWithin true later = later
 ifWithin false later = refused (refusal Oversized 0)
 
--- What the formula's file is read as: 2 on the file's length comes ahead of all else in it.
-unfoldable pub settled : List ℕ → (prefixRoom clauseRoom : ℕ) → Reading
-settled file prefixRoom clauseRoom = ifWithin (leb (length file) fileBound) (reading file prefixRoom clauseRoom)
+-- What the formula's file is read as: 2 on the file's length comes ahead of all else in it. `bound` is the largest file taken.
+unfoldable pub settled : (bound : ℕ) → List ℕ → (prefixRoom clauseRoom : ℕ) → Reading
+settled bound file prefixRoom clauseRoom = ifWithin (leb (length file) bound) (reading file prefixRoom clauseRoom)
+
+-- What a buffer for a line has room for: no line is longer.
+abbrev pub lineRoom : ℕ
+lineRoom = 128
 
 -- How many bytes of a buffer are used for a text, and what it then holds: the text and zeros; where there is no room for the
 -- text, none, and zeros alone.

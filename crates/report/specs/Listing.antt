@@ -1,6 +1,7 @@
 -- The lines of the universals as they are written: from the bytes of a row, word by word. That they are the lines of
--- Dependents.antt is said in Listing/Laws.antt.
+-- Dependents.antt is said in Listing/Laws.antt, how long they are in Listing/Length.antt.
 pub mod Laws
+pub mod Length
 use Prim.Native.Nat.{ℕ}
 use mathlib.Core.List.{List, [], _∷_, _++_}
 use lib.ListN.{getD}

@@ -18,7 +18,7 @@ use Rattle.checker.specs.ProofFile.{ProofReading, proofReading}
 use Rattle.checker.specs.ProofFile.{read as readSteps, refused as refusedFile}
 use Rattle.checker.specs.declared.file.ProofAnswer.{ProofAnswer}
 use Rattle.checker.specs.declared.file.ProofAnswer.the-variants.{Read as ReadSteps, Refused as RefusedFile}
-use Rattle.report.specs.Line.{fileBound, settled}
+use Rattle.report.specs.Line.{settled}
 use Rattle.report.specs.declared.settle.FileFit.{FileFit}
 use Rattle.report.specs.declared.settle.FileFit.the-variants.{Within as FileWithin, Oversized as FileOversized}
 
@@ -32,8 +32,8 @@ tablesRead (Read p c count) prefix clauses = read (take p prefix) (take c clause
 tablesRead (Refused r) prefix clauses = refused r
 
 -- What `settle_formula` promises.
-pub record FormulaSettled (file : List ℕ) (prefixRoom clauseRoom : ℕ) (prefix clauses : List ℤ) (answer : ReadAnswer) : Type 0 where
-  pub settles : settled file prefixRoom clauseRoom ≡ tablesRead answer prefix clauses
+pub record FormulaSettled (bound : ℕ) (file : List ℕ) (prefixRoom clauseRoom : ℕ) (prefix clauses : List ℤ) (answer : ReadAnswer) : Type 0 where
+  pub settles : settled bound file prefixRoom clauseRoom ≡ tablesRead answer prefix clauses
   pub within : (p c count : ℕ) → answer ≡ Read p c count → (p ≤ length prefix) × (c ≤ length clauses) × (count ≤ countBound)
 
 -- What the proof file is read as: 2 on the file's length comes ahead of all else in it.
@@ -41,14 +41,14 @@ abbrev pub ifProofWithin : Bool → ProofReading → ProofReading
 ifProofWithin true later = later
 ifProofWithin false later = refusedFile (refusal Oversized 0)
 
-unfoldable pub settledProof : List ℕ → (count room : ℕ) → ProofReading
-settledProof file count room = ifProofWithin (leb (length file) fileBound) (proofReading file count room)
+unfoldable pub settledProof : (bound : ℕ) → List ℕ → (count room : ℕ) → ProofReading
+settledProof bound file count room = ifProofWithin (leb (length file) bound) (proofReading file count room)
 
 abbrev pub stepsRead : ProofAnswer → List ℤ → ProofReading
 stepsRead (ReadSteps n) steps = readSteps (take n steps)
 stepsRead (RefusedFile r) steps = refusedFile r
 
 -- What `settle_proof` promises.
-pub record ProofSettled (file : List ℕ) (count room : ℕ) (steps : List ℤ) (answer : ProofAnswer) : Type 0 where
-  pub settles : settledProof file count room ≡ stepsRead answer steps
+pub record ProofSettled (bound : ℕ) (file : List ℕ) (count room : ℕ) (steps : List ℤ) (answer : ProofAnswer) : Type 0 where
+  pub settles : settledProof bound file count room ≡ stepsRead answer steps
   pub within : (n : ℕ) → answer ≡ ReadSteps n → n ≤ length steps

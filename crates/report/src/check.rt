@@ -14,15 +14,16 @@ use formula::read::ReadAnswer;
 ghost use Prim.Native.Nat.{_≤_};
 ghost use lib.ListN.{length};
 ghost use Rattle.formula.specs.Bounds.{countBound};
-ghost use Rattle.formula.specs.Store.{Stores};
 ghost use Rattle.checker.specs.Verdict.{verdictOf};
 ghost use Rattle.report.specs.Check.{verdictLine, checkLine, LineChecked};
 ghost use Rattle.report.specs.Checking.{lent, provedLine};
+ghost use Rattle.report.specs.Line.{lineRoom};
+ghost use Rattle.report.specs.Printing.{StoresShort};
 ghost use Rattle.report.specs.Settled.{settledProof};
 
 // The line of a verdict, V and C being the formula's.
 fn verdict_line(line: &mut [u8], variables: usize, count: usize, verdict: Verdict) -> usize
-    ensures { λ r. ⌜ Stores (now (line .entry)) 0 (verdictLine variables count verdict) (now (line .exit)) r ⌝ }
+    ensures { λ r. ⌜ StoresShort lineRoom (now (line .entry)) (verdictLine variables count verdict) (now (line .exit)) r ⌝ }
 {
     match verdict {
         Verdict::Accepted { empty, steps } => accepted_line(line, variables, count, steps, empty.0),
@@ -40,7 +41,7 @@ fn judged_line<'a>(
     starts: &mut [u32],
     line: &mut [u8],
 ) -> usize
-    ensures { λ r. ⌜ Stores (now (line .entry)) 0 (verdictLine (length (now (prefix .entry))) count (verdictOf (now (prefix .entry)) (now (clauses .entry)) (now (steps .entry)) (length (now (scratch .entry))) (length (now (starts .entry))))) (now (line .exit)) r ⌝ }
+    ensures { λ r. ⌜ StoresShort lineRoom (now (line .entry)) (verdictLine (length (now (prefix .entry))) count (verdictOf (now (prefix .entry)) (now (clauses .entry)) (now (steps .entry)) (length (now (scratch .entry))) (length (now (starts .entry))))) (now (line .exit)) r ⌝ }
 {
     let verdict = check_proof(prefix, clauses, steps, scratch, starts);
     verdict_line(line, prefix.len(), count, verdict)
@@ -49,6 +50,7 @@ fn judged_line<'a>(
 // The line for a formula that was read: the proof file is settled, then judged.
 fn proof_line(
     proof: &[u8],
+    file_bound: usize,
     prefix: &[i32],
     clauses: &[i32],
     count: usize,
@@ -58,9 +60,9 @@ fn proof_line(
     line: &mut [u8],
 ) -> usize
     requires { ⌜ count ≤ countBound ⌝ }
-    ensures { λ r. ⌜ Stores (now (line .entry)) 0 (provedLine (length (now (scratch .entry))) (length (now (starts .entry))) (now (prefix .entry)) (now (clauses .entry)) count (settledProof (now (proof .entry)) count (length (now (steps .entry))))) (now (line .exit)) r ⌝ }
+    ensures { λ r. ⌜ StoresShort lineRoom (now (line .entry)) (provedLine (length (now (scratch .entry))) (length (now (starts .entry))) (now (prefix .entry)) (now (clauses .entry)) count (settledProof «file_bound» (now (proof .entry)) count (length (now (steps .entry))))) (now (line .exit)) r ⌝ }
 {
-    match settle_proof(proof, count as u32, steps) {
+    match settle_proof(proof, file_bound, count as u32, steps) {
         ProofAnswer::Refused(r) => refused_line(line, r),
         ProofAnswer::Read(n) => judged_line(
             prefix,
@@ -78,6 +80,7 @@ fn proof_line(
 fn files_line(
     formula: &[u8],
     proof: &[u8],
+    file_bound: usize,
     prefix: &mut [i32],
     clauses: &mut [i32],
     steps: &mut [i32],
@@ -85,9 +88,9 @@ fn files_line(
     starts: &mut [u32],
     line: &mut [u8],
 ) -> usize
-    ensures { λ r. ⌜ Stores (now (line .entry)) 0 (checkLine (lent (now (prefix .entry)) (now (clauses .entry)) (now (steps .entry)) (now (scratch .entry)) (now (starts .entry))) (now (formula .entry)) (now (proof .entry))) (now (line .exit)) r ⌝ }
+    ensures { λ r. ⌜ StoresShort lineRoom (now (line .entry)) (checkLine (lent «file_bound» (now (prefix .entry)) (now (clauses .entry)) (now (steps .entry)) (now (scratch .entry)) (now (starts .entry))) (now (formula .entry)) (now (proof .entry))) (now (line .exit)) r ⌝ }
 {
-    match settle_formula(formula, prefix, clauses) {
+    match settle_formula(formula, file_bound, prefix, clauses) {
         ReadAnswer::Refused(r) => refused_line(line, r),
         ReadAnswer::Read {
             prefix_used,
@@ -95,6 +98,7 @@ fn files_line(
             clauses: count,
         } => proof_line(
             proof,
+            file_bound,
             &prefix[..prefix_used],
             &clauses[..clauses_used],
             count,
@@ -106,10 +110,12 @@ fn files_line(
     }
 }
 
-// Prints the line of the first program and answers its length, 0 where it does not fit. Every other buffer ends as 0.
+// Prints the line of the first program, whose files have at most `file_bound` bytes, and answers its length, 0 where it does
+// not fit. Every other buffer ends as 0.
 pub fn check_line(
     formula: &[u8],
     proof: &[u8],
+    file_bound: usize,
     prefix: &mut [i32],
     clauses: &mut [i32],
     steps: &mut [i32],
@@ -117,11 +123,12 @@ pub fn check_line(
     starts: &mut [u32],
     line: &mut [u8],
 ) -> usize
-    ensures { λ r. ⌜ LineChecked (lent (now (prefix .entry)) (now (clauses .entry)) (now (steps .entry)) (now (scratch .entry)) (now (starts .entry))) (now (formula .entry)) (now (proof .entry)) (now (line .entry)) (now (line .exit)) r (now (prefix .exit)) (now (clauses .exit)) (now (steps .exit)) (now (scratch .exit)) (now (starts .exit)) ⌝ }
+    ensures { λ r. ⌜ LineChecked (lent «file_bound» (now (prefix .entry)) (now (clauses .entry)) (now (steps .entry)) (now (scratch .entry)) (now (starts .entry))) (now (formula .entry)) (now (proof .entry)) (now (line .entry)) (now (line .exit)) r (now (prefix .exit)) (now (clauses .exit)) (now (steps .exit)) (now (scratch .exit)) (now (starts .exit)) ⌝ }
 {
     let end = files_line(
         formula,
         proof,
+        file_bound,
         prefix,
         clauses,
         steps,

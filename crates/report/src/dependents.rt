@@ -2,6 +2,7 @@
 // answers the place behind what it wrote; room is asked for once, at the end.
 ghost use mathlib.Core.Path.{_≡_};
 ghost use mathlib.Core.Bool.{true};
+ghost use mathlib.Core.List.{[]};
 ghost use Prim.Native.Nat.{_+_, _^_, _<_, _≤_};
 ghost use lib.ListN.{length, getD};
 ghost use lib.IntN.{pos, natAbs};
@@ -11,8 +12,10 @@ ghost use Rattle.formula.specs.Store.{Stores};
 ghost use Rattle.formula.specs.Tables.{Admitted};
 ghost use Rattle.formula.specs.Writing.{Bounded};
 ghost use Rattle.dependency.specs.Row.{isUniversal};
-ghost use Rattle.report.specs.Dependents.{universalLine, universalLines, dependencyText, LinesPrinted};
+ghost use Rattle.report.specs.Dependents.{universalLine, universalLines, dependencyText, textRoom, LinesPrinted};
+ghost use Rattle.report.specs.Checking.{lent};
 ghost use Rattle.report.specs.Listing.{markedText, marked, rowLine, wordLine, tablesText};
+ghost use Rattle.report.specs.Printing.{StoresShort};
 use crate::line::finish;
 use crate::line::refused_line;
 use crate::settle::settle_formula;
@@ -139,7 +142,7 @@ fn write_lines(prefix: &[i32], clauses: &[i32], scratch: &mut [u8], text: &mut [
 // The lines for tables that were read: 3 for scratch under 8,200 bytes.
 fn write_tables(prefix: &[i32], clauses: &[i32], scratch: &mut [u8], text: &mut [u8]) -> usize
     requires { ⌜ Admitted (now prefix) (now clauses) ⌝ }
-    ensures { λ r. ⌜ Stores (now (text .entry)) 0 (tablesText (length (now (scratch .entry))) (now (prefix .entry)) (now (clauses .entry))) (now (text .exit)) r ⌝ }
+    ensures { λ r. ⌜ StoresShort textRoom (now (text .entry)) (tablesText (length (now (scratch .entry))) (now (prefix .entry)) (now (clauses .entry))) (now (text .exit)) r ⌝ }
 {
     if scratch.len() < 8_200 {
         return refused_line(
@@ -156,14 +159,15 @@ fn write_tables(prefix: &[i32], clauses: &[i32], scratch: &mut [u8], text: &mut 
 // The lines of the formula's file, or its refusal. Tables and scratch are left as they were used.
 fn write_settled(
     formula: &[u8],
+    file_bound: usize,
     prefix: &mut [i32],
     clauses: &mut [i32],
     scratch: &mut [u8],
     text: &mut [u8],
 ) -> usize
-    ensures { λ r. ⌜ Stores (now (text .entry)) 0 (dependencyText (length (now (prefix .entry))) (length (now (clauses .entry))) (length (now (scratch .entry))) (now (formula .entry))) (now (text .exit)) r ⌝ }
+    ensures { λ r. ⌜ StoresShort textRoom (now (text .entry)) (dependencyText (lent «file_bound» (now (prefix .entry)) (now (clauses .entry)) [] (now (scratch .entry)) []) (now (formula .entry))) (now (text .exit)) r ⌝ }
 {
-    match settle_formula(formula, prefix, clauses) {
+    match settle_formula(formula, file_bound, prefix, clauses) {
         ReadAnswer::Refused(r) => refused_line(text, r),
         ReadAnswer::Read {
             prefix_used,
@@ -178,18 +182,19 @@ fn write_settled(
     }
 }
 
-// Prints the lines of the formula's file into `text` and answers how many bytes they are: 0 where they do not fit. All else
-// that was lent ends as zeros.
+// Prints the lines of the formula's file, of at most `file_bound` bytes, into `text` and answers how many bytes they are: 0 where
+// they do not fit. All else that was lent ends as zeros.
 pub fn dependency_lines(
     formula: &[u8],
+    file_bound: usize,
     prefix: &mut [i32],
     clauses: &mut [i32],
     scratch: &mut [u8],
     text: &mut [u8],
 ) -> usize
-    ensures { λ r. ⌜ LinesPrinted (now (formula .entry)) (now (text .entry)) (now (text .exit)) r (now (prefix .entry)) (now (prefix .exit)) (now (clauses .entry)) (now (clauses .exit)) (now (scratch .entry)) (now (scratch .exit)) ⌝ }
+    ensures { λ r. ⌜ LinesPrinted (lent «file_bound» (now (prefix .entry)) (now (clauses .entry)) [] (now (scratch .entry)) []) (now (formula .entry)) (now (text .entry)) (now (text .exit)) r (now (prefix .exit)) (now (clauses .exit)) (now (scratch .exit)) ⌝ }
 {
-    let end = write_settled(formula, prefix, clauses, scratch, text);
+    let end = write_settled(formula, file_bound, prefix, clauses, scratch, text);
     clear_words(prefix, 0);
     clear_words(clauses, 0);
     clear_bytes(scratch, 0);

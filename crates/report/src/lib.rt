@@ -2,4 +2,5 @@
 pub mod check;
 pub mod dependents;
 mod line;
+pub mod program;
 mod settle;

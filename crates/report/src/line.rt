@@ -9,8 +9,8 @@ use formula::refusal::Refusal;
 ghost use Prim.Native.Nat.{_+_, _^_, _<_, _≤_};
 ghost use Rattle.formula.specs.Refusal.{word};
 ghost use Rattle.formula.specs.Store.{Stores};
-ghost use Rattle.report.specs.Line.{spaced, last, acceptedLine, refusedLine};
-ghost use Rattle.report.specs.Printing.{Finishes};
+ghost use Rattle.report.specs.Line.{spaced, last, acceptedLine, refusedLine, lineRoom};
+ghost use Rattle.report.specs.Printing.{Finishes, StoresShort};
 
 // The word of a reason.
 fn write_word(line: &mut [u8], at: usize, reason: Reason) -> usize
@@ -56,13 +56,14 @@ fn write_spaced(line: &mut [u8], at: usize, n: usize) -> usize
 fn write_last(line: &mut [u8], at: usize, n: usize) -> usize
     requires { ⌜ at + 21 < 2 ^ 64 ⌝ }
     ensures { λ r. ⌜ Stores (now (line .entry)) at (last n) (now (line .exit)) r ⌝ }
+    ensures { λ r. ⌜ r ≤ at + 21 ⌝ }
 {
     let next = write_number(line, at, n);
     put(line, next, b'\n')
 }
 
 pub fn refused_line(line: &mut [u8], refusal: Refusal) -> usize
-    ensures { λ r. ⌜ Stores (now (line .entry)) 0 (refusedLine refusal) (now (line .exit)) r ⌝ }
+    ensures { λ r. ⌜ StoresShort lineRoom (now (line .entry)) (refusedLine refusal) (now (line .exit)) r ⌝ }
 {
     let reason = refusal.reason;
     let mut at = write_bytes(line, 0, b"refused ");
@@ -80,7 +81,7 @@ pub fn accepted_line(
     steps: usize,
     empty: usize,
 ) -> usize
-    ensures { λ r. ⌜ Stores (now (line .entry)) 0 (acceptedLine variables clauses steps empty) (now (line .exit)) r ⌝ }
+    ensures { λ r. ⌜ StoresShort lineRoom (now (line .entry)) (acceptedLine variables clauses steps empty) (now (line .exit)) r ⌝ }
 {
     let mut at = write_bytes(line, 0, b"accepted ");
     at = write_spaced(line, at, variables);

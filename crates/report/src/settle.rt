@@ -1,5 +1,5 @@
-// A file is settled: its length is within the bound on files and it is read, or it is refused. 2 on the file's length comes
-// ahead of all else in it.
+// A file is settled: its length is within the largest that is taken, `bound`, and it is read, or it is refused. 2 on the file's
+// length comes ahead of all else in it.
 use checker::file::ProofAnswer;
 use checker::file::read_proof;
 use formula::read::ReadAnswer;
@@ -9,7 +9,6 @@ use formula::refusal::Refusal;
 ghost use mathlib.Core.Path.{_≡_};
 ghost use lib.Dec.{leb};
 ghost use lib.ListN.{length};
-ghost use Rattle.report.specs.Line.{fileBound};
 ghost use Rattle.report.specs.Settled.{fileFit, FormulaSettled, ProofSettled};
 
 // How many bytes a file has.
@@ -21,12 +20,14 @@ pub enum FileFit {
 }
 
 impl FileLength {
+    // The largest that 01's programs take.
     pub const MAX: usize = 65_536;
 
-    pub fn new(n: usize) -> FileFit
-        ensures { λ r. ⌜ r ≡ fileFit (leb n fileBound) n ⌝ }
+    // The length of a file that is taken: one within the bound.
+    pub fn new(n: usize, bound: usize) -> FileFit
+        ensures { λ r. ⌜ r ≡ fileFit (leb n bound) n ⌝ }
     {
-        if n <= FileLength::MAX {
+        if n <= bound {
             FileFit::Within(FileLength(n))
         } else {
             FileFit::Oversized
@@ -35,10 +36,15 @@ impl FileLength {
 }
 
 // The formula's file, read into the two tables. Past the used part they hold anything.
-pub fn settle_formula(file: &[u8], prefix: &mut [i32], clauses: &mut [i32]) -> ReadAnswer
-    ensures { λ r. ⌜ FormulaSettled (now (file .entry)) (length (now (prefix .entry))) (length (now (clauses .entry))) (now (prefix .exit)) (now (clauses .exit)) r ⌝ }
+pub fn settle_formula(
+    file: &[u8],
+    bound: usize,
+    prefix: &mut [i32],
+    clauses: &mut [i32],
+) -> ReadAnswer
+    ensures { λ r. ⌜ FormulaSettled bound (now (file .entry)) (length (now (prefix .entry))) (length (now (clauses .entry))) (now (prefix .exit)) (now (clauses .exit)) r ⌝ }
 {
-    match FileLength::new(file.len()) {
+    match FileLength::new(file.len(), bound) {
         FileFit::Oversized => ReadAnswer::Refused(Refusal {
             reason: Reason::Oversized,
             place: 0,
@@ -48,10 +54,10 @@ pub fn settle_formula(file: &[u8], prefix: &mut [i32], clauses: &mut [i32]) -> R
 }
 
 // The proof file for a formula of `clause_count` clauses, read into the table of steps.
-pub fn settle_proof(file: &[u8], clause_count: u32, steps: &mut [i32]) -> ProofAnswer
-    ensures { λ r. ⌜ ProofSettled (now (file .entry)) «clause_count» (length (now (steps .entry))) (now (steps .exit)) r ⌝ }
+pub fn settle_proof(file: &[u8], bound: usize, clause_count: u32, steps: &mut [i32]) -> ProofAnswer
+    ensures { λ r. ⌜ ProofSettled bound (now (file .entry)) «clause_count» (length (now (steps .entry))) (now (steps .exit)) r ⌝ }
 {
-    match FileLength::new(file.len()) {
+    match FileLength::new(file.len(), bound) {
         FileFit::Oversized => ProofAnswer::Refused(Refusal {
             reason: Reason::Oversized,
             place: 0,

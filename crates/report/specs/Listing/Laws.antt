@@ -1,12 +1,12 @@
--- The lines of the universals: read off rows, word by word, and never long enough for a place to overflow. Assumes nothing.
-use Prim.Native.Nat.{ℕ, zero, suc, _+_, _*_, _^_, _≤_, _<_}
+-- The lines of the universals: read off rows, word by word. How long they are is in Listing/Length.antt. Assumes nothing.
+use Prim.Native.Nat.{ℕ, zero, suc, _<_}
 use mathlib.Core.Path.{_≡_, refl}
 use mathlib.Core.Bool.{Bool, true, false}
 use mathlib.Core.List.{List, [], _∷_, _++_}
 use native.Mathlib.Nat.{le-of-suc-le-suc, not-suc-le-zero}
 use native.Mathlib.Omega.{arith}
 use borrow.Author.Tests.{eq-eqb}
-use lib.ListN.{length, getD, drop, length-append}
+use lib.ListN.{length, getD, drop}
 use lib.Seq.{drop-cons}
 use lib.Dec.{leb, eqb}
 use lib.IntN.{ℤ, pos, negsuc, natAbs}
@@ -14,19 +14,17 @@ use Rattle.qbf.specs.Connectives.{or-right}
 use Rattle.qbf.specs.Formula.{Formula}
 use Rattle.qbf.specs.Dependency.{depends}
 use Rattle.formula.specs.Decimal.{decimal}
-use Rattle.formula.specs.Decimal.Laws.{length-decimal}
 use Rattle.formula.specs.Decode.{formulaOf}
 use Rattle.formula.specs.Tables.{Admitted}
-use Rattle.formula.specs.Tables.Laws.{admitted-prefix-length}
 use Rattle.formula.specs.Text.{read, refused, reading}
 use Rattle.formula.specs.Text.Admits.{read-admitted}
 use Rattle.formula.specs.Writing.{Bounded}
 use Rattle.formula.specs.Written.{letterOf}
-use Rattle.formula.specs.Written.Length.{prefix-bounded}
 use Rattle.formula.specs.declared.refusal.Refusal.{Refusal}
 use Rattle.dependency.specs.Row.{mark, rowOf, isUniversal, isNegated}
 use Rattle.dependency.specs.Row.Laws.{row-byte}
-use Rattle.report.specs.Line.{refusedLine, fileBound, ifWithin, settled}
+use Rattle.report.specs.Line.{refusedLine, ifWithin, settled}
+use Rattle.report.specs.Check.{Room}
 use Rattle.report.specs.Dependents.{ifDependent, dependents, universalLine, universalLines, dependencyText}
 use Rattle.report.specs.Listing.{markedText, marked, rowLine, wordLine, tablesText}
 
@@ -40,7 +38,7 @@ module _ (i : ℕ) (ws : List ℤ) (h : i < length ws) where
   unfolding universalLines wordLine
   universal-lines-drop F p = rw (drop-cons ws i (pos 0) h)
 
-bounded-later : {w : ℤ} {ws : List ℤ} → Bounded (w ∷ ws) → Bounded ws
+pub bounded-later : {w : ℤ} {ws : List ℤ} → Bounded (w ∷ ws) → Bounded ws
 bounded-later h = record { bounded = λ i. h .bounded (suc i) }
 
 -- What a word adds, by its quantifier: `a` is the letter 97, `e` 101.
@@ -79,55 +77,21 @@ module _ (F : Formula) (u : ℕ) where
   unfolding rowLine universalLine
   row-line-is p row h e = rw (e, marked-row p h)
 
-  length-dependent : (b : Bool) (e : ℕ) → e ≤ 1024 → length (ifDependent b e) ≤ 5
-  length-dependent true e h = omega (arith, length-decimal 3 e (omega arith))
-  length-dependent false e h = omega arith
-
-  length-dependents : (ws : List ℤ) → Bounded ws → length (dependents F u ws) ≤ 5 * length ws
-  unfolding dependents
-  length-dependents [] h = omega arith
-  length-dependents (w ∷ ws) h =
-      rw length-append (omega (arith, length-dependent (depends F u (natAbs w)) (natAbs w) (h .bounded 0), length-dependents ws (bounded-later h)))
-
-  -- Four digits, the colon, five bytes a dependent, LF.
-  length-universal-line : (p : List ℤ) → Bounded p → length p ≤ 1024 → u ≤ 1024 → length (universalLine F p u) ≤ 5126
-  unfolding universalLine
-  length-universal-line p h l k = simp length-append (omega (arith, length-decimal 3 u (omega arith), length-dependents p h))
-
-module _ (F : Formula) (p : List ℤ) (h : Bounded p) (l : length p ≤ 1024) where
-  length-word-line : (w : ℤ) → natAbs w ≤ 1024 → length (wordLine F p w) ≤ 5126
-  unfolding wordLine
-  length-word-line (pos v) k = omega arith
-  length-word-line (negsuc n) k = length-universal-line F (suc n) p h l k
-
-  length-universal-lines : (ws : List ℤ) → Bounded ws → length (universalLines F p ws) ≤ 5126 * length ws
-  unfolding universalLines wordLine
-  length-universal-lines [] k = omega arith
-  length-universal-lines (w ∷ ws) k =
-      rw length-append (omega (arith, length-word-line w (k .bounded 0), length-universal-lines ws (bounded-later k)))
-
--- The lines written from the place 0 on stay far below what a place can be.
-pub universal-lines-below : (p c : List ℤ) → Admitted p c → 0 + length (universalLines (formulaOf p c) p p) < 2 ^ 64
-universal-lines-below p c a =
-    let l = admitted-prefix-length p c a in
-    let b = prefix-bounded p c a in
-    omega (arith, length-universal-lines (formulaOf p c) p b l p b)
-
 -- What the text is, as the formula's file is settled; tables that were read are admitted.
-module _ (file : List ℕ) (prefixRoom clauseRoom : ℕ) where
-  pub text-refused : (scratch : ℕ) (r : Refusal) → settled file prefixRoom clauseRoom ≡ refused r → dependencyText prefixRoom clauseRoom scratch file ≡ refusedLine r
+module _ (room : Room) (file : List ℕ) where
+  pub text-refused : (r : Refusal) → settled (room .file) file (room .prefix) (room .clauses) ≡ refused r → dependencyText room file ≡ refusedLine r
   unfolding dependencyText
-  text-refused scratch r e = rw e
+  text-refused r e = rw e
 
-  module _ (p c : List ℤ) (count : ℕ) (e : settled file prefixRoom clauseRoom ≡ read p c count) where
-    pub text-read : (scratch : ℕ) → dependencyText prefixRoom clauseRoom scratch file ≡ tablesText scratch p c
+  module _ (p c : List ℤ) (count : ℕ) (e : settled (room .file) file (room .prefix) (room .clauses) ≡ read p c count) where
+    pub text-read : dependencyText room file ≡ tablesText (room .scratch) p c
     unfolding dependencyText tablesText
-    text-read scratch = rw e
+    text-read = rw e
 
     pub settled-admitted : Admitted p c
     unfolding settled
-    settled-admitted = go (leb (length file) fileBound) e
+    settled-admitted = go (leb (length file) (room .file)) e
       where
-        go : (b : Bool) → ifWithin b (reading file prefixRoom clauseRoom) ≡ read p c count → Admitted p c
-        go true f = read-admitted file prefixRoom clauseRoom p c count f .admitted
+        go : (b : Bool) → ifWithin b (reading file (room .prefix) (room .clauses)) ≡ read p c count → Admitted p c
+        go true f = read-admitted file (room .prefix) (room .clauses) p c count f .admitted
         go false f = let z : _≡_ {A = ℕ} 0 1 = cc in absurd (omega arith)

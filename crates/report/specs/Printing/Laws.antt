@@ -11,7 +11,7 @@ use lib.Dec.{leb}
 use Rattle.formula.specs.Clear.{clearFrom}
 use Rattle.formula.specs.Store.{Stores}
 use Rattle.report.specs.Line.{used, held, usedFor, heldFor}
-use Rattle.report.specs.Printing.{kept, Finishes, Prints}
+use Rattle.report.specs.Printing.{kept, Finishes, StoresShort, Prints}
 
 -- A whole buffer cleared, of any kind.
 pub clear-whole : {A : Type 0} (z : A) (l : List A) → clearFrom z 0 l ≡ replicate (length l) z
@@ -23,7 +23,7 @@ pub cleared-kept : {A : Type 0} (z : A) (before middle after : List A) → after
 cleared-kept z before middle after e k = e ∙ clear-whole z middle ∙ ap (λ n. replicate n z) k
 
 -- A text that equals what was stored.
-pub stores-instead : {buffer after text stored : List ℕ} {at next : ℕ} → text ≡ stored → Stores buffer at stored after next → Stores buffer at text after next
+pub stores-instead : {most : ℕ} {buffer after text stored : List ℕ} {next : ℕ} → text ≡ stored → StoresShort most buffer stored after next → StoresShort most buffer text after next
 stores-instead e s = rw e s
 
 clear-behind : (xs ys : List ℕ) → clearFrom 0 (length xs) (xs ++ ys) ≡ xs ++ replicate (length ys) 0

@@ -20,7 +20,7 @@ use Rattle.checker.specs.ProofFile.{ProofReading, proofReading, proofAnswer, st
 use Rattle.checker.specs.ProofFile.{read as readSteps, refused as refusedFile}
 use Rattle.checker.specs.declared.file.ProofAnswer.{ProofAnswer}
 use Rattle.checker.specs.declared.file.ProofAnswer.the-variants.{Read as ReadSteps, Refused as RefusedFile}
-use Rattle.report.specs.Line.{fileBound, settled}
+use Rattle.report.specs.Line.{settled}
 use Rattle.report.specs.Settled.{fileFit, tablesRead, FormulaSettled, settledProof, stepsRead, ProofSettled}
 use Rattle.report.specs.declared.settle.FileLength.{FileLength}
 use Rattle.report.specs.declared.settle.FileFit.the-variants.{Within as FileWithin, Oversized as FileOversized}
@@ -41,8 +41,9 @@ padded-used room words = take-append-seam words (replicate (room - length words)
 pub padded-within : (room : ℕ) (words : List ℤ) → length words ≤ length (padded room words)
 padded-within room words = simp length-append (omega arith)
 
-module _ (file : List ℕ) where
-  pub formula-oversized : (prefixRoom clauseRoom : ℕ) (prefix clauses : List ℤ) → leb (length file) fileBound ≡ false → FormulaSettled file prefixRoom clauseRoom prefix clauses (Refused (refusal Oversized 0))
+-- The file is too long for `bound`, or is read.
+module _ (bound : ℕ) (file : List ℕ) where
+  pub formula-oversized : (prefixRoom clauseRoom : ℕ) (prefix clauses : List ℤ) → leb (length file) bound ≡ false → FormulaSettled bound file prefixRoom clauseRoom prefix clauses (Refused (refusal Oversized 0))
   unfolding settled
   formula-oversized prefixRoom clauseRoom prefix clauses e =
       record {
@@ -52,14 +53,14 @@ module _ (file : List ℕ) where
 
   pub formula-read :
       (before-prefix before-clauses prefix clauses : List ℤ) (answer : ReadAnswer)
-      → leb (length file) fileBound ≡ true → ReadPost file before-prefix before-clauses prefix clauses answer
-      → FormulaSettled file (length before-prefix) (length before-clauses) prefix clauses answer
+      → leb (length file) bound ≡ true → ReadPost file before-prefix before-clauses prefix clauses answer
+      → FormulaSettled bound file (length before-prefix) (length before-clauses) prefix clauses answer
   unfolding settled
   formula-read p₀ c₀ prefix clauses answer e post =
       go (reading file (length p₀) (length c₀)) refl (post .answers) (post .fillsPrefix) (post .fillsClauses)
     where
       go : (r : Reading) → reading file (length p₀) (length c₀) ≡ r → answer ≡ readAnswer r → prefix ≡ padded (length p₀) (prefixWords r) → clauses ≡ padded (length c₀) (clauseWords r)
-          → FormulaSettled file (length p₀) (length c₀) prefix clauses answer
+          → FormulaSettled bound file (length p₀) (length c₀) prefix clauses answer
       go (read ps cs n) q a f g =
           rw (a, f, g)
           (record {
@@ -78,7 +79,7 @@ module _ (file : List ℕ) where
             within = λ p c count h. let z : _≡_ {A = ℕ} 0 1 = cc in absurd (omega arith);
           })
 
-  pub proof-oversized : (count room : ℕ) (steps : List ℤ) → leb (length file) fileBound ≡ false → ProofSettled file count room steps (RefusedFile (refusal Oversized 0))
+  pub proof-oversized : (count room : ℕ) (steps : List ℤ) → leb (length file) bound ≡ false → ProofSettled bound file count room steps (RefusedFile (refusal Oversized 0))
   unfolding settledProof
   proof-oversized count room steps e =
       record {
@@ -88,11 +89,11 @@ module _ (file : List ℕ) where
 
   pub proof-read :
       (count : ℕ) (before steps : List ℤ) (answer : ProofAnswer)
-      → leb (length file) fileBound ≡ true → ProofRead file count before steps answer → ProofSettled file count (length before) steps answer
+      → leb (length file) bound ≡ true → ProofRead file count before steps answer → ProofSettled bound file count (length before) steps answer
   unfolding settledProof
   proof-read count before steps answer e post = go (proofReading file count (length before)) refl (post .answer) (post .steps)
     where
-      go : (r : ProofReading) → proofReading file count (length before) ≡ r → answer ≡ proofAnswer r → steps ≡ stepTable r (length before) → ProofSettled file count (length before) steps answer
+      go : (r : ProofReading) → proofReading file count (length before) ≡ r → answer ≡ proofAnswer r → steps ≡ stepTable r (length before) → ProofSettled bound file count (length before) steps answer
       go (readSteps ws) q a f =
           rw (a, f)
           (record {
@@ -107,16 +108,16 @@ module _ (file : List ℕ) where
           })
 
 -- Read off one answer.
-module _ {file : List ℕ} {prefixRoom clauseRoom : ℕ} {prefix clauses : List ℤ} {answer : ReadAnswer} (s : FormulaSettled file prefixRoom clauseRoom prefix clauses answer) where
-  pub formula-settled-read : {p c count : ℕ} → answer ≡ Read p c count → settled file prefixRoom clauseRoom ≡ read (take p prefix) (take c clauses) count
+module _ {bound : ℕ} {file : List ℕ} {prefixRoom clauseRoom : ℕ} {prefix clauses : List ℤ} {answer : ReadAnswer} (s : FormulaSettled bound file prefixRoom clauseRoom prefix clauses answer) where
+  pub formula-settled-read : {p c count : ℕ} → answer ≡ Read p c count → settled bound file prefixRoom clauseRoom ≡ read (take p prefix) (take c clauses) count
   formula-settled-read e = s .settles ∙ ap (λ a. tablesRead a prefix clauses) e
 
-  pub formula-settled-refused : {r : Refusal} → answer ≡ Refused r → settled file prefixRoom clauseRoom ≡ refused r
+  pub formula-settled-refused : {r : Refusal} → answer ≡ Refused r → settled bound file prefixRoom clauseRoom ≡ refused r
   formula-settled-refused e = s .settles ∙ ap (λ a. tablesRead a prefix clauses) e
 
-module _ {file : List ℕ} {count room : ℕ} {steps : List ℤ} {answer : ProofAnswer} (s : ProofSettled file count room steps answer) where
-  pub proof-settled-read : {n : ℕ} → answer ≡ ReadSteps n → settledProof file count room ≡ readSteps (take n steps)
+module _ {bound : ℕ} {file : List ℕ} {count room : ℕ} {steps : List ℤ} {answer : ProofAnswer} (s : ProofSettled bound file count room steps answer) where
+  pub proof-settled-read : {n : ℕ} → answer ≡ ReadSteps n → settledProof bound file count room ≡ readSteps (take n steps)
   proof-settled-read e = s .settles ∙ ap (λ a. stepsRead a steps) e
 
-  pub proof-settled-refused : {r : Refusal} → answer ≡ RefusedFile r → settledProof file count room ≡ refusedFile r
+  pub proof-settled-refused : {r : Refusal} → answer ≡ RefusedFile r → settledProof bound file count room ≡ refusedFile r
   proof-settled-refused e = s .settles ∙ ap (λ a. stepsRead a steps) e

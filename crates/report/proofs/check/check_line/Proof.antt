@@ -58,15 +58,16 @@ returns c =
     let files = prefix .before .before .before .before .before .before .before .before .before .before .before in
     let lent = files .before .before .before .before .before .before .before .before .before .before .before .before .args in
     let kept = files .files-line .kept in
-    let printed = stored-prints (files .files-line .ensures) (done .finish .ensures) in
+    let printed = stored-prints (files .files-line .ensures .stores) (done .finish .ensures) in
     record {
       answers = printed .answers;
       prints = printed .prints;
-      prefix-cleared = cleared-kept (pos 0) (lent .prefix .now) _ _ (prefix .clear-words .ensures) (kept .1 .1 .0);
-      clauses-cleared = cleared-kept (pos 0) (lent .clauses .now) _ _ (clauses .clear-words2 .ensures) (kept .1 .1 .1 .0);
-      steps-cleared = cleared-kept (pos 0) (lent .steps .now) _ _ (steps .clear-words3 .ensures) (kept .1 .1 .1 .1 .0);
-      scratch-cleared = cleared-kept 0 (lent .scratch .now) _ _ (scratch .clear-bytes .ensures) (kept .1 .1 .1 .1 .1 .0);
-      starts-cleared = cleared-kept 0 (lent .starts .now) _ _ (starts .clear-numbers .ensures) (kept .1 .1 .1 .1 .1 .1 .0);
+      short = files .files-line .ensures .short;
+      prefix-cleared = cleared-kept (pos 0) (lent .prefix .now) _ _ (prefix .clear-words .ensures) (kept .1 .1 .1 .0);
+      clauses-cleared = cleared-kept (pos 0) (lent .clauses .now) _ _ (clauses .clear-words2 .ensures) (kept .1 .1 .1 .1 .0);
+      steps-cleared = cleared-kept (pos 0) (lent .steps .now) _ _ (steps .clear-words3 .ensures) (kept .1 .1 .1 .1 .1 .0);
+      scratch-cleared = cleared-kept 0 (lent .scratch .now) _ _ (scratch .clear-bytes .ensures) (kept .1 .1 .1 .1 .1 .1 .0);
+      starts-cleared = cleared-kept 0 (lent .starts .now) _ _ (starts .clear-numbers .ensures) (kept .1 .1 .1 .1 .1 .1 .1 .0);
       accepted-lost = λ h. accepted-denotes-lost _ _ _ _ (ap (take 9) (sym (printed .prints)) ∙ h);
     }
 

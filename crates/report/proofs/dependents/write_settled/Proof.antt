@@ -1,7 +1,8 @@
 -- `write_settled` stores the refused line, or the lines for the used parts of the tables. Assumes nothing.
 use Prim.Native.Nat.{_≤_}
 use mathlib.Core.Path.{_≡_, ap, sym, _∙_}
-use mathlib.Core.List.{List}
+use mathlib.Core.List.{List, []}
+use native.Mathlib.Omega.{arith}
 use lib.ListN.{length, take}
 use lib.Seq.{length-take-le}
 use lib.IntN.{ℤ}
@@ -9,6 +10,9 @@ use Rattle.formula.specs.Text.{read, refused}
 use Rattle.formula.specs.declared.read.ReadAnswer.{ReadAnswer}
 use Rattle.report.specs.Line.{settled}
 use Rattle.report.specs.Settled.{tablesRead}
+use Rattle.report.specs.Check.{Room}
+use Rattle.report.specs.Checking.{lent}
+use Rattle.report.specs.Printing.Laws.{stores-instead}
 use Rattle.report.specs.Listing.Laws.{text-refused, text-read, settled-admitted}
 use borrow.Author.Needs.{needs}
 use Rattle.report.proofs.dependents.write_settled.Statement.{statement}
@@ -17,12 +21,16 @@ use Rattle.report.proofs.dependents.write_settled.Tie as tie
 abbrev start : tie.After-settle-formula → tie.Start
 start c = c .before .before .before .before .before .before
 
+-- the room that is lent
+abbrev room-at : tie.After-settle-formula → Room
+room-at c = let a = start c .args in lent (a .file-bound) (a .prefix .now) (a .clauses .now) [] (a .scratch .now) []
+
 -- the tables as they were filled
 abbrev prefix-at : tie.After-settle-formula → List ℤ
-prefix-at c = c .settle-formula .last .1 .0
+prefix-at c = c .settle-formula .last .1 .1 .0
 
 abbrev clauses-at : tie.After-settle-formula → List ℤ
-clauses-at c = c .settle-formula .last .1 .1 .0
+clauses-at c = c .settle-formula .last .1 .1 .1 .0
 
 -- where they were read: the used parts are what was read, and are within the tables
 abbrev called : tie.After-known-told2 → tie.After-settle-formula
@@ -30,7 +38,7 @@ called c = c .before .before .before .before .before
 
 settled-at :
     (c : tie.After-known-told2) → let a = start (called c) .args in
-    settled (a .formula .now) (length (a .prefix .now)) (length (a .clauses .now))
+    settled (a .file-bound) (a .formula .now) (length (a .prefix .now)) (length (a .clauses .now))
     ≡ read (take (c .before .prefix-used .given .0 .0) (prefix-at (called c))) (take (c .before .prefix-used .given .0 .1 .0) (clauses-at (called c))) (c .before .prefix-used .given .0 .1 .1 .0)
 settled-at c =
     called c .settle-formula .ensures .settles
@@ -67,8 +75,7 @@ slice-aggregate-write-tables-2 c = let told = c .before .before in sym (length-t
 write-tables-requires : tie.Need-write-tables-requires
 write-tables-requires c κs =
     let told = c .before .before .before .before in
-    let a = start (called told) .args in
-    settled-admitted (a .formula .now) (length (a .prefix .now)) (length (a .clauses .now)) _ _ _ (settled-at told)
+    settled-admitted (room-at (called told)) (start (called told) .args .formula .now) _ _ _ (settled-at told)
 
 same-length : tie.Need-same-length
 same-length c = search needs
@@ -82,10 +89,11 @@ same-length-3 c = search needs
 returns : tie.Need-returns
 returns c =
     let call = c .before .before .before .before .before .before .before .before .before in
-    let a = start call .args in
-    rw (text-refused (a .formula .now) (length (a .prefix .now)) (length (a .clauses .now)) (length (a .scratch .now)) (c .before .before .before .before .before .r .given .0 .0)
+    let stored = c .before .before .refused-line .ensures in
+    stores-instead
+    (text-refused (room-at call) (start call .args .formula .now) (c .before .before .before .before .before .r .given .0 .0)
     (call .settle-formula .ensures .settles ∙ ap (λ (x : ReadAnswer). tablesRead x (prefix-at call) (clauses-at call)) (c .before .before .before .before .before .r .given .1)))
-    (c .before .before .refused-line .ensures)
+    (record { stores = stored .stores; short = omega (arith, stored .short) })
 
 same-length-4 : tie.Need-same-length-4
 same-length-4 c = search needs
@@ -102,8 +110,8 @@ same-length-7 c = search needs
 returns-2 : tie.Need-returns-2
 returns-2 c =
     let told = c .before .before .before .before .before .before .before .before .before in
-    let a = start (called told) .args in
-    rw (text-read (a .formula .now) (length (a .prefix .now)) (length (a .clauses .now)) _ _ _ (settled-at told) (length (a .scratch .now)))
+    stores-instead
+    (text-read (room-at (called told)) (start (called told) .args .formula .now) _ _ _ (settled-at told))
     (c .before .before .before .before .write-tables .ensures)
 
 pub write-settled-spec : {M : Type 1} → statement M

@@ -1,7 +1,9 @@
 -- `write_tables` refuses where scratch is too short, else stores the lines. Assumes nothing.
+use native.Mathlib.Omega.{arith}
 use borrow.Author.Tests.{le-leb, lt-leb}
 use lib.ListN.{length}
 use Rattle.report.specs.Listing.{tablesText}
+use Rattle.report.specs.Listing.Length.{universal-lines-short}
 use borrow.Author.Needs.{needs}
 use Rattle.report.proofs.dependents.write_tables.Statement.{statement}
 use Rattle.report.proofs.dependents.write_tables.Tie as tie
@@ -16,7 +18,8 @@ returns : tie.Need-returns
 unfolding tablesText
 returns c =
     let s = c .before .before .before .before .before .before .before in
-    rw (lt-leb 8200 (length (s .args .scratch .now)) (c .before .before .before .before .if1 .taken)) (c .before .before .refused-line .ensures)
+    let stored = c .before .before .refused-line .ensures in
+    rw (lt-leb 8200 (length (s .args .scratch .now)) (c .before .before .before .before .if1 .taken)) (record { stores = stored .stores; short = omega (arith, stored .short) })
 
 write-lines-requires : tie.Need-write-lines-requires
 write-lines-requires c κs = search needs
@@ -32,7 +35,8 @@ unfolding tablesText
 returns-2 c =
     let other = c .before .before .before .before .before .before .before in
     let s = other .before .before .before in
-    rw (le-leb 8200 (length (s .args .scratch .now)) (other .if1 .left)) (c .before .before .before .before .write-lines .ensures)
+    rw (le-leb 8200 (length (s .args .scratch .now)) (other .if1 .left))
+    (record { stores = c .before .before .before .before .write-lines .ensures; short = universal-lines-short _ _ (s .pre) })
 
 pub write-tables-spec : {M : Type 1} → statement M
 write-tables-spec =

@@ -1,4 +1,5 @@
 -- `refused_line` stores the word, then the number, the reason's word and the place. Assumes nothing.
+use native.Mathlib.Omega.{arith}
 use Rattle.formula.specs.Store.Laws.{stores-append}
 use Rattle.report.specs.Line.{refusedLine}
 use borrow.Author.Needs.{needs}
@@ -40,10 +41,15 @@ returns c =
     let word = space .before .before .before .before in
     let number = word .before .before .before .before in
     let bytes = number .before .before .before .before .before in
+    let stored =
     stores-append (bytes .write-bytes .ensures)
     (stores-append (rw (number .before .number .ensures) at (number .write-spaced .ensures .0))
     (stores-append (word .write-word .ensures .0)
-    (stores-append (space .put .ensures) (place .write-last .ensures))))
+    (stores-append (space .put .ensures) (place .write-last .ensures .0)))) in
+    record {
+      stores = stored;
+      short = omega (arith, stored .reached, bytes .write-bytes .ensures .reached, number .write-spaced .ensures .1, word .write-word .ensures .1, space .put .ensures .reached, place .write-last .ensures .1);
+    }
 
 pub refused-line-spec : {M : Type 1} → statement M
 refused-line-spec =

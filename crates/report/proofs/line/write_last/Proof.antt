@@ -21,7 +21,13 @@ same-length : tie.Need-same-length
 same-length c = search needs
 
 returns : tie.Need-returns
-returns c = stores-append (c .before .before .before .before .before .before .write-number .ensures) (c .before .before .put .ensures)
+returns c =
+    let lf = c .before .before in
+    let number = lf .before .before .before .before in
+    let s = number .before .before .before in (
+      stores-append (number .write-number .ensures) (lf .put .ensures),
+      omega (arith, length-decimal 19 (s .args .n) (omega (arith, s .fits)), number .write-number .ensures .reached, lf .put .ensures .reached),
+    )
 
 pub write-last-spec : {M : Type 1} → statement M
 write-last-spec = tie.close (tie.spec write-number-requires put-requires same-length returns)

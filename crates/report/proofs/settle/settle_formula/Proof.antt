@@ -20,7 +20,7 @@ read-formula-requires c κs = search needs
 returns : tie.Need-returns
 returns c =
     let s = c .before .before .before .before in
-    formula-oversized (s .args .file .now) _ _ _ _ (fit-oversized _ _ (sym (c .before .before .new .ensures) ∙ c .enum-told .given .1))
+    formula-oversized (s .args .bound) (s .args .file .now) _ _ _ _ (fit-oversized _ _ (sym (c .before .before .new .ensures) ∙ c .enum-told .given .1))
 
 same-length : tie.Need-same-length
 same-length c = search needs
@@ -33,7 +33,7 @@ returns-2 c =
     let read = c .before .before in
     let told = read .before .before .before in
     let s = told .before .before .before .before in
-    formula-read (s .args .file .now) _ _ _ _ _ (fit-within _ _ _ (sym (told .before .before .new .ensures) ∙ told .enum-told2 .given .1)) (read .read-formula .ensures)
+    formula-read (s .args .bound) (s .args .file .now) _ _ _ _ _ (fit-within _ _ _ (sym (told .before .before .new .ensures) ∙ told .enum-told2 .given .1)) (read .read-formula .ensures)
 
 pub settle-formula-spec : {M : Type 1} → statement M
 settle-formula-spec =

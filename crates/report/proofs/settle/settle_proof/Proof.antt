@@ -20,7 +20,7 @@ read-proof-requires c κs = search needs
 returns : tie.Need-returns
 returns c =
     let s = c .before .before .before .before in
-    proof-oversized (s .args .file .now) _ _ _ (fit-oversized _ _ (sym (c .before .before .new .ensures) ∙ c .enum-told .given .1))
+    proof-oversized (s .args .bound) (s .args .file .now) _ _ _ (fit-oversized _ _ (sym (c .before .before .new .ensures) ∙ c .enum-told .given .1))
 
 same-length : tie.Need-same-length
 same-length c = search needs
@@ -30,7 +30,7 @@ returns-2 c =
     let read = c .before in
     let told = read .before .before in
     let s = told .before .before .before .before in
-    proof-read (s .args .file .now) _ _ _ _ (fit-within _ _ _ (sym (told .before .before .new .ensures) ∙ told .enum-told2 .given .1)) (read .read-proof .ensures)
+    proof-read (s .args .bound) (s .args .file .now) _ _ _ _ (fit-within _ _ _ (sym (told .before .before .new .ensures) ∙ told .enum-told2 .given .1)) (read .read-proof .ensures)
 
 pub settle-proof-spec : {M : Type 1} → statement M
 settle-proof-spec =
