@@ -3,7 +3,7 @@
 use mathlib.Core.Path.{_≡_, ap, sym, _∙_, subst}
 use mathlib.Core.Logic.{_⊎_, inl, inr, _≢_}
 use mathlib.Core.Bool.{Bool, true, false}
-use mathlib.Core.List.{List, [], _∷_, _++_, List·Memᴰ, List·Memᴰ·not-nil, List·Memᴰ·append-cases, List·Memᴰ·eq-of-singleton, Memᴰ·cast}
+use mathlib.Core.List.{List, [], _∷_, _++_, append-nil, List·Memᴰ, List·Memᴰ·not-nil, List·Memᴰ·append-cases, List·Memᴰ·eq-of-singleton, Memᴰ·cast}
 use lib.IntN.{ℤ, pos, negℤ, negℤ-negℤ, natAbs}
 use Rattle.qbf.specs.Literal.{Literal, literal, neg}
 use Rattle.qbf.specs.Formula.{Formula, Existential, Universal, RightOf, Proper}
@@ -15,8 +15,9 @@ use Rattle.formula.specs.Decode.{literalOf}
 use Rattle.formula.specs.Decode.Laws.{magnitude-same, literal-variable, literal-negated, literal-injective}
 use Rattle.checker.specs.Words.{Words}
 use Rattle.checker.specs.Steps.{Step, resolution, reduction, statedBy}
-use Rattle.checker.specs.Lawful.{Resolvent, LawfulResolution, LawfulReduction, Lawful, Written, finished, step}
+use Rattle.checker.specs.Lawful.{Resolvent, LawfulResolution, LawfulReduction, Lawful, numberedClauses, LawfulSteps}
 use Rattle.checker.specs.Lawful.Deciding.{numbered-member}
+use Rattle.checker.specs.Lawful.Running.{numbered-step}
 
 -- A valid derivation whose conclusion is the clause's literals; the clause holds no 0 and no literal with its opposite.
 pub record Derived (F : Formula) (C : Words) : Type 0 where
@@ -161,10 +162,10 @@ module _ (F : Formula) (known : List Words) (all : AllDerived F known) where
       go (inr i) = subst (Derived F) (sym (List·Memᴰ·eq-of-singleton i)) d
 
 -- After lawful steps every numbered clause is derived.
-pub written-derived : {F : Formula} {final known : List Words} {ws : Words} → Written F final known ws → AllDerived F known → AllDerived F final
-written-derived {F} {final} {known} (finished e q) all = rw (← q) all
-written-derived {F} {final} {known} (step s rest e l w) all =
-    written-derived w (derived-snoc F known all (statedBy s) (lawful-derived F known all s l))
+pub lawful-steps-derived : (F : Formula) (known : List Words) (steps : List Step) → LawfulSteps F known steps → AllDerived F known → AllDerived F (numberedClauses known steps)
+lawful-steps-derived F known [] l all = rw (append-nil known) all
+lawful-steps-derived F known (s ∷ steps) l all =
+    rw (← numbered-step known s steps) (lawful-steps-derived F (known ++ (statedBy s ∷ [])) steps (l .1) (derived-snoc F known all (statedBy s) (lawful-derived F known all s (l .0))))
 
 -- A derived empty clause: the game is lost.
 pub derived-lost : (F : Formula) → Proper F → Derived F [] → Lost F

@@ -1,11 +1,12 @@
 -- Lawful steps (01, "Steps"; 000, section 3) on membership and on dependence, with no order of tests: a true statement of a
--- result, a resolution, a reduction, and words that are lawful steps one after the other. Steps.antt has the tests.
+-- result, a resolution, a reduction; then steps one after the other: their words, the clauses they number, and that each is lawful.
+-- Steps.antt has the tests, Refutation.antt what a refutation is.
 pub mod Deciding
 pub mod Running
 use Prim.Native.Nat.{ℕ, suc}
 use mathlib.Core.Path.{_≡_}
 use mathlib.Core.Logic.{_⊎_, _≢_}
-use mathlib.Core.List.{List, [], _∷_, _++_, List·Memᴰ}
+use mathlib.Core.List.{List, [], _∷_, _++_, map, List·Memᴰ}
 use mathlib.Core.Option.{some}
 use lib.ListN.{getElem?}
 use lib.IntN.{ℤ, pos, negℤ, natAbs}
@@ -70,12 +71,16 @@ abbrev pub wordsOf : Step → Words
 wordsOf (resolution i j e L) = pos 1 ∷ i ∷ j ∷ e ∷ (L ++ pos 0 ∷ [])
 wordsOf (reduction i a L) = pos 2 ∷ i ∷ a ∷ (L ++ pos 0 ∷ [])
 
--- After the numbered clauses `known` the words are lawful steps, one after the other; the numbered clauses are then `final`.
-pub data Written (F : Formula) (final : List Words) : List Words → Words → Type 0 where
-  finished : {known : List Words} {ws : Words} → ws ≡ [] → known ≡ final → Written F final known ws
-  step :
-      {known : List Words} {ws : Words} (s : Step) (rest : Words)
-      → ws ≡ wordsOf s ++ rest
-      → Lawful F known s
-      → Written F final (known ++ (statedBy s ∷ [])) rest
-      → Written F final known ws
+-- Steps written one after the other.
+unfoldable pub stepWords : List Step → Words
+stepWords [] = []
+stepWords (s ∷ steps) = wordsOf s ++ stepWords steps
+
+-- The numbered clauses once the steps stand after those numbered before: each step adds the result it states.
+abbrev pub numberedClauses : List Words → List Step → List Words
+numberedClauses known steps = known ++ map statedBy steps
+
+-- Each step is lawful over the clauses numbered before it; `known` are those before the first step.
+abbrev pub LawfulSteps : Formula → List Words → List Step → Type 0
+LawfulSteps F known [] = Unit {0}
+LawfulSteps F known (s ∷ steps) = Lawful F known s × LawfulSteps F (known ++ (statedBy s ∷ [])) steps

@@ -1,5 +1,5 @@
 -- The definitions that layer 3's contracts cite, and the theorems that say what they compute.
--- What a reader must believe: ProofFile, Words, Steps, Verdict, Lawful. As the code keeps and reads things: Marks, Kinds,
+-- What a reader must believe: ProofFile, Words, Steps, Verdict, Lawful, Refutation. As the code keeps and reads things: Marks, Kinds,
 -- Blocking, Numbered, Reading, Judgements, Stepping, Running.
 pub mod ProofFile
 pub mod Words
@@ -7,6 +7,7 @@ pub mod Steps
 pub mod Lawful
 pub mod Derived
 pub mod Verdict
+pub mod Refutation
 pub mod Marks
 pub mod Kinds
 pub mod Blocking

@@ -4,6 +4,7 @@ pub mod Examples
 pub mod Deciding
 pub mod Early
 pub mod Accuracy
+pub mod Exact
 pub mod Parts
 use Prim.Native.Nat.{ℕ, zero, suc, _-_}
 use mathlib.Core.Path.{_≡_}

@@ -1,5 +1,8 @@
--- Derivations of Q(D)-resolution (01, "Steps"; 000, section 3; 003 for merges), the ordinary and the long-distance rules in
--- one definition: the ordinary ones are the case in which no pair is merged and a reduction removes the one sign there is.
+-- Derivations of Q(D)-resolution, the ordinary rules (01, "Steps"; 000, Definition 1) and the long-distance ones in one definition: the
+-- ordinary ones are the case in which no pair is merged and a reduction removes the one sign there is. Of 003 (Figure 1) this has
+-- the reduction of both signs, and not the condition on merges: 003 asks that the pivot does not depend on the merged universal;
+-- here that universal stands right of the pivot, as in long-distance Q-resolution. No variable depends on one right of it
+-- (`right-independent` of Soundness/Merges), so a merge allowed here is one that 003 allows.
 use Prim.Native.Nat.{ℕ}
 use mathlib.Core.Logic.{_≢_}
 use mathlib.Core.Bool.{Bool, true, false}

@@ -9,6 +9,7 @@ use native.Mathlib.Decide.{ℕ-discrete}
 use Rattle.qbf.specs.Literal.{Literal, literal, same}
 use Rattle.qbf.specs.Formula.{Formula, entry, existential, universal, listed, after, existentials}
 use Rattle.qbf.specs.Play.{Values, assign, lost, falsified, satisfied, Lost, Won}
+use Rattle.qbf.specs.Play.Laws.{position-won}
 use Rattle.qbf.specs.Path.{holds, together, joined, literals, reach}
 use Rattle.qbf.specs.Dependency.{passable, member, pair, depends}
 
@@ -44,7 +45,7 @@ matchEither =
 
 pub match-either-won : Won matchEither
 unfolding lost falsified satisfied
-match-either-won τ = refl
+match-either-won τ = position-won (matchEither .prefix) τ (matchEither .matrix) .1 refl
 
 -- z wins by taking x's value, and by taking y's.
 pub match-either-models :
@@ -79,7 +80,7 @@ throughItself =
 
 pub through-itself-won : Won throughItself
 unfolding lost falsified satisfied
-through-itself-won τ = refl
+through-itself-won τ = position-won (throughItself .prefix) τ (throughItself .matrix) .1 refl
 
 pub through-itself-depends : depends throughItself 1 4 ≡ true
 unfolding depends member pair reach joined together holds literals existentials after same ℕ-discrete

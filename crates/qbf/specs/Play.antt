@@ -1,10 +1,10 @@
--- The game (01, "The game and its tables"): positions, turns, and what it is to be lost. Nothing here, nor in what this
--- file imports, speaks of steps or dependencies.
+-- The game (01, "The game and its tables"): positions, turns, what it is to be lost, and what it is to be won. Nothing here, nor
+-- in what this file imports, speaks of steps or dependencies.
 pub mod Laws
 use Prim.Native.Nat.{ℕ}
 use mathlib.Core.Path.{_≡_}
 use mathlib.Core.Bool.{Bool, true, false, not, _&&_, _||_, Bool·beq}
-use mathlib.Core.List.{[], _∷_}
+use mathlib.Core.List.{[], _∷_, List·Memᴰ}
 use lib.Dec.{eqb}
 use Rattle.qbf.specs.Literal.{Literal, Clause, Matrix}
 use Rattle.qbf.specs.Formula.{Quantifier, existential, universal, Prefix, Formula}
@@ -51,6 +51,23 @@ lost (x ∷ rest) τ M = turn (x .quantifier) (lost rest (assign τ (x .variable
 abbrev pub Lost : Formula → Type 0
 Lost F = (τ : Values) → lost (F .prefix) τ (F .matrix) ≡ true
 
--- The game is won, and the formula true: the first position is not false.
+-- The clause has a true literal.
+pub record TrueClause (τ : Values) (C : Clause) : Type 0 where
+  pub literal : Literal
+  pub stands : List·Memᴰ literal C
+  pub is-true : trueLiteral τ literal ≡ true
+
+-- A turn is won for an existential where some value leads to a won position, for a universal where both values do.
+abbrev pub WonTurn : Quantifier → (Bool → Type 0) → Type 0
+WonTurn existential after = (b : Bool) × after b
+WonTurn universal after = (b : Bool) → after b
+
+-- The position with these entries left and these values is won for the existential side, by the rules of play; with none left,
+-- every clause has a true literal. "A position not false is true" (01): `position-won` of Laws.
+abbrev pub WonAt : Prefix → Values → Matrix → Type 0
+WonAt [] τ M = (C : Clause) → List·Memᴰ C M → TrueClause τ C
+WonAt (x ∷ rest) τ M = WonTurn (x .quantifier) (λ b. WonAt rest (assign τ (x .variable) b) M)
+
+-- The game is won, and the formula true.
 abbrev pub Won : Formula → Type 0
-Won F = (τ : Values) → lost (F .prefix) τ (F .matrix) ≡ false
+Won F = (τ : Values) → WonAt (F .prefix) τ (F .matrix)

@@ -1,6 +1,9 @@
--- A derivation at a position of the game, and its restriction by a literal that has become true (003, Definition 8).
--- A position is the entries `rest` still to be set and the values τ so far. A leaf keeps its whole input clause; its
--- literals on variables already set no longer count, and are all false. Laws: Soundness.Restricting, Soundness.MoveLemma.
+-- A derivation at a position of the game, and its restriction by a literal that has become true. A position is the entries
+-- `rest` still to be set and the values τ so far. Laws: Soundness.Restricting, Soundness.MoveLemma.
+-- The cases of Top and of a resolution are those of 003, Definition 8. What differs: 003 restricts by an assignment at once, this
+-- by one literal a turn; 003 cuts the clause of a leaf, here a leaf keeps its whole input clause, its literals on variables already
+-- set no longer count, and are all false; 003 leaves out a reduction whose variable its premise no longer holds, here it stays and
+-- removes nothing; and paths and dependencies stay those of the whole formula, where 003 takes those of the restricted one.
 pub mod Examples
 use Prim.Native.Nat.{ℕ}
 use mathlib.Core.Path.{_≡_}

@@ -3,6 +3,7 @@
 -- restricted by the values set so far one at a time, refutes the position.
 pub mod Restricting
 pub mod MoveLemma
+pub mod Merges
 pub mod Examples
 use Prim.Native.Nat.{ℕ}
 use mathlib.Core.Path.{_≡_, refl, sym, ap, ap₂, _∙_, subst}

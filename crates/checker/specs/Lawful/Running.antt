@@ -5,11 +5,11 @@ use mathlib.Core.Path.{_≡_, refl, ap, sym, _∙_, subst}
 use mathlib.Core.Logic.{_⊎_, inl, inr, _≢_}
 use mathlib.Core.Bool.{Bool, true, false}
 use mathlib.Core.Option.{Option, none, some}
-use mathlib.Core.List.{List, [], _∷_, _++_, append-assoc, List·Memᴰ, List·Memᴰ·append-cases, List·Memᴰ·eq-of-singleton}
+use mathlib.Core.List.{List, [], _∷_, _++_, map, append-assoc, append-nil, List·Memᴰ, List·Memᴰ·append-cases, List·Memᴰ·eq-of-singleton}
 use native.Mathlib.Omega.{arith}
 use borrow.Author.Tests.{ltb-true, lt-ltb}
 use lib.Dec.{ltb}
-use lib.ListN.{length, drop, length-append}
+use lib.ListN.{length, drop, length-append, length-map}
 use lib.Seq.{drop-at}
 use lib.IntN.{ℤ, pos}
 use Rattle.qbf.specs.Formula.{Formula}
@@ -43,7 +43,7 @@ use Rattle.checker.specs.Steps.{
 }
 use Rattle.checker.specs.Steps.Reading.{read-written, written-read}
 use Rattle.checker.specs.Steps.Running.{size-positive, run-right}
-use Rattle.checker.specs.Lawful.{Resolvent, Lawful, wordsOf, Written, finished, step}
+use Rattle.checker.specs.Lawful.{Resolvent, Lawful, wordsOf, stepWords, numberedClauses, LawfulSteps}
 use Rattle.checker.specs.Lawful.Deciding.{Decides, NoZeros, numbered-member, BlockedStep, judge-lawful, lawful-judge, judge-blocked}
 
 -- What holds of each word of each numbered clause holds of a lawful step's words, and then of all numbered clauses.
@@ -128,29 +128,34 @@ module _ (S : Scope) (room : ℕ) (known : List Words) where
       go (some t) e k = fitting t (ltb (length known) room) e k
 
 -- The words of a step take as many places as its size says.
-words-size : (s : Step) → length (wordsOf s) ≡ sizeOf s
+pub words-size : (s : Step) → length (wordsOf s) ≡ sizeOf s
 words-size (resolution i j e L) = rw (length-append L (pos 0 ∷ [])) (omega arith)
 words-size (reduction i a L) = rw (length-append L (pos 0 ∷ [])) (omega arith)
 
-written-longer : {F : Formula} {final known : List Words} {ws : Words} → Written F final known ws → length known ≤ length final
-written-longer {final} {known} (finished e q) = rw q (omega arith)
-written-longer {final} {known} (step s rest e l w) = let h = written-longer w in omega (arith, h, length-snoc known (statedBy s))
+-- The first step's clause stands after those numbered before it, the other steps' clauses after that.
+pub numbered-step : (known : List Words) (s : Step) (steps : List Step) → numberedClauses (known ++ (statedBy s ∷ [])) steps ≡ numberedClauses known (s ∷ steps)
+numbered-step known s steps = append-assoc known (statedBy s ∷ []) (map statedBy steps)
+
+pub numbered-length : (known : List Words) (steps : List Step) → length (numberedClauses known steps) ≡ length known + length steps
+numbered-length known steps = length-append known (map statedBy steps) ∙ ap (λ n. length known + n) (length-map steps statedBy)
 
 -- What the run is to show of words it passes: they are lawful steps, and the starts have room for every clause.
 pub record RunEnds (F : Formula) (room : ℕ) (final known : List Words) (ws : Words) : Type 0 where
-  pub written : Written F final known ws
+  pub steps : List Step
+  pub written : ws ≡ stepWords steps
+  pub lawful : LawfulSteps F known steps
+  pub numbered : numberedClauses known steps ≡ final
   pub fits : length known ≤ room → length final ≤ room
 
 -- Where it stops as blocked: after lawful steps.
 pub record RunBlocked (F : Formula) (known : List Words) (ws : Words) (place : ℕ) : Type 0 where
-  pub before : Words
-  pub clauses : List Words
-  pub written : Written F clauses known before
+  pub steps : List Step
+  pub lawful : LawfulSteps F known steps
   pub blocked : Step
   pub rest : Words
-  pub stands : ws ≡ before ++ (wordsOf blocked ++ rest)
-  pub blocks : BlockedStep F clauses blocked
-  pub own-number : place ≡ suc (length clauses)
+  pub stands : ws ≡ stepWords steps ++ (wordsOf blocked ++ rest)
+  pub blocks : BlockedStep F (numberedClauses known steps) blocked
+  pub own-number : place ≡ suc (length (numberedClauses known steps))
 
 module _ (S : Scope) (F : Formula) (D : Decides S F) (room : ℕ) where
   ended-same : (a b : List Words) → _≡_ {A = Outcome} (ended a) (ended b) → a ≡ b
@@ -161,13 +166,20 @@ module _ (S : Scope) (F : Formula) (D : Decides S F) (room : ℕ) where
   after-step w ws s e =
       read-written (w ∷ ws) s e ∙ ap (λ (n : ℕ). wordsOf s ++ drop n (w ∷ ws)) (size-positive s)
 
+  -- No words: no steps.
+  ends-here : (final known : List Words) → _≡_ {A = Outcome} (ended known) (ended final) → RunEnds F room final known []
+  unfolding stepWords
+  ends-here final known h =
+      let same = ended-same known final h in
+      record { steps = []; written = refl; lawful = tt; numbered = append-nil known ∙ same; fits = λ f. rw (← same) f }
+
   pub run-lawful :
       (final known : List Words) (skip : ℕ) (ws : Words) → NoZeros known
       → run S room known skip ws ≡ ended final
       → RunEnds F room final known (drop skip ws)
-  unfolding run
-  run-lawful final known zero [] z h = record { written = finished refl (ended-same known final h); fits = λ f. rw (← ended-same known final h) f }
-  run-lawful final known (suc skip) [] z h = record { written = finished refl (ended-same known final h); fits = λ f. rw (← ended-same known final h) f }
+  unfolding run stepWords
+  run-lawful final known zero [] z h = ends-here final known h
+  run-lawful final known (suc skip) [] z h = ends-here final known h
   run-lawful final known (suc skip) (w ∷ ws) z h = run-lawful final known skip ws z h
   run-lawful final known zero (w ∷ ws) z h =
       go (judgeFirst S room known (w ∷ ws)) refl h (λ s k. run-lawful final (known ++ (statedBy s ∷ [])) (less-one (sizeOf s)) ws k)
@@ -182,29 +194,32 @@ module _ (S : Scope) (F : Formula) (D : Decides S F) (room : ℕ) where
           let l = judge-lawful S F D known z s (r .judged) in
           let ends = later s (lawful-all-words (λ x. x ≢ pos 0) F known z s l) k in
           record {
-            written = step s (drop (less-one (sizeOf s)) ws) (after-step w ws s (r .was-read)) l (ends .written);
+            steps = s ∷ ends .steps;
+            written = after-step w ws s (r .was-read) ∙ ap (λ (t : Words). wordsOf s ++ t) (ends .written);
+            lawful = (l, ends .lawful);
+            numbered = sym (numbered-step known s (ends .steps)) ∙ ends .numbered;
             fits = λ f. ends .fits (rw (length-snoc known (statedBy s)) (r .fits));
           }
       go (wrong r) e k later = let q : _≡_ {A = ℕ} 0 1 = cc in absurd (omega arith)
 
   pub lawful-run :
-      {final known : List Words} {ws : Words} → Written F final known ws → NoZeros known → length final ≤ room
-      → run S room known zero ws ≡ ended final
-  unfolding run
-  lawful-run {final} {known} {ws} (finished e q) z f = rw (e, q)
-  lawful-run {final} {known} {ws} (step s rest e l w) z f =
-      let longer : suc (length known) ≤ length final = rw (← length-snoc known (statedBy s)) (written-longer w) in
-      let was-read : readStep ws ≡ some s = rw e (written-read s rest (lawful-words (λ x. x ≢ pos 0) F known z s l)) in
-      let first : judgeFirst S room known ws ≡ right s = right-first S room known ws s was-read (omega arith) (lawful-judge S F D known z s l) in
-      let dropped : drop (sizeOf s) ws ≡ rest = rw e (drop-at (wordsOf s) rest (sizeOf s) (words-size s)) in
-      run-right S room known ws s first
-      ∙ rw dropped (lawful-run w (lawful-all-words (λ x. x ≢ pos 0) F known z s l) f)
+      (steps : List Step) (known : List Words) → LawfulSteps F known steps → NoZeros known → length known + length steps ≤ room
+      → run S room known zero (stepWords steps) ≡ ended (numberedClauses known steps)
+  unfolding run stepWords
+  lawful-run [] known l z f = rw (append-nil known)
+  lawful-run (s ∷ steps) known l z f =
+      let was-read : readStep (wordsOf s ++ stepWords steps) ≡ some s = written-read s (stepWords steps) (lawful-words (λ x. x ≢ pos 0) F known z s (l .0)) in
+      let first : judgeFirst S room known (wordsOf s ++ stepWords steps) ≡ right s =
+      right-first S room known (wordsOf s ++ stepWords steps) s was-read (omega arith) (lawful-judge S F D known z s (l .0)) in
+      let later = lawful-run steps (known ++ (statedBy s ∷ [])) (l .1) (lawful-all-words (λ x. x ≢ pos 0) F known z s (l .0)) (omega (arith, length-snoc known (statedBy s))) in
+      run-right S room known (wordsOf s ++ stepWords steps) s first
+      ∙ rw (drop-at (wordsOf s) (stepWords steps) (sizeOf s) (words-size s), later, numbered-step known s steps)
 
   pub run-blocked :
       (known : List Words) (skip : ℕ) (ws : Words) (place : ℕ) → NoZeros known
       → run S room known skip ws ≡ refused (refusal Blocked place)
       → RunBlocked F known (drop skip ws) place
-  unfolding run
+  unfolding run stepWords
   run-blocked known zero [] place z h = let q : _≡_ {A = ℕ} 0 1 = cc in absurd (omega arith)
   run-blocked known (suc skip) [] place z h = let q : _≡_ {A = ℕ} 0 1 = cc in absurd (omega arith)
   run-blocked known (suc skip) (w ∷ ws) place z h = run-blocked known skip ws place z h
@@ -229,25 +244,23 @@ module _ (S : Scope) (F : Formula) (D : Decides S F) (room : ℕ) where
           let l = judge-lawful S F D known z s (r .judged) in
           let b = later s (lawful-all-words (λ x. x ≢ pos 0) F known z s l) k in
           record {
-            before = wordsOf s ++ b .before;
-            clauses = b .clauses;
-            written = step s (b .before) refl l (b .written);
+            steps = s ∷ b .steps;
+            lawful = (l, b .lawful);
             blocked = b .blocked;
             rest = b .rest;
-            stands = after-step w ws s (r .was-read) ∙ ap (λ (t : Words). wordsOf s ++ t) (b .stands) ∙ sym (append-assoc (wordsOf s) (b .before) (wordsOf (b .blocked) ++ b .rest));
-            blocks = b .blocks;
-            own-number = b .own-number;
+            stands = after-step w ws s (r .was-read) ∙ ap (λ (t : Words). wordsOf s ++ t) (b .stands) ∙ sym (append-assoc (wordsOf s) (stepWords (b .steps)) (wordsOf (b .blocked) ++ b .rest));
+            blocks = rw (← numbered-step known s (b .steps)) (b .blocks);
+            own-number = rw (← numbered-step known s (b .steps)) (b .own-number);
           }
       go (wrong r) e k later =
           let o = own r k in
           let t = blocked-first S room known (w ∷ ws) (rw (o .0) at e) in
           record {
-            before = [];
-            clauses = known;
-            written = finished refl refl;
+            steps = [];
+            lawful = tt;
             blocked = t .0;
             rest = drop (less-one (sizeOf (t .0))) ws;
             stands = after-step w ws (t .0) (t .1);
-            blocks = judge-blocked S F D known (t .0) (t .2);
-            own-number = sym (o .1);
+            blocks = rw (append-nil known) (judge-blocked S F D known (t .0) (t .2));
+            own-number = rw (append-nil known) (sym (o .1));
           }

@@ -1,16 +1,16 @@
--- What an accepted proof is (01, "Steps"; wish 2): the verdict is accepted exactly when the tables pass, there is room, the
--- words are lawful steps one after the other and some numbered clause is empty; it is blocked only where an existential of the
--- clause depends. And wish 3 for the checker: an accepted proof makes the game lost. Assumes nothing.
-use Prim.Native.Nat.{ℕ, zero, suc, _+_, _-_, _≤_, _<_}
+-- What an accepted verdict says (01, "Steps"; wish 2) and what makes it, with nothing supposed of tables or room; Exact.antt has the
+-- wish as its sentence. The verdict is blocked only where an existential of the clause depends. And wish 3 for the checker: an
+-- accepted proof makes the game lost. Assumes nothing.
+use Prim.Native.Nat.{ℕ, zero, suc, _+_, _-_, _≤_}
 use mathlib.Core.Path.{_≡_, refl, ap, sym, _∙_}
 use mathlib.Core.Logic.{_≢_}
 use mathlib.Core.Bool.{Bool, true, false}
 use mathlib.Core.Option.{Option, none, some}
-use mathlib.Core.List.{List, [], _∷_, List·Memᴰ, Memᴰ·map, Memᴰ·of-map}
+use mathlib.Core.List.{List, [], List·Memᴰ, Memᴰ·map, Memᴰ·of-map}
 use native.Mathlib.Omega.{arith}
 use borrow.Author.Tests.{leb-true, le-leb}
 use lib.Dec.{leb}
-use lib.ListN.{length, getElem?}
+use lib.ListN.{length}
 use lib.IntN.{ℤ, pos, natAbs}
 use Rattle.qbf.specs.Formula.{Formula}
 use Rattle.qbf.specs.Formula.Laws.{distinct-images}
@@ -29,66 +29,26 @@ use Rattle.checker.specs.declared.verdict.Verdict.the-variants.{Accepted
 use Rattle.checker.specs.Words.{Words}
 use Rattle.checker.specs.Steps.{Outcome, ended, refused, run}
 use Rattle.checker.specs.Steps.Tests.{opposite-zero}
-use Rattle.checker.specs.Lawful.{Written}
+use Rattle.checker.specs.Lawful.{numberedClauses}
 use Rattle.checker.specs.Lawful.Deciding.{found-member}
-use Rattle.checker.specs.Lawful.Running.{run-lawful, lawful-run, run-blocked, RunBlocked}
-use Rattle.checker.specs.Derived.{AllDerived, written-derived, derived-lost}
+use Rattle.checker.specs.Lawful.Running.{numbered-length, run-lawful, lawful-run, run-blocked, RunEnds, RunBlocked}
+use Rattle.checker.specs.Derived.{AllDerived, lawful-steps-derived, derived-lost}
+use Rattle.checker.specs.Refutation.{Refutation, FirstEmpty}
+use Rattle.checker.specs.Refutation.Laws.{first-empty-sound, first-empty-complete}
 use Rattle.checker.specs.Verdict.{scopeOf, scratchBound, firstEmpty, concluded, conclude, ifAdmitted, ifFits, sizedVerdict, verdictOf}
 use Rattle.checker.specs.Verdict.Deciding.{scope-decides}
 use Rattle.checker.specs.Verdict.Early.{tables-early}
 
--- n is the number of the first empty clause.
-pub record FirstEmpty (known : List Words) (n : ℕ) : Type 0 where
-  pub place : ℕ
-  pub is : n ≡ suc place
-  pub empty : getElem? known place ≡ some []
-  pub earlier : (k : ℕ) → k < place → getElem? known k ≡ some [] → ⊥
-
--- A refutation with room for it: `empty` is the first empty clause's number, `count` the number of steps.
-pub record Refutation (prefix clauses steps : List ℤ) (scratch room empty count : ℕ) : Type 0 where
+-- What an accepted verdict says: admitted tables, bounds and room, and a refutation; `empty` is the first empty clause's number,
+-- `count` the number of steps.
+pub record Accepting (prefix clauses words : List ℤ) (scratch starts empty count : ℕ) : Type 0 where
   pub admitted : Admitted prefix clauses
-  pub sized : length steps ≤ proofBound
+  pub sized : length words ≤ proofBound
   pub scratch-fits : scratchBound ≤ scratch
-  pub inputs-fit : zeros clauses ≤ room
-  pub numbered : List Words
-  pub steps-fit : length numbered ≤ room
-  pub written : Written (formulaOf prefix clauses) numbered (clausesOf clauses) steps
-  pub first-empty : FirstEmpty numbered empty
-  pub counted : count ≡ length numbered - zeros clauses
-
--- The search for the first empty clause, `n` being the number of the first one here.
-first-empty-sound :
-    (n m : ℕ) (known : List Words) → firstEmpty n known ≡ some m
-    → (place : ℕ) × (m ≡ n + place) × (getElem? known place ≡ some []) × ((k : ℕ) → k < place → getElem? known k ≡ some [] → ⊥)
-unfolding firstEmpty
-first-empty-sound n m [] h = let z : _≡_ {A = ℕ} 0 1 = cc in absurd (omega arith)
-first-empty-sound n m ([] ∷ known) h = (0, number n m h, refl, λ k f. absurd (omega arith))
-  where
-    number : (n m : ℕ) → _≡_ {A = Option ℕ} (some n) (some m) → m ≡ n + 0
-    number n m e = let q : n ≡ m = cc in omega arith
-first-empty-sound n m ((x ∷ C) ∷ known) h = go (first-empty-sound (suc n) m known h)
-  where
-    earlier : (p : ℕ) → ((k : ℕ) → k < p → getElem? known k ≡ some [] → ⊥) → (k : ℕ) → k < suc p → getElem? ((x ∷ C) ∷ known) k ≡ some [] → ⊥
-    earlier p later zero f e = let z : _≡_ {A = ℕ} 0 1 = cc in absurd (omega arith)
-    earlier p later (suc k) f e = later k (omega arith) e
-
-    go :
-        (place : ℕ) × (m ≡ suc n + place) × (getElem? known place ≡ some []) × ((k : ℕ) → k < place → getElem? known k ≡ some [] → ⊥)
-        → (place : ℕ) × (m ≡ n + place) × (getElem? ((x ∷ C) ∷ known) place ≡ some []) × ((k : ℕ) → k < place → getElem? ((x ∷ C) ∷ known) k ≡ some [] → ⊥)
-    go t = (suc (t .0), let q = t .1 in omega arith, t .2, earlier (t .0) (t .3))
-
-first-empty-complete :
-    (n place : ℕ) (known : List Words) → getElem? known place ≡ some []
-    → ((k : ℕ) → k < place → getElem? known k ≡ some [] → ⊥)
-    → firstEmpty n known ≡ some (n + place)
-unfolding firstEmpty
-first-empty-complete n place [] e h = let z : _≡_ {A = ℕ} 0 1 = cc in absurd (omega arith)
-first-empty-complete n zero ([] ∷ known) e h = ap {B = Option ℕ} some (let q : n ≡ n + 0 = omega arith in q)
-first-empty-complete n (suc place) ([] ∷ known) e h = absurd (h 0 (omega arith) refl)
-first-empty-complete n zero ((x ∷ C) ∷ known) e h = let z : _≡_ {A = ℕ} 0 1 = cc in absurd (omega arith)
-first-empty-complete n (suc place) ((x ∷ C) ∷ known) e h =
-    first-empty-complete (suc n) place known e (λ k f. h (suc k) (omega arith))
-    ∙ ap {B = Option ℕ} some (let q : suc n + place ≡ n + suc place = omega arith in q)
+  pub refutation : Refutation prefix clauses words
+  pub starts-fit : length (numberedClauses (clausesOf clauses) (refutation .steps)) ≤ starts
+  pub first-empty : FirstEmpty (numberedClauses (clausesOf clauses) (refutation .steps)) empty
+  pub counted : count ≡ length (refutation .steps)
 
 -- The order of refusals, taken apart.
 fits-passed : (b : Bool) (r : Refusal) (later v : Verdict) → v ≢ Refused r → ifFits b r later ≡ v → (b ≡ true) × (later ≡ v)
@@ -98,6 +58,18 @@ fits-passed false r later v n h = absurd (n (sym h))
 admitted-passed : (o : Option Refusal) (later v : Verdict) → ((r : Refusal) → o ≡ some r → v ≢ Refused r) → ifAdmitted o later ≡ v → (o ≡ none) × (later ≡ v)
 admitted-passed none later v n h = (refl, h)
 admitted-passed (some r) later v n h = absurd (n r refl (sym h))
+
+-- Accepted verdicts that are the same have the same numbers.
+pub numbers-same : (a b c d : ℕ) → _≡_ {A = Verdict} (Accepted (record { 0 = a }) b) (Accepted (record { 0 = c }) d) → (a ≡ c) × (b ≡ d)
+numbers-same a b c d e = (ap first e, ap second e)
+  where
+    first : Verdict → ℕ
+    first (Accepted k l) = k .0
+    first (Refused r) = 0
+
+    second : Verdict → ℕ
+    second (Accepted k l) = l
+    second (Refused r) = 0
 
 -- What stands before the steps has passed.
 pub record Passed (prefix clauses steps : List ℤ) (scratch room : ℕ) : Type 0 where
@@ -153,62 +125,61 @@ module _ (prefix clauses steps : List ℤ) (scratch room : ℕ) where
   -- Accepted: the words are a refutation.
   pub accepted-refutation :
       (n m : ℕ) → verdictOf prefix clauses steps scratch room ≡ Accepted (record { 0 = n }) m
-      → Refutation prefix clauses steps scratch room n m
+      → Accepting prefix clauses steps scratch room n m
   accepted-refutation n m h =
       let p = verdict-passed (Accepted (record { 0 = n }) m) (λ q small. accepted-apart n m q) h in
       go (p .0) outcome refl (p .1)
     where
-      numbers : (a b c d : ℕ) → _≡_ {A = Verdict} (Accepted (record { 0 = a }) b) (Accepted (record { 0 = c }) d) → (a ≡ c) × (b ≡ d)
-      numbers a b c d e =
-          (ap first e, ap second e)
-        where
-          first : Verdict → ℕ
-          first (Accepted k l) = k .0
-          first (Refused r) = 0
-
-          second : Verdict → ℕ
-          second (Accepted k l) = l
-          second (Refused r) = 0
-
       finish :
           Passed prefix clauses steps scratch room
-          → (final : List Words) → outcome ≡ ended final
+          → (final : List Words) → RunEnds F room final (clausesOf clauses) steps
           → (o : Option ℕ) → firstEmpty 1 final ≡ o
           → concluded (zeros clauses) final o ≡ Accepted (record { 0 = n }) m
-          → Refutation prefix clauses steps scratch room n m
-      finish p final e none f k = absurd (accepted-apart n m (refusal NoConclusion (length final)) (sym k))
-      finish p final e (some k) f q =
-          let same = numbers k (length final - zeros clauses) n m q in
-          let first = first-empty-sound 1 k final f in
-          let ends = run-lawful (scopeOf prefix clauses) F (scope-decides prefix clauses) room final (clausesOf clauses) zero steps inputs-no-zero e in
+          → Accepting prefix clauses steps scratch room n m
+      finish p final ends none f k = absurd (accepted-apart n m (refusal NoConclusion (length final)) (sym k))
+      finish p final ends (some k) f q =
+          let same = numbers-same k (length final - zeros clauses) n m q in
+          let inputs : length (clausesOf clauses) ≡ zeros clauses = admitted-closed prefix clauses (p .admitted) in
+          let first : FirstEmpty final n = rw (← same .0) (first-empty-sound final k f) in
+          let size : length final ≡ length (clausesOf clauses) + length (ends .steps) = rw (← ends .numbered) (numbered-length (clausesOf clauses) (ends .steps)) in
+          let counts = same .1 in
           record {
             admitted = p .admitted;
             sized = p .sized;
             scratch-fits = p .scratch-fits;
-            inputs-fit = p .inputs-fit;
-            numbered = final;
-            steps-fit = ends .fits (rw (admitted-closed prefix clauses (p .admitted)) (p .inputs-fit));
-            written = ends .written;
-            first-empty = record { place = first .0; is = let g = first .1 in let s = same .0 in omega arith; empty = first .2; earlier = first .3 };
-            counted = sym (same .1);
+            refutation =
+                record {
+                  steps = ends .steps;
+                  written = ends .written;
+                  lawful = ends .lawful;
+                  some-empty = rw (ends .numbered) (found-member final (first .place) [] (first .empty));
+                };
+            starts-fit = rw (ends .numbered) (ends .fits (rw inputs (p .inputs-fit)));
+            first-empty = rw (ends .numbered) first;
+            counted = omega arith;
           }
 
-      go : Passed prefix clauses steps scratch room → (o : Outcome) → outcome ≡ o → conclude (zeros clauses) o ≡ Accepted (record { 0 = n }) m → Refutation prefix clauses steps scratch room n m
-      go p (ended final) e k = finish p final e (firstEmpty 1 final) refl k
+      go : Passed prefix clauses steps scratch room → (o : Outcome) → outcome ≡ o → conclude (zeros clauses) o ≡ Accepted (record { 0 = n }) m → Accepting prefix clauses steps scratch room n m
+      go p (ended final) e k =
+          finish p final (run-lawful (scopeOf prefix clauses) F (scope-decides prefix clauses) room final (clausesOf clauses) zero steps inputs-no-zero e) (firstEmpty 1 final) refl k
       go p (refused r) e k = absurd (accepted-apart n m r (sym k))
 
   -- A refutation is accepted.
   pub refutation-accepted :
-      (n m : ℕ) → Refutation prefix clauses steps scratch room n m
+      (n m : ℕ) → Accepting prefix clauses steps scratch room n m
       → verdictOf prefix clauses steps scratch room ≡ Accepted (record { 0 = n }) m
   refutation-accepted n m r =
-      let ran : outcome ≡ ended (r .numbered) =
-      lawful-run (scopeOf prefix clauses) F (scope-decides prefix clauses) room (r .written) inputs-no-zero (r .steps-fit) in
-      let first : firstEmpty 1 (r .numbered) ≡ some (1 + r .first-empty .place) =
-      first-empty-complete 1 (r .first-empty .place) (r .numbered) (r .first-empty .empty) (r .first-empty .earlier) in
-      let number : 1 + r .first-empty .place ≡ n = let e = r .first-empty .is in omega arith in
-      passed-verdict (record { admitted = r .admitted; sized = r .sized; scratch-fits = r .scratch-fits; inputs-fit = r .inputs-fit })
-      ∙ rw (ran, first, number, r .counted)
+      let list = r .refutation .steps in
+      let known = numberedClauses (clausesOf clauses) list in
+      let fits = r .starts-fit in
+      let inputs : length (clausesOf clauses) ≡ zeros clauses = admitted-closed prefix clauses (r .admitted) in
+      let size : length known ≡ length (clausesOf clauses) + length list = numbered-length (clausesOf clauses) list in
+      let ran : outcome ≡ ended known =
+      rw (r .refutation .written) (lawful-run (scopeOf prefix clauses) F (scope-decides prefix clauses) room list (clausesOf clauses) (r .refutation .lawful) inputs-no-zero (omega arith)) in
+      let first : firstEmpty 1 known ≡ some n = first-empty-complete known n (r .first-empty) in
+      let counts : length known - zeros clauses ≡ m = let c = r .counted in omega arith in
+      passed-verdict (record { admitted = r .admitted; sized = r .sized; scratch-fits = r .scratch-fits; inputs-fit = omega arith })
+      ∙ rw (ran, first, counts)
 
   -- Refused as blocked: after lawful steps stands a reduction whose clause holds an existential that depends.
   pub blocked-depends :
@@ -254,7 +225,5 @@ module _ (prefix clauses steps : List ℤ) (scratch room : ℕ) where
   pub accepted-lost : (n m : ℕ) → verdictOf prefix clauses steps scratch room ≡ Accepted (record { 0 = n }) m → Lost F
   accepted-lost n m h =
       let r = accepted-refutation n m h in
-      let derived = written-derived (r .written) (inputs-derived (r .admitted)) in
-      derived-lost F
-      (admitted-proper prefix clauses (r .admitted))
-      (derived [] (found-member (r .numbered) (r .first-empty .place) [] (r .first-empty .empty)))
+      let derived = lawful-steps-derived F (clausesOf clauses) (r .refutation .steps) (r .refutation .lawful) (inputs-derived (r .admitted)) in
+      derived-lost F (admitted-proper prefix clauses (r .admitted)) (derived [] (r .refutation .some-empty))

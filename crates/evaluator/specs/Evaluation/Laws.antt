@@ -1,7 +1,8 @@
 -- The evaluator decides the game: on tables that pass the check and have at most 16 variables it answers False exactly
--- when the formula is lost, whatever values the variables are held to have before they are set, and True otherwise.
+-- when the formula is lost, whatever values the variables are held to have before they are set, and True exactly when it is won.
 use Prim.Native.Nat.{ℕ, _≤_, _<_}
 use mathlib.Core.Path.{_≡_, refl, ap, sym, _∙_}
+use mathlib.Core.Logic.{_↔_}
 use mathlib.Core.Bool.{Bool, true, false}
 use mathlib.Core.Option.{some}
 use mathlib.Core.List.{List, [], _∷_}
@@ -9,8 +10,8 @@ use native.Mathlib.Omega.{arith}
 use borrow.Author.Tests.{le-leb, lt-leb}
 use lib.IntN.{ℤ, pos}
 use lib.ListN.{length}
-use Rattle.qbf.specs.Play.{Values, satisfied, falsified, lost, Lost}
-use Rattle.qbf.specs.Play.Laws.{lost-any-values}
+use Rattle.qbf.specs.Play.{Values, satisfied, falsified, lost, Lost, Won}
+use Rattle.qbf.specs.Play.Laws.{lost-any-values, won-exactly}
 use Rattle.formula.specs.Refusal.{refusal}
 use Rattle.formula.specs.Tables.{zeros, clausesRefusal, prefixRefusal, tablesRefusal, Admitted}
 use Rattle.formula.specs.Tables.Laws.{admitted-proper}
@@ -52,6 +53,12 @@ module _ (p c : List ℤ) (a : Admitted p c) (h : length p ≤ gameBound) where
       go : (b : Bool) → lost (prefixOf p) unset (matrixOf c) ≡ b → (Lost (formulaOf p c) → ⊥) → evaluationOf p c ≡ True
       go true e n = absurd (n (λ τ. lost-any-values (formulaOf p c) (admitted-proper p c a) τ unset ∙ e))
       go false e n = evaluation-verdict unset ∙ ap verdict e
+
+  -- True exactly when the game is won, by the rules of play for winning.
+  pub evaluation-true-won : (evaluationOf p c ≡ True) ↔ Won (formulaOf p c)
+  evaluation-true-won =
+      let w = won-exactly (formulaOf p c) (admitted-proper p c a) in
+      (λ e. w .1 (evaluation-true-not-lost .0 e), λ won. evaluation-true-not-lost .1 (w .0 won))
 
 -- Known positions f and g of 01: no tables at all, and the clause word 0 alone.
 pub evaluation-known : (evaluationOf [] [] ≡ True) × (evaluationOf [] (pos 0 ∷ []) ≡ False)

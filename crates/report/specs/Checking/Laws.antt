@@ -1,10 +1,11 @@
 -- From the stages to the line of the two files; then the headline: where what is printed begins as an `accepted` line, the game
 -- of the formula that the text denotes is lost. Assumes nothing.
-use Prim.Native.Nat.{ℕ, zero, suc}
-use mathlib.Core.Path.{_≡_, refl, ap, sym, _∙_}
+use Prim.Native.Nat.{ℕ, zero, suc, _≤_}
+use mathlib.Core.Path.{_≡_, refl, ap, sym, _∙_, subst}
 use mathlib.Core.Bool.{Bool, true, false}
 use mathlib.Core.List.{List, [], _∷_}
 use native.Mathlib.Omega.{arith}
+use borrow.Author.Tests.{leb-true}
 use lib.ListN.{length, take, replicate, getD}
 use lib.Dec.{leb}
 use lib.IntN.{ℤ}
@@ -65,37 +66,89 @@ refused-unlike r n h = go (leb (length (refusedLine r)) n) (sym (first-taken (he
     go true e = absurd (omega (arith, e))
     go false e = absurd (omega (arith, e, first-zeros n))
 
-settled-reading : (bound : ℕ) (formula : List ℕ) (p c : ℕ) (prefix clauses : List ℤ) (count : ℕ) → settled bound formula p c ≡ read prefix clauses count → reading formula p c ≡ read prefix clauses count
+-- A file that is settled as read is no longer than the largest taken, and is read so.
+settled-read :
+    (bound : ℕ) (formula : List ℕ) (p c : ℕ) (prefix clauses : List ℤ) (count : ℕ) → settled bound formula p c ≡ read prefix clauses count
+    → (length formula ≤ bound) × (reading formula p c ≡ read prefix clauses count)
 unfolding settled
-settled-reading bound formula p c prefix clauses count = go (leb (length formula) bound) (reading formula p c)
+settled-read bound formula p c prefix clauses count = go (leb (length formula) bound) refl (reading formula p c)
   where
-    go : (b : Bool) (r : Reading) → ifWithin b r ≡ read prefix clauses count → r ≡ read prefix clauses count
-    go true r e = e
-    go false r e = let z : _≡_ {A = ℕ} 0 1 = cc in absurd (omega arith)
+    go : (b : Bool) → leb (length formula) bound ≡ b → (r : Reading) → ifWithin b r ≡ read prefix clauses count → (length formula ≤ bound) × (r ≡ read prefix clauses count)
+    go true l r e = (leb-true (length formula) bound l, e)
+    go false l r e = let z : _≡_ {A = ℕ} 0 1 = cc in absurd (omega arith)
+
+settled-proof-read :
+    (bound : ℕ) (proof : List ℕ) (count room : ℕ) (words : List ℤ) → settledProof bound proof count room ≡ readSteps words
+    → (length proof ≤ bound) × (proofReading proof count room ≡ readSteps words)
+unfolding settledProof
+settled-proof-read bound proof count room words = go (leb (length proof) bound) refl (proofReading proof count room)
+  where
+    go : (b : Bool) → leb (length proof) bound ≡ b → (r : ProofReading) → ifProofWithin b r ≡ readSteps words → (length proof ≤ bound) × (r ≡ readSteps words)
+    go true l r e = (leb-true (length proof) bound l, e)
+    go false l r e = let z : _≡_ {A = ℕ} 0 1 = cc in absurd (omega arith)
+
+-- What a line that is no `refused` line is made from: both files are read, and the verdict is accepted.
+pub record MadeFrom (room : Room) (formula proof : List ℕ) : Type 0 where
+  pub prefix : List ℤ
+  pub clauses : List ℤ
+  pub count : ℕ
+  pub words : List ℤ
+  pub empty : ℕ
+  pub steps : ℕ
+  pub formula-fits : length formula ≤ room .file
+  pub proof-fits : length proof ≤ room .file
+  pub formula-read : reading formula (room .prefix) (room .clauses) ≡ read prefix clauses count
+  pub proof-read : proofReading proof count (room .steps) ≡ readSteps words
+  pub accepted : verdictOf prefix clauses words (room .scratch) (room .starts) ≡ Accepted (record { 0 = empty }) steps
+
+module _ (room : Room) (formula proof : List ℕ) (P : List ℕ → Type 0) (unlike : (r : Refusal) → P (refusedLine r) → ⊥) where
+  pub made-from : P (checkLine room formula proof) → MadeFrom room formula proof
+  unfolding provedLine
+  made-from h = go (settled (room .file) formula (room .prefix) (room .clauses)) refl
+    where
+      judged :
+          (prefix clauses words : List ℤ) (count : ℕ) → settled (room .file) formula (room .prefix) (room .clauses) ≡ read prefix clauses count
+          → settledProof (room .file) proof count (room .steps) ≡ readSteps words
+          → (v : Verdict) → verdictOf prefix clauses words (room .scratch) (room .starts) ≡ v
+          → P (verdictLine (length prefix) count v) → MadeFrom room formula proof
+      judged prefix clauses words count e f (Accepted empty m) q k =
+          let text = settled-read (room .file) formula (room .prefix) (room .clauses) prefix clauses count e in
+          let file = settled-proof-read (room .file) proof count (room .steps) words f in
+          record {
+            prefix = prefix;
+            clauses = clauses;
+            count = count;
+            words = words;
+            empty = empty .0;
+            steps = m;
+            formula-fits = text .0;
+            proof-fits = file .0;
+            formula-read = text .1;
+            proof-read = file .1;
+            accepted = q;
+          }
+      judged prefix clauses words count e f (Refused r) q k = absurd (unlike r k)
+
+      proved :
+          (prefix clauses : List ℤ) (count : ℕ) → settled (room .file) formula (room .prefix) (room .clauses) ≡ read prefix clauses count
+          → (s : ProofReading) → settledProof (room .file) proof count (room .steps) ≡ s
+          → P (provedLine (room .scratch) (room .starts) prefix clauses count s) → MadeFrom room formula proof
+      proved prefix clauses count e (readSteps words) f k = judged prefix clauses words count e f (verdictOf prefix clauses words (room .scratch) (room .starts)) refl k
+      proved prefix clauses count e (refusedFile r) f k = absurd (unlike r k)
+
+      go : (s : Reading) → settled (room .file) formula (room .prefix) (room .clauses) ≡ s → MadeFrom room formula proof
+      go (read prefix clauses count) e =
+          proved prefix clauses count e (settledProof (room .file) proof count (room .steps)) refl (subst P (read-line room formula proof prefix clauses count e) h)
+      go (refused r) e = absurd (unlike r (subst P (refused-line room formula proof r e) h))
 
 -- The headline.
 pub accepted-denotes-lost : (room : Room) (formula proof : List ℕ) (n : ℕ) → take 9 (held (checkLine room formula proof) n) ≡ acceptedText → DenotesLost room formula
-unfolding provedLine
-accepted-denotes-lost room formula proof n h = go (settled (room .file) formula (room .prefix) (room .clauses)) refl
-  where
-    judged : (prefix clauses steps : List ℤ) (count : ℕ) (v : Verdict) → settled (room .file) formula (room .prefix) (room .clauses) ≡ read prefix clauses count
-        → verdictOf prefix clauses steps (room .scratch) (room .starts) ≡ v → take 9 (held (verdictLine (length prefix) count v) n) ≡ acceptedText → DenotesLost room formula
-    judged prefix clauses steps count (Accepted empty m) e q k =
-        record {
-          prefix = prefix;
-          clauses = clauses;
-          count = count;
-          denotes = settled-reading (room .file) formula (room .prefix) (room .clauses) prefix clauses count e;
-          lost = accepted-lost prefix clauses steps (room .scratch) (room .starts) (empty .0) m q;
-        }
-    judged prefix clauses steps count (Refused r) e q k = let z = refused-unlike r n k in absurd (omega (arith, z))
-
-    proved : (prefix clauses : List ℤ) (count : ℕ) (s : ProofReading) → settled (room .file) formula (room .prefix) (room .clauses) ≡ read prefix clauses count
-        → take 9 (held (provedLine (room .scratch) (room .starts) prefix clauses count s) n) ≡ acceptedText → DenotesLost room formula
-    proved prefix clauses count (readSteps steps) e k = judged prefix clauses steps count (verdictOf prefix clauses steps (room .scratch) (room .starts)) e refl k
-    proved prefix clauses count (refusedFile r) e k = let z = refused-unlike r n k in absurd (omega (arith, z))
-
-    go : (s : Reading) → settled (room .file) formula (room .prefix) (room .clauses) ≡ s → DenotesLost room formula
-    go (read prefix clauses count) e =
-        proved prefix clauses count (settledProof (room .file) proof count (room .steps)) e (rw (read-line room formula proof prefix clauses count e) at h)
-    go (refused r) e = let z = refused-unlike r n (rw (refused-line room formula proof r e) at h) in absurd (omega (arith, z))
+accepted-denotes-lost room formula proof n h =
+    let m = made-from room formula proof (λ line. take 9 (held line n) ≡ acceptedText) (λ r e. let z = refused-unlike r n e in omega (arith, z)) h in
+    record {
+      prefix = m .prefix;
+      clauses = m .clauses;
+      count = m .count;
+      denotes = m .formula-read;
+      lost = accepted-lost (m .prefix) (m .clauses) (m .words) (room .scratch) (room .starts) (m .empty) (m .steps) (m .accepted);
+    }

@@ -1,0 +1,39 @@
+-- What a refutation is (wish 2; 01, "Steps"), and 01's bounds and room for one. Nothing here speaks of tests or of their order: that
+-- the checker accepts exactly the refutations is in Verdict/Exact.antt. Lawful steps are in Lawful.antt.
+pub mod Laws
+pub mod Examples
+use Prim.Native.Nat.{ℕ, suc, _≤_, _<_}
+use mathlib.Core.Path.{_≡_}
+use mathlib.Core.Option.{some}
+use mathlib.Core.List.{List, [], List·Memᴰ}
+use lib.ListN.{length, getElem?}
+use lib.IntN.{ℤ}
+use Rattle.formula.specs.Bounds.{proofBound}
+use Rattle.formula.specs.Decode.{clausesOf, formulaOf}
+use Rattle.checker.specs.Words.{Words}
+use Rattle.checker.specs.Steps.{Step}
+use Rattle.checker.specs.Lawful.{stepWords, numberedClauses, LawfulSteps}
+use Rattle.checker.specs.Verdict.{scratchBound}
+
+-- The words are steps written one after the other, each lawful over the clauses numbered before it, and some numbered clause,
+-- input clause or step, is empty. Dependencies are those of the formula that the tables denote.
+pub record Refutation (prefix clauses words : List ℤ) : Type 0 where
+  pub steps : List Step
+  pub written : words ≡ stepWords steps
+  pub lawful : LawfulSteps (formulaOf prefix clauses) (clausesOf clauses) steps
+  pub some-empty : List·Memᴰ [] (numberedClauses (clausesOf clauses) steps)
+
+-- n is the number of the first empty clause; clauses are numbered from 1.
+pub record FirstEmpty (known : List Words) (n : ℕ) : Type 0 where
+  pub place : ℕ
+  pub is : n ≡ suc place
+  pub empty : getElem? known place ≡ some []
+  pub earlier : (k : ℕ) → k < place → getElem? known k ≡ some [] → ⊥
+
+-- The proof is within 01's bounds and room: at most 1,048,576 step words, scratch of 8,200 bytes, and a clause offset for every
+-- numbered clause, whatever steps the words are written from (for a refutation that is no more than one for each of its own:
+-- `refutation-within` of Laws). `scratch` and `starts` are the lengths of what is lent.
+pub record Within (clauses words : List ℤ) (scratch starts : ℕ) : Type 0 where
+  pub sized : length words ≤ proofBound
+  pub scratch-fits : scratchBound ≤ scratch
+  pub starts-fit : (steps : List Step) → words ≡ stepWords steps → length (numberedClauses (clausesOf clauses) steps) ≤ starts

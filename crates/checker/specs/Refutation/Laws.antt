@@ -1,0 +1,181 @@
+-- Laws of refutations: the search for the first empty clause finds it; how many words steps take, and how many 0s: so a clause
+-- offset for each four step words is room enough, and for a refutation so is one for each numbered clause. Assumes nothing.
+use Prim.Native.Nat.{ℕ, zero, suc, _+_, _*_, _/_, _≤_, _<_}
+use mathlib.Core.Path.{_≡_, refl, ap, sym, _∙_}
+use mathlib.Core.Logic.{_⊎_, inl, inr, _≢_}
+use mathlib.Core.Option.{Option, some}
+use mathlib.Core.List.{List, [], _∷_, _++_, append-assoc, List·Memᴰ, List·Memᴰ·head, List·Memᴰ·tail, List·Memᴰ·not-nil, List·Memᴰ·cases-cons}
+use native.Mathlib.Omega.{arith}
+use lib.ListN.{length, getElem?, length-append}
+use lib.IntN.{ℤ, pos, negsuc}
+use Rattle.qbf.specs.Formula.{Formula}
+use Rattle.formula.specs.Bounds.{proofBound}
+use Rattle.formula.specs.Decode.{clausesOf, formulaOf}
+use Rattle.formula.specs.Decode.Laws.{clauses-no-zero}
+use Rattle.formula.specs.Tables.{zeros}
+use Rattle.formula.specs.Tables.Laws.{zeros-cons}
+use Rattle.checker.specs.Words.{Words}
+use Rattle.checker.specs.Steps.{Step, resolution, reduction, statedBy, sizeOf}
+use Rattle.checker.specs.Lawful.{Numbered, Lawful, wordsOf, stepWords, numberedClauses, LawfulSteps}
+use Rattle.checker.specs.Lawful.Deciding.{NoZeros, numbered-member}
+use Rattle.checker.specs.Lawful.Running.{numbered-length, words-size, lawful-words, lawful-all-words}
+use Rattle.checker.specs.Refutation.{Refutation, FirstEmpty, Within}
+use Rattle.checker.specs.Verdict.{scratchBound, firstEmpty}
+
+-- ---- the first empty clause
+
+-- The search for the first empty clause, `n` being the number of the first one here.
+found-from :
+    (n m : ℕ) (known : List Words) → firstEmpty n known ≡ some m
+    → (place : ℕ) × (m ≡ n + place) × (getElem? known place ≡ some []) × ((k : ℕ) → k < place → getElem? known k ≡ some [] → ⊥)
+unfolding firstEmpty
+found-from n m [] h = let z : _≡_ {A = ℕ} 0 1 = cc in absurd (omega arith)
+found-from n m ([] ∷ known) h = (0, number n m h, refl, λ k f. absurd (omega arith))
+  where
+    number : (n m : ℕ) → _≡_ {A = Option ℕ} (some n) (some m) → m ≡ n + 0
+    number n m e = let q : n ≡ m = cc in omega arith
+found-from n m ((x ∷ C) ∷ known) h = go (found-from (suc n) m known h)
+  where
+    earlier : (p : ℕ) → ((k : ℕ) → k < p → getElem? known k ≡ some [] → ⊥) → (k : ℕ) → k < suc p → getElem? ((x ∷ C) ∷ known) k ≡ some [] → ⊥
+    earlier p later zero f e = let z : _≡_ {A = ℕ} 0 1 = cc in absurd (omega arith)
+    earlier p later (suc k) f e = later k (omega arith) e
+
+    go :
+        (place : ℕ) × (m ≡ suc n + place) × (getElem? known place ≡ some []) × ((k : ℕ) → k < place → getElem? known k ≡ some [] → ⊥)
+        → (place : ℕ) × (m ≡ n + place) × (getElem? ((x ∷ C) ∷ known) place ≡ some []) × ((k : ℕ) → k < place → getElem? ((x ∷ C) ∷ known) k ≡ some [] → ⊥)
+    go t = (suc (t .0), let q = t .1 in omega arith, t .2, earlier (t .0) (t .3))
+
+finds-from :
+    (n place : ℕ) (known : List Words) → getElem? known place ≡ some []
+    → ((k : ℕ) → k < place → getElem? known k ≡ some [] → ⊥)
+    → firstEmpty n known ≡ some (n + place)
+unfolding firstEmpty
+finds-from n place [] e h = let z : _≡_ {A = ℕ} 0 1 = cc in absurd (omega arith)
+finds-from n zero ([] ∷ known) e h = ap {B = Option ℕ} some (let q : n ≡ n + 0 = omega arith in q)
+finds-from n (suc place) ([] ∷ known) e h = absurd (h 0 (omega arith) refl)
+finds-from n zero ((x ∷ C) ∷ known) e h = let z : _≡_ {A = ℕ} 0 1 = cc in absurd (omega arith)
+finds-from n (suc place) ((x ∷ C) ∷ known) e h =
+    finds-from (suc n) place known e (λ k f. h (suc k) (omega arith))
+    ∙ ap {B = Option ℕ} some (let q : suc n + place ≡ n + suc place = omega arith in q)
+
+pub first-empty-sound : (known : List Words) (n : ℕ) → firstEmpty 1 known ≡ some n → FirstEmpty known n
+first-empty-sound known n h = let t = found-from 1 n known h in record { place = t .0; is = let e = t .1 in omega arith; empty = t .2; earlier = t .3 }
+
+pub first-empty-complete : (known : List Words) (n : ℕ) → FirstEmpty known n → firstEmpty 1 known ≡ some n
+first-empty-complete known n f =
+    finds-from 1 (f .place) known (f .empty) (f .earlier) ∙ ap {B = Option ℕ} some (let q : 1 + f .place ≡ n = let e = f .is in omega arith in q)
+
+-- Where some clause is empty, one is the first.
+empty-found : (n : ℕ) (known : List Words) → List·Memᴰ [] known → (m : ℕ) × (firstEmpty n known ≡ some m)
+unfolding firstEmpty
+empty-found n [] m = absurd (List·Memᴰ·not-nil m)
+empty-found n ([] ∷ known) m = (n, refl)
+empty-found n ((x ∷ C) ∷ known) m = empty-found (suc n) known (later (List·Memᴰ·cases-cons m))
+  where
+    later : (_≡_ {A = Words} [] (x ∷ C)) ⊎ List·Memᴰ [] known → List·Memᴰ [] known
+    later (inl e) = let z : _≡_ {A = ℕ} 0 1 = cc in absurd (omega arith)
+    later (inr k) = k
+
+pub empty-first : (known : List Words) → List·Memᴰ [] known → (n : ℕ) × FirstEmpty known n
+empty-first known m = let t = empty-found 1 known m in (t .0, first-empty-sound known (t .0) (t .1))
+
+-- ---- words and 0s of steps
+
+-- A step has four words at least.
+pub steps-size : (steps : List Step) → 4 * length steps ≤ length (stepWords steps)
+unfolding stepWords
+steps-size [] = omega arith
+steps-size (s ∷ steps) = omega (arith, steps-size steps, length-append (wordsOf s) (stepWords steps), words-size s, four s)
+  where
+    four : (s : Step) → 4 ≤ sizeOf s
+    four (resolution i j e L) = omega arith
+    four (reduction i a L) = omega arith
+
+-- A clause offset for each input clause and for each four step words is room enough.
+pub words-within :
+    (clauses words : List ℤ) (scratch starts : ℕ) → length words ≤ proofBound → scratchBound ≤ scratch
+    → length (clausesOf clauses) + length words / 4 ≤ starts
+    → Within clauses words scratch starts
+words-within clauses words scratch starts sized fits room =
+    record {
+      sized = sized;
+      scratch-fits = fits;
+      starts-fit = λ steps e. let size : 4 * length steps ≤ length words = rw e (steps-size steps) in omega (arith, numbered-length (clausesOf clauses) steps);
+    }
+
+-- Words without a 0 add none; the others may.
+zeros-nonzero : (L rest : Words) → ((x : ℤ) → List·Memᴰ x L → x ≢ pos 0) → zeros (L ++ rest) ≡ zeros rest
+zeros-nonzero [] rest h = refl
+zeros-nonzero (x ∷ L) rest h = zeros-cons x (L ++ rest) (h x (List·Memᴰ·head refl)) ∙ zeros-nonzero L rest (λ y m. h y (List·Memᴰ·tail m))
+
+zeros-more : (w : ℤ) (rest : Words) → zeros rest ≤ zeros (w ∷ rest)
+unfolding zeros
+zeros-more (pos zero) rest = omega arith
+zeros-more (pos (suc n)) rest = omega arith
+zeros-more (negsuc n) rest = omega arith
+
+closed-more : (L rest : Words) → suc (zeros rest) ≤ zeros ((L ++ pos 0 ∷ []) ++ rest)
+unfolding zeros
+closed-more [] rest = omega arith
+closed-more (x ∷ L) rest = omega (arith, closed-more L rest, zeros-more x ((L ++ pos 0 ∷ []) ++ rest))
+
+-- Each step is closed by a 0; one that is lawful over clauses without 0 has no other.
+step-zeros : (s : Step) (rest : Words) → suc (zeros rest) ≤ zeros (wordsOf s ++ rest)
+step-zeros (resolution i j e L) rest = let t = (L ++ pos 0 ∷ []) ++ rest in omega (arith, closed-more L rest, zeros-more e t, zeros-more j (e ∷ t), zeros-more i (j ∷ e ∷ t), zeros-more (pos 1) (i ∷ j ∷ e ∷ t))
+step-zeros (reduction i a L) rest = let t = (L ++ pos 0 ∷ []) ++ rest in omega (arith, closed-more L rest, zeros-more a t, zeros-more i (a ∷ t), zeros-more (pos 2) (i ∷ a ∷ t))
+
+steps-zeros : (steps : List Step) → length steps ≤ zeros (stepWords steps)
+unfolding stepWords
+steps-zeros [] = omega arith
+steps-zeros (s ∷ steps) = omega (arith, steps-zeros steps, step-zeros s (stepWords steps))
+
+numbered-nonzero : (known : List Words) (i : ℤ) (C : Words) → Numbered known i C → i ≢ pos 0
+numbered-nonzero known i C n z = let e : _≡_ {A = ℤ} (pos (suc (n .place))) (pos 0) = sym (n .is) ∙ z in let q : _≡_ {A = ℕ} 0 1 = cc in omega arith
+
+module _ (F : Formula) where
+  lawful-zeros : (known : List Words) → NoZeros known → (s : Step) → Lawful F known s → (rest : Words) → zeros (wordsOf s ++ rest) ≡ suc (zeros rest)
+  unfolding zeros
+  lawful-zeros known clean s l rest = go s l (lawful-words (λ x. x ≢ pos 0) F known clean s l)
+    where
+      closed : (L : Words) → ((x : ℤ) → List·Memᴰ x L → x ≢ pos 0) → zeros ((L ++ pos 0 ∷ []) ++ rest) ≡ suc (zeros rest)
+      closed L h = ap zeros (append-assoc L (pos 0 ∷ []) rest) ∙ zeros-nonzero L (pos 0 ∷ rest) h
+
+      go : (s : Step) → Lawful F known s → ((x : ℤ) → List·Memᴰ x (statedBy s) → x ≢ pos 0) → zeros (wordsOf s ++ rest) ≡ suc (zeros rest)
+      go (resolution i j e L) l h =
+          let t = (L ++ pos 0 ∷ []) ++ rest in
+          zeros-cons i (j ∷ e ∷ t) (numbered-nonzero known i (l .left) (l .left-numbered))
+          ∙ zeros-cons j (e ∷ t) (numbered-nonzero known j (l .right) (l .right-numbered))
+          ∙ zeros-cons e t (clean (l .left) (numbered-member known i (l .left) (l .left-numbered)) e (l .in-left))
+          ∙ closed L h
+      go (reduction i a L) l h =
+          let t = (L ++ pos 0 ∷ []) ++ rest in
+          zeros-cons i (a ∷ t) (numbered-nonzero known i (l .clause) (l .numbered))
+          ∙ zeros-cons a t (clean (l .clause) (numbered-member known i (l .clause) (l .numbered)) a (l .in-clause))
+          ∙ closed L h
+
+  lawful-steps-zeros : (known : List Words) → NoZeros known → (steps : List Step) → LawfulSteps F known steps → zeros (stepWords steps) ≡ length steps
+  unfolding stepWords zeros
+  lawful-steps-zeros known clean [] l = refl
+  lawful-steps-zeros known clean (s ∷ steps) l =
+      lawful-zeros known clean s (l .0) (stepWords steps)
+      ∙ ap suc (lawful-steps-zeros (known ++ (statedBy s ∷ [])) (lawful-all-words (λ x. x ≢ pos 0) F known clean s (l .0)) steps (l .1))
+
+-- A refutation has as many steps as 0 words.
+pub refutation-zeros : (prefix clauses words : List ℤ) (r : Refutation prefix clauses words) → zeros words ≡ length (r .steps)
+refutation-zeros prefix clauses words r =
+    rw (r .written) (lawful-steps-zeros (formulaOf prefix clauses) (clausesOf clauses) (λ C m. clauses-no-zero clauses C m) (r .steps) (r .lawful))
+
+-- A clause offset for each numbered clause of the refutation is room enough.
+pub refutation-within :
+    (prefix clauses words : List ℤ) (scratch starts : ℕ) (r : Refutation prefix clauses words)
+    → length words ≤ proofBound → scratchBound ≤ scratch
+    → length (numberedClauses (clausesOf clauses) (r .steps)) ≤ starts
+    → Within clauses words scratch starts
+refutation-within prefix clauses words scratch starts r sized fits room =
+    record {
+      sized = sized;
+      scratch-fits = fits;
+      starts-fit = λ steps e.
+          let other : length steps ≤ zeros words = rw e (steps-zeros steps) in
+          omega (arith, refutation-zeros prefix clauses words r, numbered-length (clausesOf clauses) steps, numbered-length (clausesOf clauses) (r .steps));
+    }

@@ -1,0 +1,116 @@
+-- Wish 2 from bytes to bytes: within bounds and room the line is an `accepted` line exactly when the files refute, and its four
+-- numbers are theirs; then for the room of 01's programs, where nothing is supposed but that the files are bytes. Assumes nothing.
+use Prim.Native.Nat.{ℕ, _+_, _*_, _-_, _≤_}
+use mathlib.Core.Path.{_≡_, refl, ap, _∙_}
+use mathlib.Core.Logic.{_↔_}
+use mathlib.Core.List.{List}
+use native.Mathlib.Omega.{arith}
+use borrow.Author.Tests.{le-leb}
+use lib.ListN.{length, take, getD}
+use Rattle.formula.specs.Decode.{clausesOf}
+use Rattle.formula.specs.Tables.Laws.{admitted-closed, admitted-count}
+use Rattle.formula.specs.Text.{read}
+use Rattle.formula.specs.Text.Admits.{read-admitted}
+use Rattle.formula.specs.declared.refusal.Refusal.{Refusal}
+use Rattle.checker.specs.ProofFile.{trailerStart, distance, proofReading}
+use Rattle.checker.specs.ProofFile.{read as readSteps}
+use Rattle.checker.specs.ProofFile.Passed.{Bytes}
+use Rattle.checker.specs.ProofFile.Laws.{read-fits}
+use Rattle.checker.specs.ProofFile.Layout.Laws.{file-of-length, layout-read, read-layout}
+use Rattle.checker.specs.declared.verdict.Verdict.the-variants.{Accepted}
+use Rattle.checker.specs.Lawful.{numberedClauses}
+use Rattle.checker.specs.Refutation.{FirstEmpty}
+use Rattle.checker.specs.Refutation.Laws.{empty-first, words-within}
+use Rattle.checker.specs.Verdict.{verdictOf}
+use Rattle.checker.specs.Verdict.Accuracy.{accepted-refutation, refutation-accepted}
+use Rattle.report.specs.Line.{acceptedLine, refusedLine, fileBound, settled}
+use Rattle.report.specs.Check.{Room, checkLine}
+use Rattle.report.specs.Checking.{provedLine}
+use Rattle.report.specs.Checking.Laws.{read-line, made-from}
+use Rattle.report.specs.Settled.{settledProof}
+use Rattle.report.specs.Program.{programRoom}
+use Rattle.report.specs.Exact.{AcceptedLine, Refuting, FilesWithin}
+
+-- A `refused` line is no `accepted` line: they differ in the first byte.
+refused-not-accepted : (r : Refusal) → AcceptedLine (refusedLine r) → ⊥
+unfolding refusedLine acceptedLine
+refused-not-accepted r a = let e = ap (λ (text : List ℕ). getD text 0 0) (a .is) in omega (arith, e)
+
+-- An `accepted` line: the files are no longer than the largest taken, and refute.
+accepted-refuting :
+    (room : Room) (formula proof : List ℕ) → Bytes proof → AcceptedLine (checkLine room formula proof)
+    → (length formula ≤ room .file) × (length proof ≤ room .file) × Refuting room formula proof
+accepted-refuting room formula proof bytes a =
+    let m = made-from room formula proof AcceptedLine refused-not-accepted a in (
+      m .formula-fits,
+      m .proof-fits,
+      record {
+        prefix = m .prefix;
+        clauses = m .clauses;
+        count = m .count;
+        reads = m .formula-read;
+        note = take (trailerStart proof - distance proof) proof;
+        words = m .words;
+        signed = read-fits proof (m .count) (room .steps) (m .words) bytes (m .proof-read);
+        laid-out = read-layout proof (m .count) (room .steps) (m .words) bytes (m .proof-read);
+        refutation = accepted-refutation (m .prefix) (m .clauses) (m .words) (room .scratch) (room .starts) (m .empty) (m .steps) (m .accepted) .refutation;
+      },
+    )
+
+module _ (room : Room) (formula proof : List ℕ) (within : FilesWithin room formula proof) where
+  -- The numbers: V the length of the prefix, C that of input clauses, the steps, and the first empty clause's.
+  pub accepted-line-numbers :
+      (r : Refuting room formula proof) (empty : ℕ) → FirstEmpty (numberedClauses (clausesOf (r .clauses)) (r .refutation .steps)) empty
+      → checkLine room formula proof ≡ acceptedLine (length (r .prefix)) (r .count) (length (r .refutation .steps)) empty
+  unfolding settled settledProof provedLine
+  accepted-line-numbers r empty f =
+      let fits = within .steps-fit (r .prefix) (r .clauses) (r .count) (r .reads) (r .note) (r .words) (r .laid-out) in
+      let text : settled (room .file) formula (room .prefix) (room .clauses) ≡ read (r .prefix) (r .clauses) (r .count) =
+      rw (le-leb (length formula) (room .file) (within .formula-fits), r .reads) in
+      let steps : proofReading proof (r .count) (room .steps) ≡ readSteps (r .words) =
+      rw (r .laid-out) (layout-read (r .note) (r .words) (r .count) (fits .1 .sized) (room .steps) (fits .0) (r .signed)) in
+      let file : settledProof (room .file) proof (r .count) (room .steps) ≡ readSteps (r .words) =
+      rw (le-leb (length proof) (room .file) (within .proof-fits), steps) in
+      let verdict : verdictOf (r .prefix) (r .clauses) (r .words) (room .scratch) (room .starts) ≡ Accepted (record { 0 = empty }) (length (r .refutation .steps)) =
+      refutation-accepted (r .prefix) (r .clauses) (r .words) (room .scratch) (room .starts) empty (length (r .refutation .steps))
+      (record {
+        admitted = read-admitted formula (room .prefix) (room .clauses) (r .prefix) (r .clauses) (r .count) (r .reads) .admitted;
+        sized = fits .1 .sized;
+        scratch-fits = fits .1 .scratch-fits;
+        refutation = r .refutation;
+        starts-fit = fits .1 .starts-fit (r .refutation .steps) (r .refutation .written);
+        first-empty = f;
+        counted = refl;
+      }) in
+      read-line room formula proof (r .prefix) (r .clauses) (r .count) text ∙ rw (file, verdict)
+
+  -- Wish 2, from the bytes of the files.
+  pub accepted-line-exactly : Bytes proof → AcceptedLine (checkLine room formula proof) ↔ Refuting room formula proof
+  accepted-line-exactly bytes = (
+    λ a. accepted-refuting room formula proof bytes a .2,
+    λ r. let f = empty-first (numberedClauses (clausesOf (r .clauses)) (r .refutation .steps)) (r .refutation .some-empty) in
+        record { variables = length (r .prefix); clauses = r .count; steps = length (r .refutation .steps); empty = f .0; is = accepted-line-numbers r (f .0) (f .1) },
+  )
+
+-- Files of 65,536 bytes at most are within the room of 01's programs.
+pub program-within : (formula proof : List ℕ) → length formula ≤ fileBound → length proof ≤ fileBound → FilesWithin programRoom formula proof
+program-within formula proof h k =
+    record {
+      formula-fits = h;
+      proof-fits = k;
+      steps-fit = λ prefix clauses count e note words laid.
+          let a = read-admitted formula 1024 16384 prefix clauses count e .admitted in
+          let n : length proof ≡ length note + 4 * length words + 12 = rw laid (file-of-length note words count) in (
+            omega arith,
+            words-within clauses words 8200 16384 (omega arith) (omega arith) (omega (arith, admitted-closed prefix clauses a, admitted-count prefix clauses a)),
+          );
+    }
+
+-- The first program's line is an `accepted` line exactly when neither file is longer than 65,536 bytes and they refute.
+pub program-line-exactly :
+    (formula proof : List ℕ) → Bytes proof
+    → AcceptedLine (checkLine programRoom formula proof) ↔ ((length formula ≤ fileBound) × (length proof ≤ fileBound) × Refuting programRoom formula proof)
+program-line-exactly formula proof bytes = (
+  accepted-refuting programRoom formula proof bytes,
+  λ t. accepted-line-exactly programRoom formula proof (program-within formula proof (t .0) (t .1)) bytes .1 (t .2),
+)
