@@ -1,6 +1,8 @@
 // Dependency rows: the lettered positions' rows, refusals and their order, buffers that are short or long. The buffers lent hold
 // 7 before; a byte of a row that is neither 0 nor 1 shows as `?`.
-use crate::show;
+use crate::list::Kind;
+use crate::list::run_list;
+use caselist::show;
 use dependency::answer::RowAnswer;
 use dependency::answer::dependency_row;
 
@@ -29,79 +31,48 @@ fn row(
 }
 
 // A row of 1,025 bytes, with scratch of 8,200.
-fn case(name: &[u8], prefix: &[i32], clauses: &[i32], variable: i32) {
+pub fn case(name: &[u8], prefix: &[i32], clauses: &[i32], variable: i32) {
     let mut bytes = [7u8; 1025];
     let mut scratch = [7u8; 8200];
     row(name, prefix, clauses, variable, &mut bytes, &mut scratch);
 }
 
 fn lettered() {
-    case(
-        b"a, 2",
-        &[1, -2, 3, 4],
-        &[2, 3, 0, -2, 4, 0, -4, 1, 0, -1, -3, 0],
-        2,
+    run_list(
+        Kind::Row,
+        b"a, 2|1 -2 3 4|2 3 0 -2 4 0 -4 1 0 -1 -3 0|2|\
+          c, 1|-1 -2 3|1 2 -3 0 -1 -2 3 0|1|\
+          c, 2|-1 -2 3|1 2 -3 0 -1 -2 3 0|2|\
+          e, 1|-1 2 3|1 2 0 -1 2 0 -2 3 0 -2 -3 0|1|\
+          l, 1|-1 2|1 2 0 -1 2 0|1|",
     );
-    case(b"c, 1", &[-1, -2, 3], &[1, 2, -3, 0, -1, -2, 3, 0], 1);
-    case(b"c, 2", &[-1, -2, 3], &[1, 2, -3, 0, -1, -2, 3, 0], 2);
-    case(
-        b"e, 1",
-        &[-1, 2, 3],
-        &[1, 2, 0, -1, 2, 0, -2, 3, 0, -2, -3, 0],
-        1,
-    );
-    case(b"l, 1", &[-1, 2], &[1, 2, 0, -1, 2, 0], 1);
 }
 
 fn paths() {
-    case(b"no clauses", &[-1, 2], &[], 1);
-    case(b"joined both ways", &[-1, 2], &[1, 2, 0, -1, -2, 0], 1);
-    case(b"left of the universal", &[2, -1], &[1, 2, 0, -1, -2, 0], 1);
-    case(
-        b"over an existential",
-        &[-1, 2, 3],
-        &[1, 2, 0, -2, 3, 0, -1, -3, 0],
-        1,
-    );
-    case(
-        b"not over a universal",
-        &[-1, -2, 3],
-        &[1, 2, 0, -2, 3, 0, -1, -3, 0],
-        1,
-    );
-    case(
-        b"not over an existential to the left",
-        &[2, -1, 3],
-        &[1, 2, 0, -2, 3, 0, -1, -3, 0],
-        1,
-    );
-    case(
-        b"numbers up to 1,024",
-        &[-7, 1_024],
-        &[7, 1_024, 0, -7, -1_024, 0],
-        7,
+    run_list(
+        Kind::Row,
+        b"no clauses|-1 2||1|\
+          joined both ways|-1 2|1 2 0 -1 -2 0|1|\
+          left of the universal|2 -1|1 2 0 -1 -2 0|1|\
+          over an existential|-1 2 3|1 2 0 -2 3 0 -1 -3 0|1|\
+          not over a universal|-1 -2 3|1 2 0 -2 3 0 -1 -3 0|1|\
+          not over an existential to the left|2 -1 3|1 2 0 -2 3 0 -1 -3 0|1|\
+          numbers up to 1,024|-7 1024|7 1024 0 -7 -1024 0|7|",
     );
 }
 
 fn not_universal() {
-    case(b"asked for 0", &[1, -2], &[1, 2, 0], 0);
-    case(b"asked for -2", &[1, -2], &[1, 2, 0], -2);
-    case(b"asked for an existential", &[1, -2], &[1, 2, 0], 1);
-    case(b"asked for an unbound variable", &[1, -2], &[1, 2, 0], 3);
-    case(b"asked for 1,025", &[1, -2], &[1, 2, 0], 1_025);
-    case(
-        b"asked for the lowest number",
-        &[1, -2],
-        &[1, 2, 0],
-        i32::MIN,
+    run_list(
+        Kind::Row,
+        b"asked for 0|1 -2|1 2 0|0|\
+          asked for -2|1 -2|1 2 0|-2|\
+          asked for an existential|1 -2|1 2 0|1|\
+          asked for an unbound variable|1 -2|1 2 0|3|\
+          asked for 1,025|1 -2|1 2 0|1025|\
+          asked for the lowest number|1 -2|1 2 0|-2147483648|\
+          asked for the highest number|1 -2|1 2 0|2147483647|\
+          tables ahead of the variable|1 -2 2|1 2 0|1|",
     );
-    case(
-        b"asked for the highest number",
-        &[1, -2],
-        &[1, 2, 0],
-        i32::MAX,
-    );
-    case(b"tables ahead of the variable", &[1, -2, 2], &[1, 2, 0], 1);
 }
 
 fn short_rows() {

@@ -1,7 +1,9 @@
 // Writing: the text, read back; room to the byte; the tables' refusals. The text lent holds 7 before.
-use crate::show;
+use crate::list::Kind;
+use crate::list::run_list;
 use crate::tables;
 use crate::text;
+use caselist::show;
 use formula::read::ReadAnswer;
 use formula::read::read_formula;
 use formula::write::WriteAnswer;
@@ -36,21 +38,20 @@ fn writing(name: &[u8], prefix: &[i32], clauses: &[i32], text: &mut [u8]) {
 }
 
 // Writing into 64 bytes.
-fn case(name: &[u8], prefix: &[i32], clauses: &[i32]) {
+pub fn case(name: &[u8], prefix: &[i32], clauses: &[i32]) {
     let mut text = [7u8; 64];
     writing(name, prefix, clauses, &mut text);
 }
 
 fn formulas() {
-    case(b"nothing at all", &[], &[]);
-    case(b"the word 0 alone", &[], &[0]);
-    case(
-        b"the example",
-        &[1, -2, 3, 4],
-        &[2, 3, 0, -2, 4, 0, -4, 1, 0, -1, -3, 0],
+    run_list(
+        Kind::Written,
+        b"nothing at all|||\
+          the word 0 alone||0|\
+          the example|1 -2 3 4|2 3 0 -2 4 0 -4 1 0 -1 -3 0|\
+          largest variable first|-17 -3|3 -17 0 0|\
+          tables refused|1|2 0|",
     );
-    case(b"largest variable first", &[-17, -3], &[3, -17, 0, 0]);
-    case(b"tables refused", &[1], &[2, 0]);
 }
 
 fn room() {
