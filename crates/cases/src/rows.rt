@@ -75,72 +75,53 @@ fn not_universal() {
     );
 }
 
-fn short_rows() {
-    let mut bytes = [7u8; 1024];
-    let mut scratch = [7u8; 8200];
-    row(
-        b"1,024 bytes",
-        &[-1, 2],
-        &[1, 2, 0],
-        1,
-        &mut bytes,
-        &mut scratch,
-    );
-    row(
-        b"1,024 bytes, asked for 2",
-        &[-1, 2],
-        &[1, 2, 0],
-        2,
-        &mut bytes,
-        &mut scratch,
-    );
+// A row into the first `row_bytes` bytes of one buffer, with the first `scratch_bytes` of the other as scratch.
+fn parted(
+    name: &[u8],
+    variable: i32,
+    bytes: &mut [u8],
+    row_bytes: usize,
+    scratch: &mut [u8],
+    scratch_bytes: usize,
+) {
+    if row_bytes <= bytes.len() {
+        if scratch_bytes <= scratch.len() {
+            row(
+                name,
+                &[-1, 2],
+                &[1, 2, 0, -1, -2, 0],
+                variable,
+                &mut bytes[0..row_bytes],
+                &mut scratch[0..scratch_bytes],
+            );
+        }
+    }
 }
 
-fn short_scratch() {
-    let mut bytes = [7u8; 1025];
-    let mut scratch = [7u8; 8199];
-    row(
-        b"scratch 8,199",
-        &[-1, 2],
-        &[1, 2, 0],
-        1,
-        &mut bytes,
-        &mut scratch,
-    );
-}
-
-fn no_buffers() {
-    let mut bytes = [7u8; 0];
-    let mut scratch = [7u8; 0];
-    row(
-        b"no buffers",
-        &[-1, 2],
-        &[1, 2, 0],
-        1,
-        &mut bytes,
-        &mut scratch,
-    );
-}
-
-fn long_buffers() {
+fn lent(name: &[u8], variable: i32, row_bytes: usize, scratch_bytes: usize) {
     let mut bytes = [7u8; 1040];
     let mut scratch = [7u8; 9000];
-    row(
-        b"1,040 bytes, scratch 9,000",
-        &[-1, 2],
-        &[1, 2, 0, -1, -2, 0],
-        1,
+    parted(
+        name,
+        variable,
         &mut bytes,
+        row_bytes,
         &mut scratch,
+        scratch_bytes,
     );
+}
+
+fn buffers() {
+    lent(b"1,024 bytes", 1, 1_024, 8_200);
+    lent(b"1,024 bytes, asked for 2", 2, 1_024, 8_200);
+    lent(b"scratch 8,199", 1, 1_025, 8_199);
+    lent(b"no buffers", 1, 0, 0);
+    lent(b"1,040 bytes, scratch 9,000", 1, 1_040, 9_000);
 }
 
 pub fn run() {
     lettered();
     paths();
     not_universal();
-    short_rows();
-    short_scratch();
-    no_buffers();
-    long_buffers();
+    buffers();
 }

@@ -34,12 +34,43 @@ pub fn reading(text: &[u8], prefix: &mut [i32], clauses: &mut [i32]) {
     show::say(b"\n");
 }
 
-// A text read into tables of four and six words.
-pub fn case(name: &[u8], text: &[u8]) {
+// A text read into the first words of the two tables.
+fn parted(
+    name: &[u8],
+    text: &[u8],
+    prefix: &mut [i32],
+    prefix_words: usize,
+    clauses: &mut [i32],
+    clause_words: usize,
+) {
+    if prefix_words <= prefix.len() {
+        if clause_words <= clauses.len() {
+            show::name(b"text", name);
+            reading(
+                text,
+                &mut prefix[0..prefix_words],
+                &mut clauses[0..clause_words],
+            );
+        }
+    }
+}
+
+fn lent(name: &[u8], text: &[u8], prefix_words: usize, clause_words: usize) {
     let mut prefix = [7i32; 4];
     let mut clauses = [7i32; 6];
-    show::name(b"text", name);
-    reading(text, &mut prefix, &mut clauses);
+    parted(
+        name,
+        text,
+        &mut prefix,
+        prefix_words,
+        &mut clauses,
+        clause_words,
+    );
+}
+
+// A text read into tables of four and six words.
+pub fn case(name: &[u8], text: &[u8]) {
+    lent(name, text, 4, 6);
 }
 
 fn known() {
@@ -205,18 +236,18 @@ fn room() {
     );
 }
 
-// Tables of no words at all, and both tables whole after a refusal.
+// Tables of no words at all, and tables that are just long enough.
 fn tables() {
     let text = b"p cnf 1 1\ne 1 0\n1 0\n";
-    let mut none = [7i32; 0];
+    lent(b"no prefix table", text, 0, 2);
+    lent(b"no clause table", text, 1, 0);
+    lent(b"one word and two words", text, 1, 2);
+}
+
+// Both tables whole after a refusal.
+fn refused_tables() {
     let mut one = [7i32; 1];
     let mut two = [7i32; 2];
-    show::name(b"text", b"no prefix table");
-    reading(text, &mut none, &mut two);
-    show::name(b"text", b"no clause table");
-    reading(text, &mut one, &mut none);
-    show::name(b"text", b"one word and two words");
-    reading(text, &mut one, &mut two);
     show::name(b"text", b"one word and two words refused");
     reading(b"p cnf 1 1\ne 1 0\n1 1 0\n", &mut one, &mut two);
     show::say(b"text, the tables then:");
@@ -272,6 +303,7 @@ pub fn run() {
     ends();
     room();
     tables();
+    refused_tables();
     longest();
     cuts(b"c\np cnf 1 1\na 1 0\n-1 0\n");
 }

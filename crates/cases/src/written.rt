@@ -37,10 +37,30 @@ fn writing(name: &[u8], prefix: &[i32], clauses: &[i32], text: &mut [u8]) {
     }
 }
 
+// Writing into the first bytes of a text.
+fn parted(name: &[u8], prefix: &[i32], clauses: &[i32], text: &mut [u8], bytes: usize) {
+    if bytes <= text.len() {
+        writing(name, prefix, clauses, &mut text[0..bytes]);
+    }
+}
+
+fn lent(name: &[u8], prefix: &[i32], clauses: &[i32], bytes: usize) {
+    let mut text = [7u8; 64];
+    parted(name, prefix, clauses, &mut text, bytes);
+}
+
 // Writing into 64 bytes.
 pub fn case(name: &[u8], prefix: &[i32], clauses: &[i32]) {
-    let mut text = [7u8; 64];
-    writing(name, prefix, clauses, &mut text);
+    lent(name, prefix, clauses, 64);
+}
+
+fn example(name: &[u8], bytes: usize) {
+    lent(
+        name,
+        &[1, -2, 3, 4],
+        &[2, 3, 0, -2, 4, 0, -4, 1, 0, -1, -3, 0],
+        bytes,
+    );
 }
 
 fn formulas() {
@@ -55,15 +75,10 @@ fn formulas() {
 }
 
 fn room() {
-    let prefix = [1, -2, 3, 4];
-    let clauses = [2, 3, 0, -2, 4, 0, -4, 1, 0, -1, -3, 0];
-    let mut exact = [7u8; 58];
-    let mut short = [7u8; 57];
-    let mut none = [7u8; 0];
-    writing(b"the example in 58 bytes", &prefix, &clauses, &mut exact);
-    writing(b"the example in 57 bytes", &prefix, &clauses, &mut short);
-    writing(b"nothing at all in no bytes", &[], &[], &mut none);
-    writing(b"tables refused ahead of room", &[1], &[2, 0], &mut none);
+    example(b"the example in 58 bytes", 58);
+    example(b"the example in 57 bytes", 57);
+    lent(b"nothing at all in no bytes", &[], &[], 0);
+    lent(b"tables refused ahead of room", &[1], &[2, 0], 0);
 }
 
 fn same_words(a: &[i32], b: &[i32]) -> bool {
