@@ -1,10 +1,12 @@
 // The evaluator: games won and lost, its own bound, and the tables' refusals ahead of it.
-use crate::show;
+use crate::list::Kind;
+use crate::list::run_list;
 use crate::tables;
+use caselist::show;
 use evaluator::evaluation::Evaluation;
 use evaluator::evaluation::evaluate;
 
-fn case(name: &[u8], prefix: &[i32], clauses: &[i32]) {
+pub fn case(name: &[u8], prefix: &[i32], clauses: &[i32]) {
     show::name(b"game", name);
     match evaluate(prefix, clauses) {
         Evaluation::True => show::say(b"true"),
@@ -15,27 +17,29 @@ fn case(name: &[u8], prefix: &[i32], clauses: &[i32]) {
 }
 
 fn lettered() {
-    case(
-        b"a",
-        &[1, -2, 3, 4],
-        &[2, 3, 0, -2, 4, 0, -4, 1, 0, -1, -3, 0],
+    run_list(
+        Kind::Game,
+        b"a|1 -2 3 4|2 3 0 -2 4 0 -4 1 0 -1 -3 0|\
+          c|-1 -2 3|1 2 -3 0 -1 -2 3 0|\
+          e|-1 2 3|1 2 0 -1 2 0 -2 3 0 -2 -3 0|\
+          f|||\
+          g||0|\
+          h|1 -2|1 2 0|\
+          i|-1|1 0|\
+          j|-1|1 0 -1 0|\
+          k|1 2|1 2 0 -1 -2 0|\
+          l|-1 2|1 2 0 -1 2 0|",
     );
-    case(b"c", &[-1, -2, 3], &[1, 2, -3, 0, -1, -2, 3, 0]);
-    case(b"e", &[-1, 2, 3], &[1, 2, 0, -1, 2, 0, -2, 3, 0, -2, -3, 0]);
-    case(b"f", &[], &[]);
-    case(b"g", &[], &[0]);
-    case(b"h", &[1, -2], &[1, 2, 0]);
-    case(b"i", &[-1], &[1, 0]);
-    case(b"j", &[-1], &[1, 0, -1, 0]);
-    case(b"k", &[1, 2], &[1, 2, 0, -1, -2, 0]);
-    case(b"l", &[-1, 2], &[1, 2, 0, -1, 2, 0]);
 }
 
 fn orders() {
-    case(b"universal first", &[-1, 2], &[1, -2, 0, -1, 2, 0]);
-    case(b"existential first", &[2, -1], &[1, -2, 0, -1, 2, 0]);
-    case(b"variable without clauses", &[-1], &[]);
-    case(b"tables refused", &[1], &[2, 0]);
+    run_list(
+        Kind::Game,
+        b"universal first|-1 2|1 -2 0 -1 2 0|\
+          existential first|2 -1|1 -2 0 -1 2 0|\
+          variable without clauses|-1||\
+          tables refused|1|2 0|",
+    );
 }
 
 fn lengths() {

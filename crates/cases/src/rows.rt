@@ -1,6 +1,8 @@
 // Dependency rows: the lettered positions' rows, refusals and their order, buffers that are short or long. The buffers lent hold
 // 7 before; a byte of a row that is neither 0 nor 1 shows as `?`.
-use crate::show;
+use crate::list::Kind;
+use crate::list::run_list;
+use caselist::show;
 use dependency::answer::RowAnswer;
 use dependency::answer::dependency_row;
 
@@ -29,147 +31,97 @@ fn row(
 }
 
 // A row of 1,025 bytes, with scratch of 8,200.
-fn case(name: &[u8], prefix: &[i32], clauses: &[i32], variable: i32) {
+pub fn case(name: &[u8], prefix: &[i32], clauses: &[i32], variable: i32) {
     let mut bytes = [7u8; 1025];
     let mut scratch = [7u8; 8200];
     row(name, prefix, clauses, variable, &mut bytes, &mut scratch);
 }
 
 fn lettered() {
-    case(
-        b"a, 2",
-        &[1, -2, 3, 4],
-        &[2, 3, 0, -2, 4, 0, -4, 1, 0, -1, -3, 0],
-        2,
+    run_list(
+        Kind::Row,
+        b"a, 2|1 -2 3 4|2 3 0 -2 4 0 -4 1 0 -1 -3 0|2|\
+          c, 1|-1 -2 3|1 2 -3 0 -1 -2 3 0|1|\
+          c, 2|-1 -2 3|1 2 -3 0 -1 -2 3 0|2|\
+          e, 1|-1 2 3|1 2 0 -1 2 0 -2 3 0 -2 -3 0|1|\
+          l, 1|-1 2|1 2 0 -1 2 0|1|",
     );
-    case(b"c, 1", &[-1, -2, 3], &[1, 2, -3, 0, -1, -2, 3, 0], 1);
-    case(b"c, 2", &[-1, -2, 3], &[1, 2, -3, 0, -1, -2, 3, 0], 2);
-    case(
-        b"e, 1",
-        &[-1, 2, 3],
-        &[1, 2, 0, -1, 2, 0, -2, 3, 0, -2, -3, 0],
-        1,
-    );
-    case(b"l, 1", &[-1, 2], &[1, 2, 0, -1, 2, 0], 1);
 }
 
 fn paths() {
-    case(b"no clauses", &[-1, 2], &[], 1);
-    case(b"joined both ways", &[-1, 2], &[1, 2, 0, -1, -2, 0], 1);
-    case(b"left of the universal", &[2, -1], &[1, 2, 0, -1, -2, 0], 1);
-    case(
-        b"over an existential",
-        &[-1, 2, 3],
-        &[1, 2, 0, -2, 3, 0, -1, -3, 0],
-        1,
-    );
-    case(
-        b"not over a universal",
-        &[-1, -2, 3],
-        &[1, 2, 0, -2, 3, 0, -1, -3, 0],
-        1,
-    );
-    case(
-        b"not over an existential to the left",
-        &[2, -1, 3],
-        &[1, 2, 0, -2, 3, 0, -1, -3, 0],
-        1,
-    );
-    case(
-        b"numbers up to 1,024",
-        &[-7, 1_024],
-        &[7, 1_024, 0, -7, -1_024, 0],
-        7,
+    run_list(
+        Kind::Row,
+        b"no clauses|-1 2||1|\
+          joined both ways|-1 2|1 2 0 -1 -2 0|1|\
+          left of the universal|2 -1|1 2 0 -1 -2 0|1|\
+          over an existential|-1 2 3|1 2 0 -2 3 0 -1 -3 0|1|\
+          not over a universal|-1 -2 3|1 2 0 -2 3 0 -1 -3 0|1|\
+          not over an existential to the left|2 -1 3|1 2 0 -2 3 0 -1 -3 0|1|\
+          numbers up to 1,024|-7 1024|7 1024 0 -7 -1024 0|7|",
     );
 }
 
 fn not_universal() {
-    case(b"asked for 0", &[1, -2], &[1, 2, 0], 0);
-    case(b"asked for -2", &[1, -2], &[1, 2, 0], -2);
-    case(b"asked for an existential", &[1, -2], &[1, 2, 0], 1);
-    case(b"asked for an unbound variable", &[1, -2], &[1, 2, 0], 3);
-    case(b"asked for 1,025", &[1, -2], &[1, 2, 0], 1_025);
-    case(
-        b"asked for the lowest number",
-        &[1, -2],
-        &[1, 2, 0],
-        i32::MIN,
-    );
-    case(
-        b"asked for the highest number",
-        &[1, -2],
-        &[1, 2, 0],
-        i32::MAX,
-    );
-    case(b"tables ahead of the variable", &[1, -2, 2], &[1, 2, 0], 1);
-}
-
-fn short_rows() {
-    let mut bytes = [7u8; 1024];
-    let mut scratch = [7u8; 8200];
-    row(
-        b"1,024 bytes",
-        &[-1, 2],
-        &[1, 2, 0],
-        1,
-        &mut bytes,
-        &mut scratch,
-    );
-    row(
-        b"1,024 bytes, asked for 2",
-        &[-1, 2],
-        &[1, 2, 0],
-        2,
-        &mut bytes,
-        &mut scratch,
+    run_list(
+        Kind::Row,
+        b"asked for 0|1 -2|1 2 0|0|\
+          asked for -2|1 -2|1 2 0|-2|\
+          asked for an existential|1 -2|1 2 0|1|\
+          asked for an unbound variable|1 -2|1 2 0|3|\
+          asked for 1,025|1 -2|1 2 0|1025|\
+          asked for the lowest number|1 -2|1 2 0|-2147483648|\
+          asked for the highest number|1 -2|1 2 0|2147483647|\
+          tables ahead of the variable|1 -2 2|1 2 0|1|",
     );
 }
 
-fn short_scratch() {
-    let mut bytes = [7u8; 1025];
-    let mut scratch = [7u8; 8199];
-    row(
-        b"scratch 8,199",
-        &[-1, 2],
-        &[1, 2, 0],
-        1,
-        &mut bytes,
-        &mut scratch,
-    );
+// A row into the first `row_bytes` bytes of one buffer, with the first `scratch_bytes` of the other as scratch.
+fn parted(
+    name: &[u8],
+    variable: i32,
+    bytes: &mut [u8],
+    row_bytes: usize,
+    scratch: &mut [u8],
+    scratch_bytes: usize,
+) {
+    if row_bytes <= bytes.len() {
+        if scratch_bytes <= scratch.len() {
+            row(
+                name,
+                &[-1, 2],
+                &[1, 2, 0, -1, -2, 0],
+                variable,
+                &mut bytes[0..row_bytes],
+                &mut scratch[0..scratch_bytes],
+            );
+        }
+    }
 }
 
-fn no_buffers() {
-    let mut bytes = [7u8; 0];
-    let mut scratch = [7u8; 0];
-    row(
-        b"no buffers",
-        &[-1, 2],
-        &[1, 2, 0],
-        1,
-        &mut bytes,
-        &mut scratch,
-    );
-}
-
-fn long_buffers() {
+fn lent(name: &[u8], variable: i32, row_bytes: usize, scratch_bytes: usize) {
     let mut bytes = [7u8; 1040];
     let mut scratch = [7u8; 9000];
-    row(
-        b"1,040 bytes, scratch 9,000",
-        &[-1, 2],
-        &[1, 2, 0, -1, -2, 0],
-        1,
+    parted(
+        name,
+        variable,
         &mut bytes,
+        row_bytes,
         &mut scratch,
+        scratch_bytes,
     );
+}
+
+fn buffers() {
+    lent(b"1,024 bytes", 1, 1_024, 8_200);
+    lent(b"1,024 bytes, asked for 2", 2, 1_024, 8_200);
+    lent(b"scratch 8,199", 1, 1_025, 8_199);
+    lent(b"no buffers", 1, 0, 0);
+    lent(b"1,040 bytes, scratch 9,000", 1, 1_040, 9_000);
 }
 
 pub fn run() {
     lettered();
     paths();
     not_universal();
-    short_rows();
-    short_scratch();
-    no_buffers();
-    long_buffers();
+    buffers();
 }

@@ -1,9 +1,11 @@
 // The check of tables: each of its refusals with its place, and the bounds.
-use crate::show;
+use crate::list::Kind;
+use crate::list::run_list;
+use caselist::show;
 use formula::tables::TablesAnswer;
 use formula::tables::check_tables;
 
-fn case(name: &[u8], prefix: &[i32], clauses: &[i32]) {
+pub fn case(name: &[u8], prefix: &[i32], clauses: &[i32]) {
     show::name(b"tables", name);
     match check_tables(prefix, clauses) {
         TablesAnswer::Admitted {
@@ -39,15 +41,14 @@ pub fn number_words(table: &mut [i32]) {
 }
 
 fn admitted() {
-    case(b"nothing at all", &[], &[]);
-    case(b"the word 0 alone", &[], &[0]);
-    case(
-        b"the example",
-        &[1, -2, 3, 4],
-        &[2, 3, 0, -2, 4, 0, -4, 1, 0, -1, -3, 0],
+    run_list(
+        Kind::Tables,
+        b"nothing at all|||\
+          the word 0 alone||0|\
+          the example|1 -2 3 4|2 3 0 -2 4 0 -4 1 0 -1 -3 0|\
+          variable 1,024|1024|-1024 0|\
+          one literal in two clauses|1|1 0 1 0|",
     );
-    case(b"variable 1,024", &[1_024], &[-1_024, 0]);
-    case(b"one literal in two clauses", &[1], &[1, 0, 1, 0]);
 }
 
 // 1,025 words of which none is a variable: 2 comes ahead of 5.
@@ -74,27 +75,33 @@ fn clause_words() {
 }
 
 fn prefixes() {
-    case(b"prefix word 0", &[1, 0, 2], &[]);
-    case(b"prefix word 1,025", &[1, 1_025], &[]);
-    case(b"prefix word -1,025", &[-1_025], &[]);
-    case(b"lowest number in the prefix", &[1, i32::MIN], &[]);
-    case(b"bound twice", &[1, 2, -1], &[]);
-    case(b"bound twice ahead of 0", &[1, 1, 0], &[]);
-    case(b"prefix ahead of clauses", &[1, 0], &[5]);
+    run_list(
+        Kind::Tables,
+        b"prefix word 0|1 0 2||\
+          prefix word 1,025|1 1025||\
+          prefix word -1,025|-1025||\
+          lowest number in the prefix|1 -2147483648||\
+          bound twice|1 2 -1||\
+          bound twice ahead of 0|1 1 0||\
+          prefix ahead of clauses|1 0|5|",
+    );
 }
 
 fn clauses() {
-    case(b"clause word 1,025", &[1], &[1, 1_025, 0]);
-    case(b"clause word -1,025", &[1], &[-1_025, 0]);
-    case(b"lowest number in a clause", &[1], &[i32::MIN, 0]);
-    case(b"unbound", &[1], &[1, -2, 0]);
-    case(b"literal repeated", &[1, 2], &[1, 0, 1, 2, 1, 0]);
-    case(b"literal opposed", &[1, -2], &[2, 1, -2, 0]);
-    case(b"two oppositions", &[1, 2], &[1, 2, -2, -1, 0]);
-    case(b"repeated ahead of out of range", &[1], &[1, 1, 2_000, 0]);
-    case(b"out of range ahead of repeated", &[1], &[2_000, 1, 1, 0]);
-    case(b"last clause not closed", &[1, 2], &[1, 0, 2]);
-    case(b"unbound ahead of not closed", &[1], &[1, 2]);
+    run_list(
+        Kind::Tables,
+        b"clause word 1,025|1|1 1025 0|\
+          clause word -1,025|1|-1025 0|\
+          lowest number in a clause|1|-2147483648 0|\
+          unbound|1|1 -2 0|\
+          literal repeated|1 2|1 0 1 2 1 0|\
+          literal opposed|1 -2|2 1 -2 0|\
+          two oppositions|1 2|1 2 -2 -1 0|\
+          repeated ahead of out of range|1|1 1 2000 0|\
+          out of range ahead of repeated|1|2000 1 1 0|\
+          last clause not closed|1 2|1 0 2|\
+          unbound ahead of not closed|1|1 2|",
+    );
 }
 
 pub fn run() {

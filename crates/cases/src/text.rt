@@ -1,6 +1,8 @@
 // Reading: texts that are read, with the whole of both tables, and texts that are refused. The tables lent hold 7 before, so
 // that what was not cleared shows.
-use crate::show;
+use crate::list::Kind;
+use crate::list::run_list;
+use caselist::show;
 use formula::read::ReadAnswer;
 use formula::read::read_formula;
 
@@ -32,195 +34,220 @@ pub fn reading(text: &[u8], prefix: &mut [i32], clauses: &mut [i32]) {
     show::say(b"\n");
 }
 
-// A text read into tables of four and six words.
-fn case(name: &[u8], text: &[u8]) {
+// A text read into the first words of the two tables.
+fn parted(
+    name: &[u8],
+    text: &[u8],
+    prefix: &mut [i32],
+    prefix_words: usize,
+    clauses: &mut [i32],
+    clause_words: usize,
+) {
+    if prefix_words <= prefix.len() {
+        if clause_words <= clauses.len() {
+            show::name(b"text", name);
+            reading(
+                text,
+                &mut prefix[0..prefix_words],
+                &mut clauses[0..clause_words],
+            );
+        }
+    }
+}
+
+fn lent(name: &[u8], text: &[u8], prefix_words: usize, clause_words: usize) {
     let mut prefix = [7i32; 4];
     let mut clauses = [7i32; 6];
-    show::name(b"text", name);
-    reading(text, &mut prefix, &mut clauses);
+    parted(
+        name,
+        text,
+        &mut prefix,
+        prefix_words,
+        &mut clauses,
+        clause_words,
+    );
+}
+
+// A text read into tables of four and six words.
+pub fn case(name: &[u8], text: &[u8]) {
+    lent(name, text, 4, 6);
 }
 
 fn known() {
-    case(b"comma in a clause", b"p cnf 2 1\ne 1 2 0\n1,2 0\n");
-    case(b"clause over two lines", b"p cnf 2 1\ne 1 2 0\n1\n2 0\n");
-    case(b"1,024 variables in the header", b"p cnf 1024 0\n");
-    case(b"1,025 variables in the header", b"p cnf 1025 0\n");
-    case(b"no variables and no clauses", b"p cnf 0 0\n");
-    case(b"empty clause alone", b"p cnf 0 1\n0\n");
+    run_list(
+        Kind::Text,
+        b"comma in a clause|p cnf 2 1\ne 1 2 0\n1,2 0\n|\
+          clause over two lines|p cnf 2 1\ne 1 2 0\n1\n2 0\n|\
+          1,024 variables in the header|p cnf 1024 0\n|\
+          1,025 variables in the header|p cnf 1025 0\n|\
+          no variables and no clauses|p cnf 0 0\n|\
+          empty clause alone|p cnf 0 1\n0\n|",
+    );
 }
 
 fn headless() {
-    case(b"blanks only", b" \t\r\n");
-    case(b"comments only", b"c one\nc two");
-    case(b"no p", b"1 2 0\n");
-    case(b"not cnf", b"p dnf 1 1\n");
-    case(b"p glued to cnf", b"pcnf 1 1\n");
-    case(b"minus before V", b"p cnf -1 1\n");
-    case(b"minus zero as V", b"p cnf -0 1\n");
-    case(b"plus before C", b"p cnf 1 +1\n");
+    run_list(
+        Kind::Text,
+        b"blanks only| \t\r\n|\
+          comments only|c one\nc two|\
+          no p|1 2 0\n|\
+          not cnf|p dnf 1 1\n|\
+          p glued to cnf|pcnf 1 1\n|\
+          minus before V|p cnf -1 1\n|\
+          minus zero as V|p cnf -0 1\n|\
+          plus before C|p cnf 1 +1\n|",
+    );
 }
 
 fn header_numbers() {
-    case(b"C with a leading zero", b"p cnf 1 01\n");
-    case(b"V with a letter", b"p cnf 1x 0\n");
-    case(b"NUL glued to C", b"p cnf 1 1\0\n");
-    case(b"C missing", b"p cnf 1");
-    case(b"1,025 variables, then junk", b"p cnf 1025 x\n");
-    case(b"8,192 clauses promised", b"p cnf 1 8192\n");
-    case(b"8,193 clauses promised", b"p cnf 1 8193\n");
-    case(
-        b"V of 30 digits",
-        b"p cnf 100000000000000000000000000000 0\n",
+    run_list(
+        Kind::Text,
+        b"C with a leading zero|p cnf 1 01\n|\
+          V with a letter|p cnf 1x 0\n|\
+          NUL glued to C|p cnf 1 1\0\n|\
+          C missing|p cnf 1|\
+          1,025 variables, then junk|p cnf 1025 x\n|\
+          8,192 clauses promised|p cnf 1 8192\n|\
+          8,193 clauses promised|p cnf 1 8193\n|\
+          V of 30 digits|p cnf 100000000000000000000000000000 0\n|\
+          V 1 above 32 bits|p cnf 4294967297 0\n|\
+          C 1 above 64 bits|p cnf 1 18446744073709551617\n|",
     );
-    case(b"V 1 above 32 bits", b"p cnf 4294967297 0\n");
-    case(b"C 1 above 64 bits", b"p cnf 1 18446744073709551617\n");
 }
 
 fn blanks() {
-    case(b"header over lines", b"p\ncnf\n1\n0\n");
-    case(b"sets and clauses on the line of C", b"p cnf 1 1 e 1 0 1 0");
-    case(b"CRLF line ends", b"p cnf 1 1\r\ne 1 0\r\n1 0\r\n");
-    case(b"CR line ends", b"p cnf 1 1\re 1 0\r1 0");
-    case(b"tabs", b"\tp\tcnf  1\t1 e\t1 0 1\t0");
-    case(b"vertical tab is no blank", b"p cnf 0 0\x0b\n");
+    run_list(
+        Kind::Text,
+        b"header over lines|p\ncnf\n1\n0\n|\
+          sets and clauses on the line of C|p cnf 1 1 e 1 0 1 0|\
+          CRLF line ends|p cnf 1 1\r\ne 1 0\r\n1 0\r\n|\
+          CR line ends|p cnf 1 1\re 1 0\r1 0|\
+          tabs|\tp\tcnf  1\t1 e\t1 0 1\t0|\
+          vertical tab is no blank|p cnf 0 0\x0b\n|",
+    );
 }
 
 fn comments() {
-    case(b"comments before p", b"c\nc p cnf 9 9\ncnf\np cnf 0 0\n");
-    case(b"comment after empty lines", b"\n\nc x\np cnf 0 0\n");
-    case(b"comment holding a CR", b"c x\rp cnf 9 9\np cnf 0 0\n");
-    case(b"comment after a bare CR", b"\rc x\np cnf 0 0\n");
-    case(b"comment after a space", b" c x\np cnf 0 0\n");
-    case(b"comment inside the header", b"p cnf\nc x\n1 1\n");
-    case(b"comment after the header", b"p cnf 1 1\nc x\ne 1 0\n1 0\n");
-    case(
-        b"comment between clauses",
-        b"p cnf 1 2\ne 1 0\n1 0\nc x\n-1 0\n",
+    run_list(
+        Kind::Text,
+        b"comments before p|c\nc p cnf 9 9\ncnf\np cnf 0 0\n|\
+          comment after empty lines|\n\nc x\np cnf 0 0\n|\
+          comment holding a CR|c x\rp cnf 9 9\np cnf 0 0\n|\
+          comment after a bare CR|\rc x\np cnf 0 0\n|\
+          comment after a space| c x\np cnf 0 0\n|\
+          comment inside the header|p cnf\nc x\n1 1\n|\
+          comment after the header|p cnf 1 1\nc x\ne 1 0\n1 0\n|\
+          comment between clauses|p cnf 1 2\ne 1 0\n1 0\nc x\n-1 0\n|",
     );
 }
 
 fn sets() {
-    case(
-        b"neighbouring sets, universal last",
-        b"p cnf 4 0\na 1 0\na 2 0\ne 3 0\na 4 0\n",
+    run_list(
+        Kind::Text,
+        b"neighbouring sets, universal last|p cnf 4 0\na 1 0\na 2 0\ne 3 0\na 4 0\n|\
+          empty set|p cnf 1 1\ne 0\n0\n|\
+          letter inside a set|p cnf 2 0\na 1 e 2 0\n|\
+          letter glued to a number|p cnf 2 1\na1 0\n0\n|\
+          set cut after its letter|p cnf 2 1\na|\
+          set cut after a variable|p cnf 2 1\na 1 2\n|\
+          set after the first clause|p cnf 2 2\ne 1 0\n1 0\ne 2 0\n2 0\n|\
+          second header|p cnf 1 1\np cnf 1 1\n|",
     );
-    case(b"empty set", b"p cnf 1 1\ne 0\n0\n");
-    case(b"letter inside a set", b"p cnf 2 0\na 1 e 2 0\n");
-    case(b"letter glued to a number", b"p cnf 2 1\na1 0\n0\n");
-    case(b"set cut after its letter", b"p cnf 2 1\na");
-    case(b"set cut after a variable", b"p cnf 2 1\na 1 2\n");
-    case(
-        b"set after the first clause",
-        b"p cnf 2 2\ne 1 0\n1 0\ne 2 0\n2 0\n",
-    );
-    case(b"second header", b"p cnf 1 1\np cnf 1 1\n");
 }
 
 fn set_numbers() {
-    case(b"negative in a set", b"p cnf 2 0\na 1 -2 0\n");
-    case(b"negative above V in a set", b"p cnf 2 0\na -9 0\n");
-    case(b"minus zero in a set", b"p cnf 2 0\na -0 0\n");
-    case(b"leading zero in a set", b"p cnf 2 0\na 01 0\n");
-    case(b"plus in a set", b"p cnf 2 0\na +1 0\n");
-    case(b"set variable above V", b"p cnf 2 0\na 1 3 0\n");
-    case(
-        b"set variable of 30 digits",
-        b"p cnf 2 0\na 100000000000000000000000000001 0\n",
+    run_list(
+        Kind::Text,
+        b"negative in a set|p cnf 2 0\na 1 -2 0\n|\
+          negative above V in a set|p cnf 2 0\na -9 0\n|\
+          minus zero in a set|p cnf 2 0\na -0 0\n|\
+          leading zero in a set|p cnf 2 0\na 01 0\n|\
+          plus in a set|p cnf 2 0\na +1 0\n|\
+          set variable above V|p cnf 2 0\na 1 3 0\n|\
+          set variable of 30 digits|p cnf 2 0\na 100000000000000000000000000001 0\n|\
+          bound twice in one set|p cnf 2 0\na 1 2 1 0\n|\
+          bound twice in two sets|p cnf 2 0\na 1 0\ne 2 1 0\n|",
     );
-    case(b"bound twice in one set", b"p cnf 2 0\na 1 2 1 0\n");
-    case(b"bound twice in two sets", b"p cnf 2 0\na 1 0\ne 2 1 0\n");
 }
 
 fn literals() {
-    case(b"literal above V", b"p cnf 1 1\ne 1 0\n2 0\n");
-    case(b"negative literal above V", b"p cnf 1 1\ne 1 0\n1 -2 0\n");
-    case(
-        b"literal of 30 digits",
-        b"p cnf 1 1\ne 1 0\n-100000000000000000000000000001 0\n",
-    );
-    case(
-        b"literal 1 above 32 bits",
-        b"p cnf 1 1\ne 1 0\n4294967297 0\n",
-    );
-    case(
-        b"lowest 32-bit number",
-        b"p cnf 1 1\ne 1 0\n-2147483648 0\n",
+    run_list(
+        Kind::Text,
+        b"literal above V|p cnf 1 1\ne 1 0\n2 0\n|\
+          negative literal above V|p cnf 1 1\ne 1 0\n1 -2 0\n|\
+          literal of 30 digits|p cnf 1 1\ne 1 0\n-100000000000000000000000000001 0\n|\
+          literal 1 above 32 bits|p cnf 1 1\ne 1 0\n4294967297 0\n|\
+          lowest 32-bit number|p cnf 1 1\ne 1 0\n-2147483648 0\n|",
     );
 }
 
 fn literal_tokens() {
-    case(b"minus zero for 0", b"p cnf 1 1\ne 1 0\n1 -0\n");
-    case(b"two zeros in one token", b"p cnf 1 1\ne 1 0\n1 00\n");
-    case(b"literal with a leading zero", b"p cnf 1 1\ne 1 0\n01 0\n");
-    case(b"two minuses", b"p cnf 1 1\ne 1 0\n--1 0\n");
-    case(b"letter in a clause", b"p cnf 1 1\ne 1 0\n1 e 0\n");
-    case(b"byte over 127", b"p cnf 1 1\ne 1 0\n1\xff 0\n");
+    run_list(
+        Kind::Text,
+        b"minus zero for 0|p cnf 1 1\ne 1 0\n1 -0\n|\
+          two zeros in one token|p cnf 1 1\ne 1 0\n1 00\n|\
+          literal with a leading zero|p cnf 1 1\ne 1 0\n01 0\n|\
+          two minuses|p cnf 1 1\ne 1 0\n--1 0\n|\
+          letter in a clause|p cnf 1 1\ne 1 0\n1 e 0\n|\
+          byte over 127|p cnf 1 1\ne 1 0\n1\xff 0\n|",
+    );
 }
 
 fn clauses() {
-    case(b"unbound", b"p cnf 2 1\ne 1 0\n1 -2 0\n");
-    case(b"unbound without sets", b"p cnf 1 1\n1 0\n");
-    case(b"literal repeated", b"p cnf 2 1\ne 1 2 0\n1 2 1 0\n");
-    case(b"literal opposed", b"p cnf 2 1\ne 1 2 0\n1 2 -1 0\n");
-    case(b"two oppositions", b"p cnf 2 1\ne 1 2 0\n1 2 -2 -1 0\n");
-    case(b"opposition over lines", b"p cnf 2 1\ne 1 2 0\n1\n-1 0\n");
-    case(
-        b"one literal in two clauses",
-        b"p cnf 1 2\ne 1 0\n1 0\n1 0\n",
+    run_list(
+        Kind::Text,
+        b"unbound|p cnf 2 1\ne 1 0\n1 -2 0\n|\
+          unbound without sets|p cnf 1 1\n1 0\n|\
+          literal repeated|p cnf 2 1\ne 1 2 0\n1 2 1 0\n|\
+          literal opposed|p cnf 2 1\ne 1 2 0\n1 2 -1 0\n|\
+          two oppositions|p cnf 2 1\ne 1 2 0\n1 2 -2 -1 0\n|\
+          opposition over lines|p cnf 2 1\ne 1 2 0\n1\n-1 0\n|\
+          one literal in two clauses|p cnf 1 2\ne 1 0\n1 0\n1 0\n|\
+          empty clauses|p cnf 0 2\n0 0\n|",
     );
-    case(b"empty clauses", b"p cnf 0 2\n0 0\n");
 }
 
 fn ends() {
-    case(b"clause not closed", b"p cnf 1 1\ne 1 0\n1\n");
-    case(b"clause not closed, one missing", b"p cnf 1 2\ne 1 0\n1");
-    case(b"fewer clauses than C", b"p cnf 1 2\ne 1 0\n1 0\n");
-    case(b"more clauses than C", b"p cnf 1 1\ne 1 0\n1 0\n1 0\n");
-    case(b"junk after clause C", b"p cnf 1 1\ne 1 0\n1 0\nx\n");
-    case(b"set after clause C", b"p cnf 2 1\ne 1 0\n1 0\ne 2 0\n");
-    case(b"C 0 and a clause", b"p cnf 1 0\ne 1 0\n1 0\n");
-    case(b"C 0 and an empty clause", b"p cnf 1 0\n0\n");
-    case(b"C 0 and junk", b"p cnf 1 0\nx\n");
-    case(b"C 0 and junk inside a set", b"p cnf 1 0\ne x\n");
+    run_list(
+        Kind::Text,
+        b"clause not closed|p cnf 1 1\ne 1 0\n1\n|\
+          clause not closed, one missing|p cnf 1 2\ne 1 0\n1|\
+          fewer clauses than C|p cnf 1 2\ne 1 0\n1 0\n|\
+          more clauses than C|p cnf 1 1\ne 1 0\n1 0\n1 0\n|\
+          junk after clause C|p cnf 1 1\ne 1 0\n1 0\nx\n|\
+          set after clause C|p cnf 2 1\ne 1 0\n1 0\ne 2 0\n|\
+          C 0 and a clause|p cnf 1 0\ne 1 0\n1 0\n|\
+          C 0 and an empty clause|p cnf 1 0\n0\n|\
+          C 0 and junk|p cnf 1 0\nx\n|\
+          C 0 and junk inside a set|p cnf 1 0\ne x\n|",
+    );
 }
 
 fn room() {
-    case(
-        b"fifth variable without room",
-        b"p cnf 5 0\ne 1 2 3 4 5 0\n",
-    );
-    case(b"above V ahead of no room", b"p cnf 4 0\ne 1 2 3 4 5 0\n");
-    case(
-        b"bound twice ahead of no room",
-        b"p cnf 5 0\ne 1 2 3 4 1 0\n",
-    );
-    case(b"six words in six", b"p cnf 3 2\ne 1 2 3 0\n1 2 0\n1 2 0\n");
-    case(
-        b"closing 0 without room",
-        b"p cnf 3 2\ne 1 2 3 0\n1 2 0\n1 2 3 0\n",
-    );
-    case(
-        b"literal without room",
-        b"p cnf 3 2\ne 1 2 3 0\n1 2 3 0\n1 2 3 0\n",
-    );
-    case(
-        b"clash ahead of no room",
-        b"p cnf 3 2\ne 1 2 3 0\n1 2 3 0\n1 2 1 0\n",
+    run_list(
+        Kind::Text,
+        b"fifth variable without room|p cnf 5 0\ne 1 2 3 4 5 0\n|\
+          above V ahead of no room|p cnf 4 0\ne 1 2 3 4 5 0\n|\
+          bound twice ahead of no room|p cnf 5 0\ne 1 2 3 4 1 0\n|\
+          six words in six|p cnf 3 2\ne 1 2 3 0\n1 2 0\n1 2 0\n|\
+          closing 0 without room|p cnf 3 2\ne 1 2 3 0\n1 2 0\n1 2 3 0\n|\
+          literal without room|p cnf 3 2\ne 1 2 3 0\n1 2 3 0\n1 2 3 0\n|\
+          clash ahead of no room|p cnf 3 2\ne 1 2 3 0\n1 2 3 0\n1 2 1 0\n|",
     );
 }
 
-// Tables of no words at all, and both tables whole after a refusal.
+// Tables of no words at all, and tables that are just long enough.
 fn tables() {
     let text = b"p cnf 1 1\ne 1 0\n1 0\n";
-    let mut none = [7i32; 0];
+    lent(b"no prefix table", text, 0, 2);
+    lent(b"no clause table", text, 1, 0);
+    lent(b"one word and two words", text, 1, 2);
+}
+
+// Both tables whole after a refusal.
+fn refused_tables() {
     let mut one = [7i32; 1];
     let mut two = [7i32; 2];
-    show::name(b"text", b"no prefix table");
-    reading(text, &mut none, &mut two);
-    show::name(b"text", b"no clause table");
-    reading(text, &mut one, &mut none);
-    show::name(b"text", b"one word and two words");
-    reading(text, &mut one, &mut two);
     show::name(b"text", b"one word and two words refused");
     reading(b"p cnf 1 1\ne 1 0\n1 1 0\n", &mut one, &mut two);
     show::say(b"text, the tables then:");
@@ -276,6 +303,7 @@ pub fn run() {
     ends();
     room();
     tables();
+    refused_tables();
     longest();
     cuts(b"c\np cnf 1 1\na 1 0\n-1 0\n");
 }

@@ -1,7 +1,9 @@
 // Writing: the text, read back; room to the byte; the tables' refusals. The text lent holds 7 before.
-use crate::show;
+use crate::list::Kind;
+use crate::list::run_list;
 use crate::tables;
 use crate::text;
+use caselist::show;
 use formula::read::ReadAnswer;
 use formula::read::read_formula;
 use formula::write::WriteAnswer;
@@ -35,34 +37,48 @@ fn writing(name: &[u8], prefix: &[i32], clauses: &[i32], text: &mut [u8]) {
     }
 }
 
-// Writing into 64 bytes.
-fn case(name: &[u8], prefix: &[i32], clauses: &[i32]) {
+// Writing into the first bytes of a text.
+fn parted(name: &[u8], prefix: &[i32], clauses: &[i32], text: &mut [u8], bytes: usize) {
+    if bytes <= text.len() {
+        writing(name, prefix, clauses, &mut text[0..bytes]);
+    }
+}
+
+fn lent(name: &[u8], prefix: &[i32], clauses: &[i32], bytes: usize) {
     let mut text = [7u8; 64];
-    writing(name, prefix, clauses, &mut text);
+    parted(name, prefix, clauses, &mut text, bytes);
+}
+
+// Writing into 64 bytes.
+pub fn case(name: &[u8], prefix: &[i32], clauses: &[i32]) {
+    lent(name, prefix, clauses, 64);
+}
+
+fn example(name: &[u8], bytes: usize) {
+    lent(
+        name,
+        &[1, -2, 3, 4],
+        &[2, 3, 0, -2, 4, 0, -4, 1, 0, -1, -3, 0],
+        bytes,
+    );
 }
 
 fn formulas() {
-    case(b"nothing at all", &[], &[]);
-    case(b"the word 0 alone", &[], &[0]);
-    case(
-        b"the example",
-        &[1, -2, 3, 4],
-        &[2, 3, 0, -2, 4, 0, -4, 1, 0, -1, -3, 0],
+    run_list(
+        Kind::Written,
+        b"nothing at all|||\
+          the word 0 alone||0|\
+          the example|1 -2 3 4|2 3 0 -2 4 0 -4 1 0 -1 -3 0|\
+          largest variable first|-17 -3|3 -17 0 0|\
+          tables refused|1|2 0|",
     );
-    case(b"largest variable first", &[-17, -3], &[3, -17, 0, 0]);
-    case(b"tables refused", &[1], &[2, 0]);
 }
 
 fn room() {
-    let prefix = [1, -2, 3, 4];
-    let clauses = [2, 3, 0, -2, 4, 0, -4, 1, 0, -1, -3, 0];
-    let mut exact = [7u8; 58];
-    let mut short = [7u8; 57];
-    let mut none = [7u8; 0];
-    writing(b"the example in 58 bytes", &prefix, &clauses, &mut exact);
-    writing(b"the example in 57 bytes", &prefix, &clauses, &mut short);
-    writing(b"nothing at all in no bytes", &[], &[], &mut none);
-    writing(b"tables refused ahead of room", &[1], &[2, 0], &mut none);
+    example(b"the example in 58 bytes", 58);
+    example(b"the example in 57 bytes", 57);
+    lent(b"nothing at all in no bytes", &[], &[], 0);
+    lent(b"tables refused ahead of room", &[1], &[2, 0], 0);
 }
 
 fn same_words(a: &[i32], b: &[i32]) -> bool {

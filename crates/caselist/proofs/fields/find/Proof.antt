@@ -1,25 +1,25 @@
--- `bytes_clear` goes through a buffer to its end or its first byte that is not 0. Assumes nothing.
-use Prim.Native.Nat.{_-_}
+-- `find` goes through the text to its end or the byte: the place rises from where it began. Assumes nothing.
+use Prim.Native.Nat.{_-_, _≤_}
 use native.Mathlib.Omega.{arith}
 use borrow.Author.Needs.{needs}
 use lib.ListN.{length}
-use Rattle.cases.proofs.show.bytes_clear.Statement.{statement}
-use Rattle.cases.proofs.show.bytes_clear.Tie as tie
+use Rattle.caselist.proofs.fields.find.Statement.{statement}
+use Rattle.caselist.proofs.fields.find.Tie as tie
 
 abbrev Inv-loop : tie.InvT-loop
-Inv-loop buffer from i₀ i = Unit {0}
+Inv-loop text byte from i₀ i = from ≤ i
 
 abbrev μ-loop : tie.MeasureT-loop
-μ-loop buffer from i₀ i = length buffer - i
+μ-loop text byte from i₀ i = length text - i
 
 loop-holds : tie.Need-loop-holds Inv-loop μ-loop
-loop-holds c = tt
+loop-holds c = omega arith
 
 shared-slice-read-if1 : tie.Need-shared-slice-read-if1 Inv-loop μ-loop
 shared-slice-read-if1 c = search needs
 
 returns : tie.Need-returns Inv-loop μ-loop
-returns c = tt
+returns c = omega arith
 
 add-i : tie.Need-add-i Inv-loop μ-loop
 add-i c = omega arith
@@ -28,13 +28,13 @@ loop-less : tie.Need-loop-less Inv-loop μ-loop
 loop-less c = omega arith
 
 loop-again : tie.Need-loop-again Inv-loop μ-loop
-loop-again c = tt
+loop-again c = omega arith
 
 returns-2 : tie.Need-returns-2 Inv-loop μ-loop
-returns-2 c = tt
+returns-2 c = omega arith
 
-pub bytes-clear-spec : {M : Type 1} → statement M
-bytes-clear-spec =
+pub find-spec : {M : Type 1} → statement M
+find-spec =
     tie.close
     (tie.spec
     Inv-loop

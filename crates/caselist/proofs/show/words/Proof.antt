@@ -3,8 +3,8 @@ use Prim.Native.Nat.{_-_}
 use native.Mathlib.Omega.{arith}
 use borrow.Author.Needs.{needs}
 use lib.ListN.{length}
-use Rattle.cases.proofs.show.words.Statement.{statement}
-use Rattle.cases.proofs.show.words.Tie as tie
+use Rattle.caselist.proofs.show.words.Statement.{statement}
+use Rattle.caselist.proofs.show.words.Tie as tie
 
 abbrev Inv-loop : tie.InvT-loop
 Inv-loop table i₀ i = Unit {0}

@@ -1,4 +1,5 @@
-// Printing: bytes, numbers, the words of a table, the dependents of a row, refusals; and whether a buffer was left clear.
+// Printing: bytes, numbers, the words of a table, the dependents of a row, refusals; and whether a buffer was left clear, that is
+// wholly 0.
 use formula::literal::Word;
 use formula::refusal::Refusal;
 
@@ -18,11 +19,22 @@ pub fn name(kind: &[u8], case: &[u8]) {
     say(b": ");
 }
 
-// A word of a table that was read or written, so within the bounds.
+// A word past every bound: the lowest and the highest number have names.
+fn large(w: i32) {
+    if w == i32::MIN {
+        say(b" lowest");
+    } else if w == i32::MAX {
+        say(b" highest");
+    } else {
+        say(b" ?");
+    }
+}
+
+// A word of a table.
 fn word(w: i32) {
     match Word::of(w) {
         Word::Zero => say(b" 0"),
-        Word::TooLarge => say(b" ?"),
+        Word::TooLarge => large(w),
         Word::Positive(v) => {
             say(b" ");
             number(v.0);
@@ -68,7 +80,7 @@ pub fn refused(r: Refusal) {
     number(r.place);
 }
 
-fn words_clear(table: &[i32]) -> bool {
+pub fn words_clear(table: &[i32]) -> bool {
     let mut i = 0;
     while i < table.len() {
         if table[i] != 0 {
@@ -79,8 +91,19 @@ fn words_clear(table: &[i32]) -> bool {
     true
 }
 
-fn bytes_clear(buffer: &[u8], from: usize) -> bool {
+pub fn bytes_clear(buffer: &[u8], from: usize) -> bool {
     let mut i = from;
+    while i < buffer.len() {
+        if buffer[i] != 0 {
+            return false;
+        }
+        i += 1;
+    }
+    true
+}
+
+pub fn numbers_clear(buffer: &[u32]) -> bool {
+    let mut i = 0;
     while i < buffer.len() {
         if buffer[i] != 0 {
             return false;

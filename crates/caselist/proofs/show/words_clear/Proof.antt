@@ -1,0 +1,52 @@
+-- `words_clear` goes through a table to its end or its first word that is not 0. Assumes nothing.
+use Prim.Native.Nat.{_-_}
+use native.Mathlib.Omega.{arith}
+use borrow.Author.Needs.{needs}
+use lib.ListN.{length}
+use Rattle.caselist.proofs.show.words_clear.Statement.{statement}
+use Rattle.caselist.proofs.show.words_clear.Tie as tie
+
+abbrev Inv-loop : tie.InvT-loop
+Inv-loop table i₀ i = Unit {0}
+
+abbrev μ-loop : tie.MeasureT-loop
+μ-loop table i₀ i = length table - i
+
+loop-holds : tie.Need-loop-holds Inv-loop μ-loop
+loop-holds c = tt
+
+mul-if1 : tie.Need-mul-if1 Inv-loop μ-loop
+mul-if1 c = search needs
+
+shared-slice-copy-out-if1 : tie.Need-shared-slice-copy-out-if1 Inv-loop μ-loop
+shared-slice-copy-out-if1 c = search needs
+
+returns : tie.Need-returns Inv-loop μ-loop
+returns c = tt
+
+add-i : tie.Need-add-i Inv-loop μ-loop
+add-i c = omega arith
+
+loop-less : tie.Need-loop-less Inv-loop μ-loop
+loop-less c = omega arith
+
+loop-again : tie.Need-loop-again Inv-loop μ-loop
+loop-again c = tt
+
+returns-2 : tie.Need-returns-2 Inv-loop μ-loop
+returns-2 c = tt
+
+pub words-clear-spec : {M : Type 1} → statement M
+words-clear-spec =
+    tie.close
+    (tie.spec
+    Inv-loop
+    μ-loop
+    loop-holds
+    mul-if1
+    shared-slice-copy-out-if1
+    returns
+    add-i
+    loop-less
+    loop-again
+    returns-2)
