@@ -11,7 +11,7 @@ use lib.Dec.{leb}
 use lib.IntN.{ℤ}
 use Rattle.formula.specs.Text.{Reading, read, refused}
 use Rattle.formula.specs.declared.read.ReadAnswer.{ReadAnswer}
-use Rattle.report.specs.Line.{fileBound, settled, used, held}
+use Rattle.report.specs.Line.{settled, used, held}
 use Rattle.report.specs.Check.{Room, proofLine, checkLine, LineChecked}
 use Rattle.report.specs.Dependents.{dependencyText, LinesPrinted}
 use Rattle.report.specs.Settled.{tablesRead, FormulaSettled}
@@ -42,14 +42,14 @@ module _ {formula proof line line′ : List ℕ} {answer : ℕ} {prefix′ claus
 
 -- What `dependency_lines` promises, lent as much of the programs' room as it uses: no steps and no starts.
 text-in-room :
-    (room : Room) (formula : List ℕ) → room .file ≡ fileBound → room .prefix ≡ 1024 → room .clauses ≡ 16384 → room .scratch ≡ 8200
+    (room : Room) (formula : List ℕ) → room .file ≡ programRoom .file → room .prefix ≡ programRoom .prefix → room .clauses ≡ programRoom .clauses → room .scratch ≡ programRoom .scratch
     → dependencyText room formula ≡ dependencyText programRoom formula
 unfolding dependencyText
 text-in-room room formula f p c s = rw (f, p, c, s)
 
 pub text-printed :
     {room : Room} {formula text text′ : List ℕ} {answer : ℕ} {prefix′ clauses′ : List ℤ} {scratch′ : List ℕ}
-    → room .file ≡ fileBound → room .prefix ≡ 1024 → room .clauses ≡ 16384 → room .scratch ≡ 8200
+    → room .file ≡ programRoom .file → room .prefix ≡ programRoom .prefix → room .clauses ≡ programRoom .clauses → room .scratch ≡ programRoom .scratch
     → LinesPrinted room formula text text′ answer prefix′ clauses′ scratch′ → ProgramText formula text text′ answer
 text-printed {room} {formula} f p c s printed =
     let same = text-in-room room formula f p c s in
@@ -64,8 +64,8 @@ text-printed {room} {formula} f p c s printed =
 
 -- What `settle_formula` answered says whether the formula is read.
 pub settled-tells :
-    {formula : List ℕ} {prefixRoom clauseRoom : ℕ} {prefix clauses : List ℤ} {answer found : ReadAnswer} → prefixRoom ≡ 1024 → clauseRoom ≡ 16384
-    → FormulaSettled fileBound formula prefixRoom clauseRoom prefix clauses answer → answer ≡ found
+    {formula : List ℕ} {prefixRoom clauseRoom : ℕ} {prefix clauses : List ℤ} {answer found : ReadAnswer} → prefixRoom ≡ programRoom .prefix → clauseRoom ≡ programRoom .clauses
+    → FormulaSettled (programRoom .file) formula prefixRoom clauseRoom prefix clauses answer → answer ≡ found
     → formulaRead programRoom formula ≡ isRead (tablesRead found prefix clauses)
 unfolding formulaRead
 settled-tells p c s e = rw (← p, ← c, ← e) (ap isRead (s .settles))
