@@ -7,8 +7,9 @@ use crate::numbered::start_of;
 use crate::numbered::table_of;
 use crate::result::Judgement;
 use crate::result::judge_reduct;
-use dependency::row::make_row;
+use dependency::row::universal_row;
 use formula::literal::Literal;
+use formula::literal::LiteralFit;
 use formula::literal::NumberFit;
 use formula::literal::Variable;
 use formula::literal::VariableFit;
@@ -45,8 +46,7 @@ fn reduce_on(
     requires { ⌜ Clean (now scratch) ⌝ ∗ ⌜ Admitted (now prefix) (now clauses) ⌝ ∗ ⌜ isUniversal (now prefix) (variable .0) ≡ true ⌝ ∗ ⌜ AllInRange (clauseAt (now words) from) ⌝ }
     ensures { λ r. ⌜ Answers (freeReason (scopeOf (now (prefix .entry)) (now (clauses .entry))) (variable .0) (literal .0) (clauseAt (now (words .entry)) from) (clauseAt (now (steps .entry)) list)) r (now (scratch .entry)) (now (scratch .exit)) ⌝ }
 {
-    let u = variable.0;
-    make_row(prefix, clauses, u, &mut scratch[..5_125]);
+    universal_row(prefix, clauses, variable, &mut scratch[..5_125]);
     if row_touches(words, from, &scratch[4_100..5_125]) {
         return Judgement::Wrong(Reason::Blocked);
     }
@@ -60,7 +60,43 @@ fn reduce_on(
     )
 }
 
-// The reduced word is a universal literal of the clause.
+// The reduced literal is a universal one of the clause.
+fn reduce_literal(
+    prefix: &[i32],
+    clauses: &[i32],
+    words: &[i32],
+    from: usize,
+    literal: Literal,
+    steps: &[i32],
+    list: usize,
+    scratch: &mut [u8],
+) -> Judgement
+    requires { ⌜ Ready (now prefix) (now scratch) ⌝ ∗ ⌜ Admitted (now prefix) (now clauses) ⌝ ∗ ⌜ AllInRange (clauseAt (now words) from) ⌝ }
+    ensures { λ r. ⌜ Answers (reducingReason (scopeOf (now (prefix .entry)) (now (clauses .entry))) (universalOf (kindsIn (now (scratch .entry))) (wordOf (literal .0))) (literal .0) (clauseAt (now (words .entry)) from) (clauseAt (now (steps .entry)) list)) r (now (scratch .entry)) (now (scratch .exit)) ⌝ }
+{
+    let a = literal.0;
+    match universal_of(a, &scratch[7_175..8_200]) {
+        VariableFit::Outside => Judgement::Wrong(Reason::WrongPivot),
+        VariableFit::Within(variable) => {
+            if has_word(words, from, a) {
+                return reduce_on(
+                    prefix,
+                    clauses,
+                    words,
+                    from,
+                    variable,
+                    literal,
+                    steps,
+                    list,
+                    scratch,
+                );
+            }
+            Judgement::Wrong(Reason::WrongPivot)
+        }
+    }
+}
+
+// The reduced word is a literal.
 fn reduce_fields(
     prefix: &[i32],
     clauses: &[i32],
@@ -73,24 +109,19 @@ fn reduce_fields(
     requires { ⌜ Ready (now prefix) (now scratch) ⌝ ∗ ⌜ Admitted (now prefix) (now clauses) ⌝ ∗ ⌜ at + 3 ≤ length (now steps) ⌝ ∗ ⌜ AllInRange (clauseAt (now words) from) ⌝ }
     ensures { λ r. ⌜ Answers (reducingReason (scopeOf (now (prefix .entry)) (now (clauses .entry))) (universalOf (kindsIn (now (scratch .entry))) (wordOf (getD (now (steps .entry)) (at + 2) (pos 0)))) (getD (now (steps .entry)) (at + 2) (pos 0)) (clauseAt (now (words .entry)) from) (clauseAt (now (steps .entry)) (at + 3))) r (now (scratch .entry)) (now (scratch .exit)) ⌝ }
 {
-    let a = steps[at + 2];
-    match universal_of(a, &scratch[7_175..8_200]) {
-        VariableFit::Outside => Judgement::Wrong(Reason::WrongPivot),
-        VariableFit::Within(variable) => {
-            if has_word(words, from, a) {
-                return reduce_on(
-                    prefix,
-                    clauses,
-                    words,
-                    from,
-                    variable,
-                    Literal(a),
-                    steps,
-                    at + 3,
-                    scratch,
-                );
-            }
-            Judgement::Wrong(Reason::WrongPivot)
+    match Literal::new(steps[at + 2]) {
+        LiteralFit::Outside => Judgement::Wrong(Reason::WrongPivot),
+        LiteralFit::Within(literal) => {
+            reduce_literal(
+                prefix,
+                clauses,
+                words,
+                from,
+                literal,
+                steps,
+                at + 3,
+                scratch,
+            )
         }
     }
 }

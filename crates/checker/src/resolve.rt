@@ -7,7 +7,6 @@ use crate::numbered::table_of;
 use crate::result::Judgement;
 use crate::result::judge_resolvent;
 use formula::literal::ClauseNumber;
-use formula::literal::Literal;
 use formula::literal::NumberFit;
 use formula::literal::Variable;
 use formula::literal::VariableFit;
@@ -40,7 +39,7 @@ fn resolve_on(
     requires { ⌜ now marks ≡ clean ⌝ ∗ ⌜ pivot .0 ≤ 1024 ⌝ ∗ ⌜ AllInRange (clauseAt (now left) from) ⌝ ∗ ⌜ AllInRange (clauseAt (now right) start) ⌝ }
     ensures { λ r. ⌜ JudgedClean (pivotReason (pos (pivot .0)) (clauseAt (now (left .entry)) from) (clauseAt (now (right .entry)) start) (clauseAt (now (steps .entry)) list)) r (now (marks .exit)) ⌝ }
 {
-    let literal = Literal(pivot.0 as i32);
+    let literal = pivot.literal();
     let e = literal.0;
     if has_word(left, from, e) {
         let opposite = literal.negated();

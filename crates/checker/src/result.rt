@@ -51,7 +51,7 @@ fn mark_both(
     requires { ⌜ length (now marks) ≡ 2050 ⌝ ∗ ⌜ pivot .0 ≤ 1024 ⌝ }
     ensures { λ r. ⌜ Marked (now (marks .entry)) (resolvent (pos (pivot .0)) (clauseAt (now (left .entry)) from) (clauseAt (now (right .entry)) start)) r (now (marks .exit)) ⌝ }
 {
-    let literal = Literal(pivot.0 as i32);
+    let literal = pivot.literal();
     let e = literal.0;
     let opposite = literal.negated();
     let f = opposite.0;
@@ -72,7 +72,7 @@ fn wipe_both(
     requires { ⌜ length (now marks) ≡ 2050 ⌝ ∗ ⌜ pivot .0 ≤ 1024 ⌝ }
     ensures { λ r. ⌜ Wiped (now (marks .entry)) (resolvent (pos (pivot .0)) (clauseAt (now (left .entry)) from) (clauseAt (now (right .entry)) start)) r (now (marks .exit)) ⌝ }
 {
-    let literal = Literal(pivot.0 as i32);
+    let literal = pivot.literal();
     let e = literal.0;
     let opposite = literal.negated();
     let f = opposite.0;

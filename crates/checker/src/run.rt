@@ -76,7 +76,7 @@ fn number_is_empty<'a>(
     requires { ⌜ place < length (now starts) ⌝ }
     ensures { λ r. ⌜ r ≡ isEmpty (storedAt inputs (now (clauses .entry)) (now (steps .entry)) (now (starts .entry)) place) ⌝ }
 {
-    let number = ClauseNumber(place + 1);
+    let number = ClauseNumber::at(place);
     let words = table_of(clauses, steps, inputs, number);
     let from = start_of(starts, number);
     clause_is_empty(words, from)
@@ -101,7 +101,7 @@ pub fn first_empty<'a>(
     let mut k = 0;
     while k < known {
         if number_is_empty(clauses, steps, starts, inputs, k) {
-            return Found::Clause(ClauseNumber(k + 1));
+            return Found::Clause(ClauseNumber::at(k));
         }
         k += 1;
     }

@@ -9,6 +9,8 @@ ghost use Rattle.dependency.specs.Row.{rowOf, isUniversal};
 ghost use Rattle.dependency.specs.Search.{bothReached, dependsByte, rowFrom};
 use crate::search::search;
 use formula::clear::clear_bytes;
+use formula::literal::Variable;
+use formula::literal::VariableFit;
 
 // 1 where both bytes are 2: each says that a search reached a literal.
 fn both_reached(one: u8, other: u8) -> u8
@@ -48,21 +50,27 @@ fn fill_row(work: &mut [u8])
 }
 
 // The row of a universal: the searches' bytes first, 0 at the end, then the row's 1,025.
+pub fn universal_row(prefix: &[i32], clauses: &[i32], variable: Variable, work: &mut [u8])
+    requires { ⌜ Admitted (now prefix) (now clauses) ⌝ }
+    requires { ⌜ isUniversal (now prefix) (variable .0) ≡ true ⌝ }
+    requires { ⌜ length (now work) ≡ 5125 ⌝ }
+    ensures { λ r. ⌜ now (work .exit) ≡ replicate 4100 0 ++ rowOf (formulaOf (now (prefix .entry)) (now (clauses .entry))) (variable .0) ⌝ }
+{
+    search(prefix, clauses, variable, true, &mut work[..2_050]);
+    search(prefix, clauses, variable, false, &mut work[2_050..4_100]);
+    fill_row(work);
+    clear_bytes(&mut work[..4_100], 0);
+}
+
+// The same for a universal given by its number.
 pub fn make_row(prefix: &[i32], clauses: &[i32], variable: usize, work: &mut [u8])
     requires { ⌜ Admitted (now prefix) (now clauses) ⌝ }
     requires { ⌜ isUniversal (now prefix) variable ≡ true ⌝ }
     requires { ⌜ length (now work) ≡ 5125 ⌝ }
     ensures { λ r. ⌜ now (work .exit) ≡ replicate 4100 0 ++ rowOf (formulaOf (now (prefix .entry)) (now (clauses .entry))) variable ⌝ }
 {
-    let positive = 2 * variable;
-    search(prefix, clauses, variable, positive, &mut work[..2_050]);
-    search(
-        prefix,
-        clauses,
-        variable,
-        positive + 1,
-        &mut work[2_050..4_100],
-    );
-    fill_row(work);
-    clear_bytes(&mut work[..4_100], 0);
+    let VariableFit::Within(u) = Variable::new(variable) else {
+        return;
+    };
+    universal_row(prefix, clauses, u, work);
 }

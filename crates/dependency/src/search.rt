@@ -1,7 +1,6 @@
 // A search for the paths from one literal of a universal: which literals may be passed, then passes until one changes nothing.
 ghost use mathlib.Core.Path.{_≡_};
-ghost use mathlib.Core.Bool.{Bool};
-ghost use Prim.Native.Nat.{_+_, _*_, _≤_};
+ghost use Prim.Native.Nat.{_≤_};
 ghost use lib.ListN.{length, drop};
 ghost use Rattle.formula.specs.Word.{wordOf};
 ghost use Rattle.formula.specs.Tables.{Admitted};
@@ -10,6 +9,7 @@ ghost use Rattle.dependency.specs.Marks.{slot};
 ghost use Rattle.dependency.specs.Search.{variableIn, rightOf, openWord, openWords, ones, Settled, Searched};
 use crate::pass::pass;
 use formula::clear::clear_bytes;
+use formula::literal::Variable;
 use formula::literal::Word;
 
 // How many literals may be passed and are not reached.
@@ -99,17 +99,28 @@ fn open_words(prefix: &[i32], from: usize, marks: &mut [u8])
     }
 }
 
-// The whole search from the literal whose byte stands at `source`, whatever the marks held.
-pub fn search(prefix: &[i32], clauses: &[i32], variable: usize, source: usize, marks: &mut [u8])
+// The byte of the literal of a variable with a sign.
+fn source_of(variable: Variable, positive: bool) -> usize
+    requires { ⌜ variable .0 ≤ 1024 ⌝ }
+    ensures { λ r. ⌜ r ≡ slot (variable .0) positive ⌝ }
+{
+    if positive {
+        return 2 * variable.0;
+    }
+    2 * variable.0 + 1
+}
+
+// The whole search from the literal of a universal with this sign, whatever the marks held.
+pub fn search(prefix: &[i32], clauses: &[i32], variable: Variable, positive: bool, marks: &mut [u8])
     requires { ⌜ Admitted (now prefix) (now clauses) ⌝ }
-    requires { ⌜ (1 ≤ variable) × (variable ≤ 1024) ⌝ }
-    requires { ⌜ source ≤ 2 * variable + 1 ⌝ }
+    requires { ⌜ (1 ≤ variable .0) × (variable .0 ≤ 1024) ⌝ }
     requires { ⌜ length (now marks) ≡ 2050 ⌝ }
-    ensures { λ r. ⌜ ((sign : Bool) → source ≡ slot variable sign → Searched (formulaOf (now (prefix .entry)) (now (clauses .entry))) variable sign (now (marks .exit))) ⌝ }
+    ensures { λ r. ⌜ Searched (formulaOf (now (prefix .entry)) (now (clauses .entry))) (variable .0) positive (now (marks .exit)) ⌝ }
 {
     clear_bytes(marks, 0);
-    let from = right_of(prefix, variable);
+    let from = right_of(prefix, variable.0);
     open_words(prefix, from, marks);
+    let source = source_of(variable, positive);
     marks[source] = 3;
     settle(clauses, marks);
 }

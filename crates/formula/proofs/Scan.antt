@@ -16,7 +16,7 @@ use lib.Seq.{drop-cons, drop-drop, getD-set-same, getD-set-other, getD-drop, tak
 use lib.Dec.{leb, eqb}
 use lib.IntN.{ℤ, pos, negsuc, negℤ, natAbs}
 use Rattle.qbf.specs.Connectives.{and-both, or-left, or-right}
-use Rattle.formula.specs.Bounds.{variableBound, inRange, matrixFit}
+use Rattle.formula.specs.Bounds.{variableBound, inRange}
 use Rattle.formula.specs.Word.{wordOf}
 use Rattle.formula.specs.Refusal.{refusal}
 use Rattle.formula.specs.Decode.Laws.{magnitude-same, magnitude-negated}
@@ -24,8 +24,6 @@ use Rattle.formula.specs.Tables.{isIn, zeros, prefixWord, prefixRefusal,
 use Rattle.formula.specs.Tables.Laws.{Kind, closing, large, signed, kind, zeros-cons, prefix-word-zero, prefix-word-large, prefix-word-variable, clause-word-zero, clause-word-large, clause-word-literal}
 use Rattle.formula.specs.Tables.Scan.{magnitudeOf, marked, Marks, variablesBefore, further, plainRun, clashFree, ClauseStep, checkOf, wordsRefusal}
 use Rattle.formula.specs.declared.refusal.Refusal.{Refusal}
-use Rattle.formula.specs.declared.bounds.MatrixLength.{MatrixLength}
-use Rattle.formula.specs.declared.bounds.MatrixFit.the-variants.{Within as MatrixWithin, Oversized as MatrixOversized}
 use Rattle.formula.specs.declared.tables.TablesAnswer.the-variants.{Admitted as TablesAdmitted, Refused as TablesRefused}
 use Rattle.formula.specs.declared.tables.Check.the-variants.{Passed, Refused}
 use Rattle.formula.specs.declared.tables.ClauseCheck.the-variants.{Closed, Refused as Stopped}
@@ -223,22 +221,20 @@ run-within known (w ∷ ws) = go (inRange (natAbs w) variableBound && known (nat
     go true h = omega arith
     go false h = omega arith
 
-pub run-range : (known : ℕ → Bool) (ws : List ℤ) (w : ℤ) → List·Memᴰ w (take (plainRun known ws) ws) → natAbs w ≤ variableBound
+pub run-range : (known : ℕ → Bool) (ws : List ℤ) (w : ℤ) → List·Memᴰ w (take (plainRun known ws) ws) → inRange (natAbs w) variableBound ≡ true
 unfolding plainRun
 run-range known [] w m = absurd (List·Memᴰ·not-nil (subst (λ (l : List ℤ). List·Memᴰ w l) (take-nil 0) m))
 run-range known (v ∷ ws) w m = go (inRange (natAbs v) variableBound && known (natAbs v)) refl m (λ k. run-range known ws w k)
   where
     side : (inRange (natAbs v) variableBound && known (natAbs v)) ≡ true → (w ≡ v) ⊎ List·Memᴰ w (take (plainRun known ws) ws)
-        → (List·Memᴰ w (take (plainRun known ws) ws) → natAbs w ≤ variableBound)
-        → natAbs w ≤ variableBound
-    side e (inl q) later =
-        let a = and-both (inRange (natAbs v) variableBound) (known (natAbs v)) e in
-        rw q (leb-true (natAbs v) variableBound (and-both (leb 1 (natAbs v)) (leb (natAbs v) variableBound) (a .0) .1))
+        → (List·Memᴰ w (take (plainRun known ws) ws) → inRange (natAbs w) variableBound ≡ true)
+        → inRange (natAbs w) variableBound ≡ true
+    side e (inl q) later = rw q (and-both (inRange (natAbs v) variableBound) (known (natAbs v)) e .0)
     side e (inr k) later = later k
 
     go : (b : Bool) → (inRange (natAbs v) variableBound && known (natAbs v)) ≡ b → List·Memᴰ w (take (further b (plainRun known ws)) (v ∷ ws))
-        → (List·Memᴰ w (take (plainRun known ws) ws) → natAbs w ≤ variableBound)
-        → natAbs w ≤ variableBound
+        → (List·Memᴰ w (take (plainRun known ws) ws) → inRange (natAbs w) variableBound ≡ true)
+        → inRange (natAbs w) variableBound ≡ true
     go true e k later = side e (List·Memᴰ·cases-cons k) later
     go false e k later = absurd (List·Memᴰ·not-nil k)
 
@@ -457,14 +453,6 @@ first-passes none b e = refl
 first-passes (some s) b e = let z : _≡_ {A = ℕ} 0 1 = cc in absurd (omega arith)
 
 -- The whole check: oversized, or the answer of the words.
-pub matrix-oversized : (b : Bool) (n : ℕ) → matrixFit b n ≡ MatrixOversized → b ≡ false
-matrix-oversized true n e = let z : _≡_ {A = ℕ} 0 1 = cc in absurd (omega arith)
-matrix-oversized false n e = refl
-
-pub matrix-within : (b : Bool) (n : ℕ) (m : MatrixLength) → matrixFit b n ≡ MatrixWithin m → b ≡ true
-matrix-within true n m e = refl
-matrix-within false n m e = let z : _≡_ {A = ℕ} 0 1 = cc in absurd (omega arith)
-
 pub sizes-refused : (p c : List ℤ) → sized p c ≡ false → tablesAnswer p c ≡ TablesRefused (refusal Oversized 0)
 unfolding tablesRefusal
 sizes-refused p c e = rw e

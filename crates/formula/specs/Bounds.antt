@@ -1,15 +1,23 @@
 -- The bounds of 01 ("Each bound belongs to what it bounds"), and what each refusing constructor answers.
+pub mod Laws
 use Prim.Native.Nat.{ℕ}
 use mathlib.Core.Bool.{Bool, true, false, _&&_}
 use lib.Dec.{leb}
+use lib.IntN.{ℤ}
 use Rattle.formula.specs.declared.bounds.TextFit.{TextFit}
 use Rattle.formula.specs.declared.bounds.TextFit.the-variants.{Within as TextWithin, Oversized as TextOversized}
 use Rattle.formula.specs.declared.bounds.MatrixFit.{MatrixFit}
 use Rattle.formula.specs.declared.bounds.MatrixFit.the-variants.{Within as MatrixWithin, Oversized as MatrixOversized}
 use Rattle.formula.specs.declared.bounds.ProofFit.{ProofFit}
 use Rattle.formula.specs.declared.bounds.ProofFit.the-variants.{Within as ProofWithin, Oversized as ProofOversized}
+use Rattle.formula.specs.declared.bounds.VariableCountFit.{VariableCountFit}
+use Rattle.formula.specs.declared.bounds.VariableCountFit.the-variants.{Within as VariablesWithin, Oversized as VariablesOversized}
+use Rattle.formula.specs.declared.bounds.ClauseCountFit.{ClauseCountFit}
+use Rattle.formula.specs.declared.bounds.ClauseCountFit.the-variants.{Within as ClausesWithin, Oversized as ClausesOversized}
 use Rattle.formula.specs.declared.literal.VariableFit.{VariableFit}
 use Rattle.formula.specs.declared.literal.VariableFit.the-variants.{Within as VariableWithin, Outside as VariableOutside}
+use Rattle.formula.specs.declared.literal.LiteralFit.{LiteralFit}
+use Rattle.formula.specs.declared.literal.LiteralFit.the-variants.{Within as LiteralWithin, Outside as LiteralOutside}
 use Rattle.formula.specs.declared.literal.NumberFit.{NumberFit}
 use Rattle.formula.specs.declared.literal.NumberFit.the-variants.{Within as NumberWithin, Outside as NumberOutside}
 
@@ -33,21 +41,34 @@ textBound = 1048576
 abbrev pub inRange : ℕ → ℕ → Bool
 inRange n last = leb 1 n && leb n last
 
-abbrev pub textFit : Bool → ℕ → TextFit
-textFit true n = TextWithin (record { 0 = n })
-textFit false n = TextOversized
+-- What a constructor answers: the value that it makes, or its refusal.
+unfoldable pub fit : {A : Type 0} → Bool → (made refused : A) → A
+fit true made refused = made
+fit false made refused = refused
 
-abbrev pub matrixFit : Bool → ℕ → MatrixFit
-matrixFit true n = MatrixWithin (record { 0 = n })
-matrixFit false n = MatrixOversized
+abbrev pub textFit : ℕ → TextFit
+textFit n = fit (leb n textBound) (TextWithin (record { 0 = n })) TextOversized
 
-abbrev pub proofFit : Bool → ℕ → ProofFit
-proofFit true n = ProofWithin (record { 0 = n })
-proofFit false n = ProofOversized
+abbrev pub matrixFit : ℕ → MatrixFit
+matrixFit n = fit (leb n matrixBound) (MatrixWithin (record { 0 = n })) MatrixOversized
+
+abbrev pub proofFit : ℕ → ProofFit
+proofFit n = fit (leb n proofBound) (ProofWithin (record { 0 = n })) ProofOversized
+
+abbrev pub variableCountFit : ℕ → VariableCountFit
+variableCountFit n = fit (leb n variableBound) (VariablesWithin (record { 0 = n })) VariablesOversized
+
+abbrev pub clauseCountFit : ℕ → ClauseCountFit
+clauseCountFit n = fit (leb n countBound) (ClausesWithin (record { 0 = n })) ClausesOversized
 
 abbrev pub variableFit : Bool → ℕ → VariableFit
 variableFit true n = VariableWithin (record { 0 = n })
 variableFit false n = VariableOutside
+
+-- A word as a literal: its variable's number is the word's magnitude.
+abbrev pub literalFit : Bool → ℤ → LiteralFit
+literalFit true w = LiteralWithin (record { 0 = w })
+literalFit false w = LiteralOutside
 
 abbrev pub numberFit : Bool → ℕ → NumberFit
 numberFit true n = NumberWithin (record { 0 = n })

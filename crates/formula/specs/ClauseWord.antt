@@ -4,13 +4,13 @@ use Prim.Native.Nat.{ℕ, zero, suc}
 use mathlib.Core.List.{List, [], _∷_}
 use lib.IntN.{ℤ, pos, negsuc}
 use Rattle.formula.specs.declared.words.ClauseWord.{ClauseWord}
-use Rattle.formula.specs.declared.words.ClauseWord.the-variants.{Literal, Close, End}
+use Rattle.formula.specs.declared.words.ClauseWord.the-variants.{Word, Close, End}
 
--- A word is a literal unless it is 0.
+-- A word that is not 0 belongs to a clause.
 unfoldable pub wordIs : ℤ → ClauseWord
 wordIs (pos zero) = Close
-wordIs (pos (suc n)) = Literal (record { 0 = pos (suc n) })
-wordIs (negsuc n) = Literal (record { 0 = negsuc n })
+wordIs (pos (suc n)) = Word (pos (suc n))
+wordIs (negsuc n) = Word (negsuc n)
 
 -- What stands at a place of the words.
 unfoldable pub wordAt : List ℤ → ℕ → ClauseWord

@@ -9,8 +9,7 @@ use lib.ListN.{length, getD, drop}
 use lib.Seq.{drop-nil}
 use lib.IntN.{ℤ, pos, negsuc}
 use Rattle.formula.specs.ClauseWord.{wordIs, wordAt, placeAfter, closeFrom}
-use Rattle.formula.specs.declared.literal.Literal as L
-use Rattle.formula.specs.declared.words.ClauseWord.the-variants.{Literal, Close, End}
+use Rattle.formula.specs.declared.words.ClauseWord.the-variants.{Word, Close, End}
 
 -- Past the last word.
 pub word-at-end : (ws : List ℤ) (at : ℕ) → length ws ≤ at → wordAt ws at ≡ End
@@ -26,11 +25,11 @@ word-at-word [] at h = absurd (not-suc-le-zero h)
 word-at-word (w ∷ ws) zero h = refl
 word-at-word (w ∷ ws) (suc at) h = word-at-word ws at (le-of-suc-le-suc h)
 
-pub word-is-literal : (w : ℤ) → (w ≡ pos 0 → ⊥) → wordIs w ≡ Literal (record { 0 = w })
+pub word-nonzero : (w : ℤ) → (w ≡ pos 0 → ⊥) → wordIs w ≡ Word w
 unfolding wordIs
-word-is-literal (pos zero) n = absurd (n refl)
-word-is-literal (pos (suc k)) n = refl
-word-is-literal (negsuc k) n = refl
+word-nonzero (pos zero) n = absurd (n refl)
+word-nonzero (pos (suc k)) n = refl
+word-nonzero (negsuc k) n = refl
 
 pub place-after-end : (ws : List ℤ) (at : ℕ) → length ws ≤ at → placeAfter ws at ≡ at
 unfolding placeAfter
@@ -44,20 +43,20 @@ place-after-word [] at h = absurd (not-suc-le-zero h)
 place-after-word (w ∷ ws) zero h = refl
 place-after-word (w ∷ ws) (suc at) h = ap suc (place-after-word ws at (le-of-suc-le-suc h))
 
--- Where a literal stands the clause goes on.
-pub literal-within : (ws : List ℤ) (at : ℕ) (l : L.Literal) → wordAt ws at ≡ Literal l → at < length ws
+-- Where a word other than 0 stands the clause goes on.
+pub word-within : (ws : List ℤ) (at : ℕ) (l : ℤ) → wordAt ws at ≡ Word l → at < length ws
 unfolding wordAt
-literal-within [] at l e = let z : _≡_ {A = ℕ} 0 1 = cc in absurd (omega arith)
-literal-within (w ∷ ws) zero l e = omega arith
-literal-within (w ∷ ws) (suc at) l e = omega (arith, literal-within ws at l e)
+word-within [] at l e = let z : _≡_ {A = ℕ} 0 1 = cc in absurd (omega arith)
+word-within (w ∷ ws) zero l e = omega arith
+word-within (w ∷ ws) (suc at) l e = omega (arith, word-within ws at l e)
 
-pub close-past-literal : (k : ℕ) (ws : List ℤ) (at : ℕ) (l : L.Literal) → wordAt ws at ≡ Literal l → closeFrom k (drop at ws) ≡ closeFrom (suc k) (drop (suc at) ws)
+pub close-past-word : (k : ℕ) (ws : List ℤ) (at : ℕ) (l : ℤ) → wordAt ws at ≡ Word l → closeFrom k (drop at ws) ≡ closeFrom (suc k) (drop (suc at) ws)
 unfolding wordAt wordIs closeFrom
-close-past-literal k [] at l e = let z : _≡_ {A = ℕ} 0 1 = cc in absurd (omega arith)
-close-past-literal k (pos zero ∷ ws) zero l e = let z : _≡_ {A = ℕ} 0 1 = cc in absurd (omega arith)
-close-past-literal k (pos (suc n) ∷ ws) zero l e = refl
-close-past-literal k (negsuc n ∷ ws) zero l e = refl
-close-past-literal k (w ∷ ws) (suc at) l e = close-past-literal k ws at l e
+close-past-word k [] at l e = let z : _≡_ {A = ℕ} 0 1 = cc in absurd (omega arith)
+close-past-word k (pos zero ∷ ws) zero l e = let z : _≡_ {A = ℕ} 0 1 = cc in absurd (omega arith)
+close-past-word k (pos (suc n) ∷ ws) zero l e = refl
+close-past-word k (negsuc n ∷ ws) zero l e = refl
+close-past-word k (w ∷ ws) (suc at) l e = close-past-word k ws at l e
 
 -- At a 0, and at the end of the words, it ends.
 pub close-at-zero : (k : ℕ) (ws : List ℤ) (at : ℕ) → wordAt ws at ≡ Close → closeFrom k (drop at ws) ≡ k

@@ -37,7 +37,7 @@ use Rattle.formula.specs.Text.{
   run,
   ending,
 }
-use Rattle.formula.specs.declared.refusal.Reason.the-variants.{Headless, Oversized, BadToken, Unfinished, Miscount}
+use Rattle.formula.specs.declared.refusal.Reason.the-variants.{Headless, BadToken, Unfinished, Miscount}
 use Rattle.formula.specs.declared.token.Token.{Token}
 use Rattle.formula.specs.declared.token.Token.the-variants.{Natural, Negative, Word}
 use Rattle.formula.specs.declared.token.Next.{Next}
@@ -73,21 +73,17 @@ unfoldable pub wordFound : (size w : ℕ) → Next → WordAnswer
 wordFound size w End = NoWord (refusal Headless size)
 wordFound size w (Found t place next) = wordOr (isWord w t) place next
 
--- A number of the header, within its bound.
-abbrev pub numberOr : Bool → (value next : ℕ) → NumberAnswer
-numberOr true value next = NoNumber (refusal Oversized 0)
-numberOr false value next = Number value next
-
-unfoldable pub numberFound : (size bound : ℕ) → Next → NumberAnswer
-numberFound size bound End = NoNumber (refusal Headless size)
-numberFound size bound (Found (Natural n) place next) = numberOr (ltb bound n) n next
-numberFound size bound (Found (Negative n) place next) = NoNumber (refusal Headless place)
-numberFound size bound (Found (Word w) place next) = NoNumber (refusal Headless place)
+-- A number of the header, however large.
+unfoldable pub numberFound : (size : ℕ) → Next → NumberAnswer
+numberFound size End = NoNumber (refusal Headless size)
+numberFound size (Found (Natural n) place next) = Number n next
+numberFound size (Found (Negative n) place next) = NoNumber (refusal Headless place)
+numberFound size (Found (Word w) place next) = NoNumber (refusal Headless place)
 
 -- The header, from the state s at the place `at` on.
 abbrev pub HeaderPost : List ℕ → State → ℕ → HeaderAnswer → Type 0
 HeaderPost text s at (Header v c next) =
-    ((prefixRoom clauseRoom : ℕ) → readingFrom prefixRoom clauseRoom text s at ≡ readingFrom prefixRoom clauseRoom text (betweenSets v c []) next) × (v ≤ variableBound) × (c ≤ countBound)
+    ((prefixRoom clauseRoom : ℕ) → readingFrom prefixRoom clauseRoom text s at ≡ readingFrom prefixRoom clauseRoom text (betweenSets (v .0) (c .0) []) next) × (v .0 ≤ variableBound) × (c .0 ≤ countBound)
 HeaderPost text s at (NoHeader r) = (prefixRoom clauseRoom : ℕ) → readingFrom prefixRoom clauseRoom text s at ≡ refused r
 
 -- The marks of the variables that the prefix words list: 1 for each, 0 for every other.

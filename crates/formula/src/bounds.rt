@@ -1,8 +1,7 @@
-// The bounds of 01 on lengths, each on the type it bounds, with a constructor that refuses: a value made by `new` is within
-// its bound. The bounds on variables and input clauses stand with their types, in literal.rt.
+// The bounds of 01 on lengths and counts, each on the type it bounds, with a constructor that refuses: a value made by `new`
+// is within its bound. The bound on a variable's number stands with its type, in literal.rt.
 ghost use mathlib.Core.Path.{_≡_};
-ghost use lib.Dec.{leb};
-ghost use Rattle.formula.specs.Bounds.{textBound, matrixBound, proofBound, textFit, matrixFit, proofFit};
+ghost use Rattle.formula.specs.Bounds.{textFit, matrixFit, proofFit, variableCountFit, clauseCountFit};
 
 // How many bytes a text has.
 pub struct TextLength(pub usize);
@@ -16,7 +15,7 @@ impl TextLength {
     pub const MAX: usize = 1_048_576;
 
     pub fn new(n: usize) -> TextFit
-        ensures { λ r. ⌜ r ≡ textFit (leb n textBound) n ⌝ }
+        ensures { λ r. ⌜ r ≡ textFit n ⌝ }
     {
         if n <= TextLength::MAX {
             TextFit::Within(TextLength(n))
@@ -38,7 +37,7 @@ impl MatrixLength {
     pub const MAX: usize = 65_536;
 
     pub fn new(n: usize) -> MatrixFit
-        ensures { λ r. ⌜ r ≡ matrixFit (leb n matrixBound) n ⌝ }
+        ensures { λ r. ⌜ r ≡ matrixFit n ⌝ }
     {
         if n <= MatrixLength::MAX {
             MatrixFit::Within(MatrixLength(n))
@@ -60,12 +59,56 @@ impl ProofLength {
     pub const MAX: usize = 1_048_576;
 
     pub fn new(n: usize) -> ProofFit
-        ensures { λ r. ⌜ r ≡ proofFit (leb n proofBound) n ⌝ }
+        ensures { λ r. ⌜ r ≡ proofFit n ⌝ }
     {
         if n <= ProofLength::MAX {
             ProofFit::Within(ProofLength(n))
         } else {
             ProofFit::Oversized
+        }
+    }
+}
+
+// How many variables a prefix lists, or a header announces.
+pub struct VariableCount(pub usize);
+
+pub enum VariableCountFit {
+    Within(VariableCount),
+    Oversized,
+}
+
+impl VariableCount {
+    pub const MAX: usize = 1_024;
+
+    pub fn new(n: usize) -> VariableCountFit
+        ensures { λ r. ⌜ r ≡ variableCountFit n ⌝ }
+    {
+        if n <= VariableCount::MAX {
+            VariableCountFit::Within(VariableCount(n))
+        } else {
+            VariableCountFit::Oversized
+        }
+    }
+}
+
+// How many input clauses a table holds, or a header announces.
+pub struct ClauseCount(pub usize);
+
+pub enum ClauseCountFit {
+    Within(ClauseCount),
+    Oversized,
+}
+
+impl ClauseCount {
+    pub const MAX: usize = 8_192;
+
+    pub fn new(n: usize) -> ClauseCountFit
+        ensures { λ r. ⌜ r ≡ clauseCountFit n ⌝ }
+    {
+        if n <= ClauseCount::MAX {
+            ClauseCountFit::Within(ClauseCount(n))
+        } else {
+            ClauseCountFit::Oversized
         }
     }
 }

@@ -1,6 +1,8 @@
 // The header of a formula's text: `p cnf V C`, the two numbers without minus and within their bounds.
-use crate::literal::ClauseNumber;
-use crate::literal::Variable;
+use crate::bounds::ClauseCount;
+use crate::bounds::ClauseCountFit;
+use crate::bounds::VariableCount;
+use crate::bounds::VariableCountFit;
 use crate::refusal::Reason;
 use crate::refusal::Refusal;
 use crate::token::CNF;
@@ -10,9 +12,11 @@ use crate::token::Token;
 use crate::token::first_token;
 use crate::token::next_token;
 ghost use mathlib.Core.Path.{_≡_};
+ghost use Prim.Native.Nat.{_≤_};
 ghost use lib.ListN.{length};
+ghost use Rattle.formula.specs.Bounds.{variableBound};
 ghost use Rattle.formula.specs.Token.{firstToken, nextToken};
-ghost use Rattle.formula.specs.Text.{wantsP, wantsV};
+ghost use Rattle.formula.specs.Text.{wantsP, wantsV, wantsC};
 ghost use Rattle.formula.specs.Stage.{wordFound, numberFound, HeaderPost};
 
 // The byte after a word that was looked for.
@@ -29,8 +33,8 @@ pub enum NumberAnswer {
 // V and C, and the byte after them.
 pub enum HeaderAnswer {
     Header {
-        variables: usize,
-        clauses: usize,
+        variables: VariableCount,
+        clauses: ClauseCount,
         next: usize,
     },
     Refused(Refusal),
@@ -65,8 +69,9 @@ fn header_word(text: &[u8], at: usize, word: usize) -> WordAnswer
     }
 }
 
-fn header_number(text: &[u8], at: usize, bound: usize) -> NumberAnswer
-    ensures { λ r. ⌜ r ≡ numberFound (length (now (text .entry))) bound (nextToken (now (text .entry)) at) ⌝ }
+// A number without minus, however large.
+fn header_number(text: &[u8], at: usize) -> NumberAnswer
+    ensures { λ r. ⌜ r ≡ numberFound (length (now (text .entry))) (nextToken (now (text .entry)) at) ⌝ }
 {
     match next_token(text, at) {
         Next::End => NumberAnswer::Refused(Refusal {
@@ -74,14 +79,7 @@ fn header_number(text: &[u8], at: usize, bound: usize) -> NumberAnswer
             place: text.len(),
         }),
         Next::Found { token, place, next } => match token {
-            Token::Natural(n) => if bound < n {
-                NumberAnswer::Refused(Refusal {
-                    reason: Reason::Oversized,
-                    place: 0,
-                })
-            } else {
-                NumberAnswer::Number { value: n, next }
-            },
+            Token::Natural(n) => NumberAnswer::Number { value: n, next },
             Token::Negative(_) => NumberAnswer::Refused(Refusal {
                 reason: Reason::Headless,
                 place,
@@ -94,26 +92,39 @@ fn header_number(text: &[u8], at: usize, bound: usize) -> NumberAnswer
     }
 }
 
+// C, from the byte after V on.
+fn header_clauses(text: &[u8], at: usize, variables: VariableCount) -> HeaderAnswer
+    requires { ⌜ variables .0 ≤ variableBound ⌝ }
+    ensures { λ r. ⌜ HeaderPost (now (text .entry)) (wantsC (variables .0)) at r ⌝ }
+{
+    match header_number(text, at) {
+        NumberAnswer::Refused(r) => HeaderAnswer::Refused(r),
+        NumberAnswer::Number { value, next } => match ClauseCount::new(value) {
+            ClauseCountFit::Oversized => HeaderAnswer::Refused(Refusal {
+                reason: Reason::Oversized,
+                place: 0,
+            }),
+            ClauseCountFit::Within(clauses) => HeaderAnswer::Header {
+                variables,
+                clauses,
+                next,
+            },
+        },
+    }
+}
+
 // V and C, from the byte after `cnf` on.
 fn header_numbers(text: &[u8], at: usize) -> HeaderAnswer
     ensures { λ r. ⌜ HeaderPost (now (text .entry)) wantsV at r ⌝ }
 {
-    match header_number(text, at, Variable::MAX) {
+    match header_number(text, at) {
         NumberAnswer::Refused(r) => HeaderAnswer::Refused(r),
-        NumberAnswer::Number { value, next } => match header_number(
-            text,
-            next,
-            ClauseNumber::MAX_INPUT,
-        ) {
-            NumberAnswer::Refused(r) => HeaderAnswer::Refused(r),
-            NumberAnswer::Number {
-                value: count,
-                next: after,
-            } => HeaderAnswer::Header {
-                variables: value,
-                clauses: count,
-                next: after,
-            },
+        NumberAnswer::Number { value, next } => match VariableCount::new(value) {
+            VariableCountFit::Oversized => HeaderAnswer::Refused(Refusal {
+                reason: Reason::Oversized,
+                place: 0,
+            }),
+            VariableCountFit::Within(variables) => header_clauses(text, next, variables),
         },
     }
 }

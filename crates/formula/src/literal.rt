@@ -1,8 +1,9 @@
-// Variables, literals and clause numbers: three types, so that a place that expects one never takes another.
+// Variables, literals and clause numbers: three types, so that a place that expects one never takes another. Each is made by
+// its constructors here and nowhere else.
 ghost use mathlib.Core.Path.{_≡_};
-ghost use Prim.Native.Nat.{_≤_};
-ghost use lib.IntN.{negℤ, natAbs};
-ghost use Rattle.formula.specs.Bounds.{variableBound, variableFit, numberFit, inRange};
+ghost use Prim.Native.Nat.{_+_, _^_, _<_, _≤_};
+ghost use lib.IntN.{pos, negℤ, natAbs};
+ghost use Rattle.formula.specs.Bounds.{variableBound, variableFit, literalFit, numberFit, inRange};
 ghost use Rattle.formula.specs.Word.{wordOf};
 
 // A variable's number, 1 to 1,024.
@@ -28,9 +29,17 @@ impl Variable {
             VariableFit::Outside
         }
     }
+
+    // The positive literal of a variable.
+    pub fn literal(self) -> Literal
+        requires { ⌜ self .0 ≤ variableBound ⌝ }
+        ensures { λ r. ⌜ r .0 ≡ pos (self .0) ⌝ }
+    {
+        Literal(self.0 as i32)
+    }
 }
 
-// A clause's number: 1 to C for the input clauses, of which there are at most 8,192; steps go on from C + 1.
+// A clause's number: 1 to C for the input clauses; steps go on from C + 1.
 pub struct ClauseNumber(pub usize);
 
 pub enum NumberFit {
@@ -39,8 +48,6 @@ pub enum NumberFit {
 }
 
 impl ClauseNumber {
-    pub const MAX_INPUT: usize = 8_192;
-
     // A number from 1 to `last`.
     pub fn new(n: usize, last: usize) -> NumberFit
         ensures { λ r. ⌜ r ≡ numberFit (inRange n last) n ⌝ }
@@ -54,12 +61,37 @@ impl ClauseNumber {
             NumberFit::Outside
         }
     }
+
+    // The number of the clause at a place, places counted from 0.
+    pub fn at(place: usize) -> ClauseNumber
+        requires { ⌜ place + 1 < 2 ^ 64 ⌝ }
+        ensures { λ r. ⌜ r .0 ≡ place + 1 ⌝ }
+    {
+        ClauseNumber(place + 1)
+    }
 }
 
 // A literal as a word: v for the variable v, −v for its negation.
 pub struct Literal(pub i32);
 
+pub enum LiteralFit {
+    Within(Literal),
+    Outside,
+}
+
 impl Literal {
+    // A word other than 0 whose magnitude is a variable's number.
+    pub fn new(word: i32) -> LiteralFit
+        ensures { λ r. ⌜ r ≡ literalFit (inRange (natAbs word) variableBound) word ⌝ }
+    {
+        match Word::of(word) {
+            Word::Zero => LiteralFit::Outside,
+            Word::TooLarge => LiteralFit::Outside,
+            Word::Positive(_) => LiteralFit::Within(Literal(word)),
+            Word::Negative(_) => LiteralFit::Within(Literal(word)),
+        }
+    }
+
     // The opposite. The lowest 32-bit number has none, so the range test comes first.
     pub fn negated(self) -> Literal
         requires { ⌜ natAbs (self .0) ≤ variableBound ⌝ }
@@ -78,6 +110,7 @@ pub enum Word {
 }
 
 impl Word {
+    // The range is tested first and as a whole: compiled, the constructor's own test is gone and no branch is on the sign.
     pub fn of(word: i32) -> Word
         ensures { λ r. ⌜ r ≡ wordOf word ⌝ }
     {
@@ -91,9 +124,15 @@ impl Word {
             return Word::TooLarge;
         }
         if 0 < word {
-            Word::Positive(Variable(word as usize))
+            match Variable::new(word as usize) {
+                VariableFit::Within(v) => Word::Positive(v),
+                VariableFit::Outside => Word::TooLarge,
+            }
         } else {
-            Word::Negative(Variable((-word) as usize))
+            match Variable::new((-word) as usize) {
+                VariableFit::Within(v) => Word::Negative(v),
+                VariableFit::Outside => Word::TooLarge,
+            }
         }
     }
 }

@@ -69,7 +69,7 @@ fn fill(text: &[u8], prefix: &mut [i32], clauses: &mut [i32]) -> ReadAnswer
                 variables,
                 clauses: count,
                 next,
-            } => fill_tables(text, next, variables, count, prefix, clauses),
+            } => fill_tables(text, next, variables.0, count.0, prefix, clauses),
         },
     }
 }

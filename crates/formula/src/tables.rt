@@ -1,20 +1,25 @@
 // The check of tables: sizes, prefix words, clause words, each word from the left by its own rules in order. A clause is
 // judged whole: first where its literals end, then the nested search for a clash among them, then the word they end at.
 // The 0 words are counted, then one pass over the words, beside that search: quadratic in a clause of at most 1,024 words.
+use crate::bounds::ClauseCount;
+use crate::bounds::ClauseCountFit;
 use crate::bounds::MatrixFit;
 use crate::bounds::MatrixLength;
-use crate::literal::ClauseNumber;
+use crate::bounds::VariableCount;
+use crate::bounds::VariableCountFit;
 use crate::literal::Literal;
+use crate::literal::LiteralFit;
 use crate::literal::Variable;
 use crate::literal::Word;
 use crate::refusal::Reason;
 use crate::refusal::Refusal;
 ghost use mathlib.Core.Path.{_≡_};
+ghost use mathlib.Core.Bool.{true};
 ghost use mathlib.Core.List.{[], List·Memᴰ};
 ghost use Prim.Native.Nat.{_+_, _≤_, _<_};
 ghost use lib.ListN.{length, drop};
 ghost use lib.IntN.{ℤ, natAbs};
-ghost use Rattle.formula.specs.Bounds.{variableBound};
+ghost use Rattle.formula.specs.Bounds.{variableBound, inRange};
 ghost use Rattle.formula.specs.Word.{wordOf};
 ghost use Rattle.formula.specs.Tables.{zeros, prefixRefusal, clausesRefusal, listedIn, tablesAnswer};
 ghost use Rattle.formula.specs.Tables.Scan.{magnitudeOf, marked, Marks, checkOf, plainRun, clashFree, ClauseStep, wordsRefusal};
@@ -121,12 +126,14 @@ fn literals_end(clauses: &[i32], from: usize, listed: &[u8]) -> usize
 
 // The place of the first literal of a clause that repeats or opposes an earlier one, or the clause's length.
 fn find_clash(clause: &[i32]) -> usize
-    requires { ⌜ ((w : ℤ) → List·Memᴰ w (now clause) → natAbs w ≤ variableBound) ⌝ }
+    requires { ⌜ ((w : ℤ) → List·Memᴰ w (now clause) → inRange (natAbs w) variableBound ≡ true) ⌝ }
     ensures { λ r. ⌜ r ≡ clashFree [] (now (clause .entry)) ⌝ }
 {
     let mut i = 0;
     'search: while i < clause.len() {
-        let literal = Literal(clause[i]);
+        let LiteralFit::Within(literal) = Literal::new(clause[i]) else {
+            return i;
+        };
         let opposite = literal.negated();
         let mut j = 0;
         while j < i {
@@ -212,21 +219,20 @@ pub fn check_tables(prefix: &[i32], clauses: &[i32]) -> TablesAnswer
         reason: Reason::Oversized,
         place: 0,
     };
-    if Variable::MAX < prefix.len() {
+    let VariableCountFit::Within(variables) = VariableCount::new(prefix.len()) else {
         return TablesAnswer::Refused(oversized);
-    }
+    };
     let MatrixFit::Within(_) = MatrixLength::new(clauses.len()) else {
         return TablesAnswer::Refused(oversized);
     };
-    let count = count_zeros(clauses);
-    if ClauseNumber::MAX_INPUT < count {
+    let ClauseCountFit::Within(count) = ClauseCount::new(count_zeros(clauses)) else {
         return TablesAnswer::Refused(oversized);
-    }
+    };
     match check_words(prefix, clauses) {
         Check::Refused(r) => TablesAnswer::Refused(r),
         Check::Passed => TablesAnswer::Admitted {
-            variables: prefix.len(),
-            clauses: count,
+            variables: variables.0,
+            clauses: count.0,
         },
     }
 }

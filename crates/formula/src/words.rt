@@ -1,14 +1,13 @@
 // Clause words one after the other: what stands at a place, the reader that holds the lent words with its place, and the end
 // of a clause. The reader's functions take it apart and leave the work to functions on slice and number. `clause_word` and
 // `clause_end` have plain parameters, for callers elsewhere.
-use crate::literal::Literal;
 ghost use mathlib.Core.Path.{_≡_};
 ghost use lib.ListN.{drop};
 ghost use Rattle.formula.specs.ClauseWord.{wordAt, placeAfter, closeFrom};
 
-// A literal, the 0 that closes a clause, or the end of the words.
+// A word other than 0, the 0 that closes a clause, or the end of the words.
 pub enum ClauseWord {
-    Literal(Literal),
+    Word(i32),
     Close,
     End,
 }
@@ -22,7 +21,7 @@ pub fn word_at(words: &[i32], at: usize) -> ClauseWord
         if word == 0 {
             ClauseWord::Close
         } else {
-            ClauseWord::Literal(Literal(word))
+            ClauseWord::Word(word)
         }
     } else {
         ClauseWord::End
@@ -88,7 +87,7 @@ pub fn clause_end(words: &[i32], from: usize) -> usize
     let mut at = from;
     loop {
         match clause_word(words, at) {
-            ClauseWord::Literal(_) => {
+            ClauseWord::Word(_) => {
                 at += 1;
             }
             ClauseWord::Close => {

@@ -13,7 +13,7 @@ use lib.IntN.{ℤ, pos, negsuc, natAbs}
 use Rattle.qbf.specs.Formula.{Distinct}
 use Rattle.dependency.specs.Row.{isUniversal}
 use Rattle.dependency.specs.Row.Universal.{universal-range}
-use Rattle.formula.specs.Bounds.{variableFit}
+use Rattle.formula.specs.Bounds.{variableFit, inRange}
 use Rattle.formula.specs.Word.{wordOf, positive, negative}
 use Rattle.formula.specs.Tables.{isIn, Admitted}
 use Rattle.formula.specs.Tables.Laws.{is-in-sound, absent-is-in, admitted-prefix-word, admitted-prefix-distinct}
@@ -149,6 +149,13 @@ module _ (prefix clauses : List ℤ) (a : Admitted prefix clauses) where
       go : (b : Bool) → leb (suc n) 1024 ≡ b → universalOf (kindsOf prefix) (negative b (suc n)) ≡ variableFit (isUniversal prefix (suc n)) (suc n)
       go true e = rw (universal-byte (suc n))
       go false e = rw (not-universal (suc n) (λ l u. let h = leb-false (suc n) 1024 e in omega arith))
+
+-- A word out of range is no universal literal.
+pub universal-outside : (kinds : List ℕ) (w : ℤ) → inRange (natAbs w) 1024 ≡ false → universalOf kinds (wordOf w) ≡ Outside
+unfolding wordOf
+universal-outside kinds (pos zero) h = refl
+universal-outside kinds (pos (suc n)) h = rw (rw (le-leb 1 (suc n) (omega arith)) at h)
+universal-outside kinds (negsuc n) h = rw (rw (le-leb 1 (suc n) (omega arith)) at h)
 
 -- A variable that was found is within its bound.
 first : VariableFit → ℕ

@@ -1,7 +1,6 @@
 -- The check of a proof from its parts: the scratch made ready, the conclusion, the tests before the steps. Assumes nothing.
 use Prim.Native.Nat.{ℕ, zero, suc, _+_, _-_, _≤_}
 use mathlib.Core.Path.{_≡_, refl, ap, sym, _∙_}
-use mathlib.Core.Bool.{Bool, true, false}
 use mathlib.Core.Option.{Option, none, some}
 use mathlib.Core.List.{List, _∷_, _++_, append-assoc}
 use native.Mathlib.Omega.{arith}
@@ -9,11 +8,8 @@ use native.Mathlib.Nat.{not-suc-le-zero, le-of-suc-le-suc}
 use lib.ListN.{length, take, drop, replicate, length-replicate, length-append, replicate-append-replicate}
 use lib.Seq.{take-at, drop-at}
 use lib.IntN.{ℤ}
-use Rattle.formula.specs.Bounds.{proofFit}
 use Rattle.formula.specs.Clear.{clearFrom}
 use Rattle.formula.specs.Refusal.{refusal}
-use Rattle.formula.specs.declared.bounds.ProofFit.the-variants.{Within, Oversized}
-use Rattle.formula.specs.declared.bounds.ProofLength.{ProofLength}
 use Rattle.formula.specs.declared.literal.ClauseNumber.{ClauseNumber}
 use Rattle.formula.specs.declared.refusal.Reason.the-variants.{NoConclusion}
 use Rattle.checker.specs.declared.run.Found.the-variants.{Clause, Nothing}
@@ -97,12 +93,3 @@ concluded-found inputs known all (some m) n l e = rw (← l) (ap (λ (k : Clause
 pub concluded-nothing : (inputs known : ℕ) (all : List Words) (o : Option ℕ) → length all ≡ known → Nothing ≡ foundOf o → Refused (refusal NoConclusion known) ≡ concluded inputs all o
 concluded-nothing inputs known all none l e = rw (← l)
 concluded-nothing inputs known all (some m) l e = let z : _≡_ {A = ℕ} 0 1 = cc in absurd (omega arith)
-
--- What the constructor of a proof's length says.
-pub proof-within : (b : Bool) (n : ℕ) (v : ProofLength) → Within v ≡ proofFit b n → b ≡ true
-proof-within true n v e = refl
-proof-within false n v e = let z : _≡_ {A = ℕ} 0 1 = cc in absurd (omega arith)
-
-pub proof-oversized : (b : Bool) (n : ℕ) → Oversized ≡ proofFit b n → b ≡ false
-proof-oversized true n e = let z : _≡_ {A = ℕ} 0 1 = cc in absurd (omega arith)
-proof-oversized false n e = refl

@@ -2,7 +2,7 @@
 -- Assumes nothing.
 use Prim.Native.Nat.{ℕ, zero, suc, _-_, _≤_}
 use mathlib.Core.Path.{_≡_, refl, ap}
-use mathlib.Core.Bool.{Bool, true, false}
+use mathlib.Core.Bool.{true, false}
 use mathlib.Core.List.{List, [], _∷_, _++_}
 use native.Mathlib.Nat.{le-of-suc-le-suc, not-suc-le-zero}
 use native.Mathlib.Omega.{arith}
@@ -10,15 +10,13 @@ use lib.ListN.{length, getD, take, replicate, length-replicate}
 use lib.Seq.{length-take-le}
 use lib.Dec.{leb}
 use lib.IntN.{ℤ, pos}
-use Rattle.formula.specs.Bounds.{variableBound, textBound, textFit}
+use Rattle.formula.specs.Bounds.{variableBound, textBound}
 use Rattle.formula.specs.Clear.{clearFrom}
 use Rattle.formula.specs.Refusal.{refusal}
 use Rattle.formula.specs.Tables.{isIn}
 use Rattle.formula.specs.Token.{firstToken}
 use Rattle.formula.specs.Text.{padded, refused, wantsP, reading, ReadPost}
 use Rattle.formula.specs.Stage.{readingFrom, Listed, FillPost}
-use Rattle.formula.specs.declared.bounds.TextLength.{TextLength}
-use Rattle.formula.specs.declared.bounds.TextFit.the-variants.{Within, Oversized}
 use Rattle.formula.specs.declared.refusal.Reason.the-variants.{Oversized as TooLong}
 use Rattle.formula.specs.declared.refusal.Refusal.{Refusal}
 use Rattle.formula.specs.declared.read.ReadAnswer.the-variants.{Read, Refused as Unread}
@@ -67,15 +65,6 @@ read-refused text prefix clauses prefix′ clauses′ r e f h =
       fillsPrefix = rw h (clear-padded (length prefix) 0 prefix′ (omega arith) e);
       fillsClauses = rw h (clear-padded (length clauses) 0 clauses′ (omega arith) f);
     }
-
--- A text's length, within its bound or not.
-pub text-oversized : (b : Bool) (n : ℕ) → textFit b n ≡ Oversized → b ≡ false
-text-oversized true n e = let z : _≡_ {A = ℕ} 0 1 = cc in absurd (omega arith)
-text-oversized false n e = refl
-
-pub text-within : (b : Bool) (n : ℕ) (l : TextLength) → textFit b n ≡ Within l → b ≡ true
-text-within true n l e = refl
-text-within false n l e = let z : _≡_ {A = ℕ} 0 1 = cc in absurd (omega arith)
 
 -- A text that is not too long is read from its first token on.
 pub reading-from : (text : List ℕ) (prefixRoom clauseRoom : ℕ) → leb (length text) textBound ≡ true → reading text prefixRoom clauseRoom ≡ readingFrom prefixRoom clauseRoom text wantsP (firstToken text)

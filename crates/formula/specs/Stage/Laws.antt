@@ -1,18 +1,17 @@
 -- Laws of the stages of reading: one token takes the state on; a word or a number of the header. Assumes nothing.
-use Prim.Native.Nat.{ℕ, _≤_}
+use Prim.Native.Nat.{ℕ, _≤_, _<_}
 use mathlib.Core.Path.{_≡_, refl, _∙_}
 use mathlib.Core.Bool.{Bool, true, false}
 use mathlib.Core.List.{List, [], _∷_}
-use borrow.Author.Tests.{ltb-false}
+use borrow.Author.Tests.{lt-ltb, le-ltb}
 use lib.ListN.{length}
-use lib.Dec.{ltb}
 use Rattle.formula.specs.Bounds.{variableBound, countBound}
 use Rattle.formula.specs.Refusal.{refusal}
 use Rattle.formula.specs.Token.{pWord, cnfWord, Placed, placed, nextToken}
 use Rattle.formula.specs.Token.Laws.{no-token, token-found}
 use Rattle.formula.specs.Text.{refused, State, wantsP, wantsCnf, wantsV, wantsC, betweenSets, stopped, isWord, headerWord, headerNumber, step, run, ending}
-use Rattle.formula.specs.Stage.{readingFrom, wordFound, wordOr, numberFound, numberOr, HeaderPost}
-use Rattle.formula.specs.declared.refusal.Reason.the-variants.{Headless}
+use Rattle.formula.specs.Stage.{readingFrom, wordFound, wordOr, numberFound, HeaderPost}
+use Rattle.formula.specs.declared.refusal.Reason.the-variants.{Headless, Oversized}
 use Rattle.formula.specs.declared.refusal.Refusal.{Refusal}
 use Rattle.formula.specs.declared.token.Token.{Token}
 use Rattle.formula.specs.declared.token.Token.the-variants.{Natural, Negative, Word}
@@ -58,7 +57,8 @@ module _ (prefixRoom clauseRoom : ℕ) (text : List ℕ) where
 
   abbrev pub NumberReads : State → ℕ → (ℕ → State) → ℕ → NumberAnswer → Type 0
   NumberReads s bound next at (Number v n) =
-      (readingFrom prefixRoom clauseRoom text s at ≡ readingFrom prefixRoom clauseRoom text (next v) n) × (v ≤ bound)
+      (v ≤ bound → readingFrom prefixRoom clauseRoom text s at ≡ readingFrom prefixRoom clauseRoom text (next v) n)
+      × (bound < v → readingFrom prefixRoom clauseRoom text s at ≡ refused (refusal Oversized 0))
   NumberReads s bound next at (NoNumber r) = readingFrom prefixRoom clauseRoom text s at ≡ refused r
 
   pub word-read : (s next : State) (w at : ℕ) → WantsWord s w next → WordReads s next at (wordFound (length text) w (nextToken text at))
@@ -73,17 +73,16 @@ module _ (prefixRoom clauseRoom : ℕ) (text : List ℕ) where
       go End e = from-end s at e ∙ W .ends
       go (Found t p n) e = test t p n e (isWord w t) refl
 
-  pub number-read : (s : State) (next : ℕ → State) (bound at : ℕ) → WantsNumber s bound next → NumberReads s bound next at (numberFound (length text) bound (nextToken text at))
+  pub number-read : (s : State) (next : ℕ → State) (bound at : ℕ) → WantsNumber s bound next → NumberReads s bound next at (numberFound (length text) (nextToken text at))
   unfolding numberFound
   number-read s next bound at W = go (nextToken text at) refl
     where
-      test : (v p n : ℕ) → nextToken text at ≡ Found (Natural v) p n → (b : Bool) → ltb bound v ≡ b → NumberReads s bound next at (numberOr b v n)
-      test v p n e true f = from-token s at (Natural v) p n e ∙ rw (W .steps (placed (Natural v) p), f) (from-stopped _ n)
-      test v p n e false f = (from-token s at (Natural v) p n e ∙ rw (W .steps (placed (Natural v) p), f), ltb-false bound v f)
-
-      go : (nx : Next) → nextToken text at ≡ nx → NumberReads s bound next at (numberFound (length text) bound nx)
+      go : (nx : Next) → nextToken text at ≡ nx → NumberReads s bound next at (numberFound (length text) nx)
       go End e = from-end s at e ∙ W .ends
-      go (Found (Natural v) p n) e = test v p n e (ltb bound v) refl
+      go (Found (Natural v) p n) e = (
+        (λ h. from-token s at (Natural v) p n e ∙ rw (W .steps (placed (Natural v) p), le-ltb bound v h)),
+        (λ h. from-token s at (Natural v) p n e ∙ rw (W .steps (placed (Natural v) p), lt-ltb bound v h) (from-stopped _ n)),
+      )
       go (Found (Negative v) p n) e = from-token s at (Negative v) p n e ∙ rw (W .steps (placed (Negative v) p)) (from-stopped _ n)
       go (Found (Word w) p n) e = from-token s at (Word w) p n e ∙ rw (W .steps (placed (Word w) p)) (from-stopped _ n)
 
@@ -96,11 +95,11 @@ module _ (prefixRoom clauseRoom : ℕ) (text : List ℕ) where
   unfolding step ending
   cnf-read at a e = rw e (word-read wantsCnf wantsV cnfWord at (record { steps = λ t. refl; ends = refl }))
 
-  pub v-read : (at : ℕ) (a : NumberAnswer) → a ≡ numberFound (length text) variableBound (nextToken text at) → NumberReads wantsV variableBound wantsC at a
+  pub v-read : (at : ℕ) (a : NumberAnswer) → a ≡ numberFound (length text) (nextToken text at) → NumberReads wantsV variableBound wantsC at a
   unfolding step ending
   v-read at a e = rw e (number-read wantsV wantsC variableBound at (record { steps = λ t. refl; ends = refl }))
 
-  pub c-read : (v at : ℕ) (a : NumberAnswer) → a ≡ numberFound (length text) countBound (nextToken text at) → NumberReads (wantsC v) countBound (λ c. betweenSets v c []) at a
+  pub c-read : (v at : ℕ) (a : NumberAnswer) → a ≡ numberFound (length text) (nextToken text at) → NumberReads (wantsC v) countBound (λ c. betweenSets v c []) at a
   unfolding step ending
   c-read v at a e =
       rw e (number-read (wantsC v) (λ c. betweenSets v c []) countBound at (record { steps = λ t. refl; ends = refl }))

@@ -1,12 +1,13 @@
 -- `check_trailer` answers by the first test that fails. Assumes nothing.
 use Prim.Native.Nat.{ℕ, _/_, _≤_, _<_}
-use mathlib.Core.Path.{_≡_, refl, ap, sym, _∙_}
-use mathlib.Core.Bool.{Bool, true, false}
+use mathlib.Core.Path.{_≡_, ap, sym, _∙_}
+use mathlib.Core.Bool.{true, false}
 use native.Mathlib.Omega.{arith}
 use borrow.Author.Needs.{needs}
 use lib.Dec.{leb}
 use mathlib.Core.List.{List}
 use Rattle.formula.specs.Bounds.{proofBound, proofFit}
+use Rattle.formula.specs.Bounds.Laws.{fit-made, fit-refused}
 use Rattle.formula.specs.declared.bounds.ProofLength.{ProofLength}
 use Rattle.formula.specs.declared.bounds.ProofFit.the-variants.{Within, Oversized}
 use Rattle.checker.specs.ProofFile.{hasTrailer, distance, clauseCount, stepCount}
@@ -16,19 +17,11 @@ use Rattle.checker.proofs.file.check_trailer.Statement.{statement}
 use Rattle.checker.proofs.file.check_trailer.Tie as tie
 
 -- What the constructor of a bounded length answers, on the words of a file.
-count-within : (file : List ℕ) (n : ℕ) (l : ProofLength) → n ≡ distance file → proofFit (leb (n / 4) proofBound) (n / 4) ≡ Within l → leb (stepCount file) proofBound ≡ true
-count-within file n l d e = ap (λ m. leb (m / 4) proofBound) (sym d) ∙ go (leb (n / 4) proofBound) e
-  where
-    go : (b : Bool) → proofFit b (n / 4) ≡ Within l → b ≡ true
-    go true e = refl
-    go false e = let z : _≡_ {A = ℕ} 0 1 = cc in absurd (omega arith)
+count-within : (file : List ℕ) (n : ℕ) (l : ProofLength) → n ≡ distance file → proofFit (n / 4) ≡ Within l → leb (stepCount file) proofBound ≡ true
+count-within file n l d e = ap (λ m. leb (m / 4) proofBound) (sym d) ∙ fit-made _ _ _ _ e (λ z. cc) .0
 
-count-oversized : (file : List ℕ) (n : ℕ) → n ≡ distance file → proofFit (leb (n / 4) proofBound) (n / 4) ≡ Oversized → leb (stepCount file) proofBound ≡ false
-count-oversized file n d e = ap (λ m. leb (m / 4) proofBound) (sym d) ∙ go (leb (n / 4) proofBound) e
-  where
-    go : (b : Bool) → proofFit b (n / 4) ≡ Oversized → b ≡ false
-    go true e = let z : _≡_ {A = ℕ} 0 1 = cc in absurd (omega arith)
-    go false e = refl
+count-oversized : (file : List ℕ) (n : ℕ) → n ≡ distance file → proofFit (n / 4) ≡ Oversized → leb (stepCount file) proofBound ≡ false
+count-oversized file n d e = ap (λ m. leb (m / 4) proofBound) (sym d) ∙ fit-refused _ _ _ _ e (λ z. cc)
 
 -- A trailer was found.
 trailed : (c : tie.Then1) → hasTrailer (c .before .before .before .args .file .now) ≡ true

@@ -10,13 +10,13 @@ use lib.ListN.{length}
 use Rattle.formula.specs.Tables.{zeros}
 use borrow.Author.Needs.{needs}
 use Rattle.checker.specs.Verdict.{sizedVerdict}
-use Rattle.checker.specs.Verdict.Parts.{proof-within, proof-oversized}
+use Rattle.formula.specs.Bounds.Laws.{fit-made, fit-refused}
 use Rattle.checker.proofs.proof.judge_sized.Statement.{statement}
 use Rattle.checker.proofs.proof.judge_sized.Tie as tie
 
 -- the step words are within their bound
 within-at : (c : tie.After-enum-told2) → leb (length (c .before .before .before .before .before .args .steps .now)) 1048576 ≡ true
-within-at c = proof-within _ (length (c .before .before .before .before .before .args .steps .now)) _ (sym (c .enum-told2 .given .1) ∙ c .before .before .new .ensures)
+within-at c = fit-made _ _ _ _ (sym (c .before .before .new .ensures) ∙ c .enum-told2 .given .1) (λ z. cc) .0
 
 new-requires : tie.Need-new-requires
 new-requires c κs = search needs
@@ -52,7 +52,7 @@ returns-3 : tie.Need-returns-3
 unfolding sizedVerdict
 returns-3 c =
     let start = c .before .before .before .before .before in
-    rw (proof-oversized (leb (length (start .args .steps .now)) 1048576) (length (start .args .steps .now)) (sym (c .enum-told .given .1) ∙ c .before .before .new .ensures))
+    rw (fit-refused _ _ _ _ (sym (c .before .before .new .ensures) ∙ c .enum-told .given .1) (λ z. cc))
 
 same-length : tie.Need-same-length
 same-length c = search needs

@@ -1,141 +1,51 @@
--- `reduce_fields` looks up the reduced word's kind and the word in the clause. Assumes nothing.
-use Prim.Native.Nat.{ℕ, _+_}
-use mathlib.Core.Path.{_≡_, refl, ap, sym, _∙_}
-use mathlib.Core.List.{List}
+-- `reduce_fields` makes the reduced word a literal; a word that is none is no universal one. Assumes nothing.
+use Prim.Native.Nat.{_+_}
+use mathlib.Core.Path.{_≡_, refl, sym, _∙_}
+use borrow.Author.Needs.{needs}
 use lib.ListN.{getD}
-use lib.IntN.{pos}
+use lib.IntN.{pos, natAbs}
 use mir.Syntax.{w32}
 use mir.Val.{toZ, ofZ}
-use Rattle.formula.specs.Word.{wordOf}
-use Rattle.formula.specs.declared.literal.VariableFit.the-variants.{Within}
-use borrow.Author.Needs.{needs}
-use Rattle.checker.specs.Words.{holds}
-use Rattle.checker.specs.Words.Places.{clauseAt}
-use Rattle.checker.specs.Kinds.{universalOf}
-use Rattle.checker.specs.Kinds.Laws.{universal-found}
+use Rattle.formula.specs.Bounds.{inRange}
+use Rattle.formula.specs.Bounds.Laws.{literal-made, literal-refused}
+use Rattle.checker.specs.Kinds.Laws.{universal-outside}
 use Rattle.checker.specs.Stepping.{kindsIn}
-use Rattle.checker.specs.Stepping.Laws.{ready-clean, ready-kinds}
 use Rattle.checker.proofs.Signed.{read-back}
 use Rattle.checker.proofs.reduce.reduce_fields.Statement.{statement}
 use Rattle.checker.proofs.reduce.reduce_fields.Tie as tie
 
--- what the reduced word was found to be, and whether the clause holds it
-fit-at : (c : tie.After-universal-of) → c .universal-of .result ≡ universalOf (kindsIn (c .before .before .before .before .before .args .scratch .now)) (wordOf (getD (c .before .before .before .before .before .args .steps .now) (c .before .before .before .before .before .args .at + 2) (pos 0)))
-fit-at c =
-    let start = c .before .before .before .before .before in
-    let word = getD (start .args .steps .now) (start .args .at + 2) (pos 0) in
-    let e : toZ w32 (ofZ w32 word) ≡ word = read-back word (c .before .before .before .a .given) in
-    rw e at (c .universal-of .ensures)
-
-held-at : (c : tie.After-has-word) → c .has-word .result ≡ holds (getD (c .before .before .before .before .before .before .before .before .before .args .steps .now) (c .before .before .before .before .before .before .before .before .before .args .at + 2) (pos 0)) (clauseAt (c .before .before .before .before .before .before .before .before .before .args .words .now) (c .before .before .before .before .before .before .before .before .before .args .from))
-held-at c =
-    let start = c .before .before .before .before .before .before .before .before .before in
-    let word = getD (start .args .steps .now) (start .args .at + 2) (pos 0) in
-    let e : toZ w32 (ofZ w32 word) ≡ word = read-back word (c .before .before .before .before .before .before .before .a .given) in
-    rw e at (c .has-word .ensures)
-
-add-a : tie.Need-add-a
-add-a c = search needs
-
-mul-a : tie.Need-mul-a
-mul-a c = search needs
-
-shared-slice-copy-out-a : tie.Need-shared-slice-copy-out-a
-shared-slice-copy-out-a c = search needs
-
-sub-universal-of : tie.Need-sub-universal-of
-sub-universal-of c = search needs
-
-part-universal-of-start : tie.Need-part-universal-of-start
-part-universal-of-start c = search needs
-
-part-universal-of-end : tie.Need-part-universal-of-end
-part-universal-of-end c = search needs
-
-universal-of-requires : tie.Need-universal-of-requires
-universal-of-requires c κs = search needs
-
-enum-told : tie.Need-enum-told
-enum-told c = search needs
-
-enum-known-variable : tie.Need-enum-known-variable
-enum-known-variable c = search needs
-
-has-word-requires : tie.Need-has-word-requires
-has-word-requires c κs = search needs
-
-add-reduce-on : tie.Need-add-reduce-on
-add-reduce-on c = search needs
-
-reduce-on-requires : tie.Need-reduce-on-requires
-reduce-on-requires c κs =
-    let found = c .before .before .before .before .before .before in
-    let start = found .before .before .before .before .before in
-    let word = getD (start .args .steps .now) (start .args .at + 2) (pos 0) in
-    let fit = sym (c .before .before .before .before .variable .given .1) ∙ fit-at found ∙ ap (λ (k : List ℕ). universalOf k (wordOf word)) (ready-kinds (start .args .prefix .now) (start .args .scratch .now) (start .pre .0)) in (
-      ready-clean (start .args .prefix .now) (start .args .scratch .now) (start .pre .0),
-      (
-        start .pre .1 .0,
-        (
-          universal-found (start .args .prefix .now) (start .args .clauses .now) (start .pre .1 .0) word (c .before .before .before .before .variable .given .0 .0) fit,
-          start .pre .1 .1 .1,
-        ),
-      ),
-    )
-
-same-length : tie.Need-same-length
-same-length c = search needs
+reduce-literal-requires : tie.Need-reduce-literal-requires
+reduce-literal-requires c κs = let start = c .before .before .before .before .before .before .before in (start .pre .0, (start .pre .1 .0, start .pre .1 .1 .1))
 
 returns : tie.Need-returns
 returns c =
-    let called = c .before .before in
-    let held = called .before .before .before in
-    let found = held .before .before .before .before in
-    let start = found .before .before .before .before .before in
+    let start = c .before .before .before .before .before in
     let word = getD (start .args .steps .now) (start .args .at + 2) (pos 0) in
-    let e : toZ w32 (ofZ w32 word) ≡ word = read-back word (found .before .before .before .a .given) in
-    let fit : Within (held .before .before .variable .given .0 .0) ≡ universalOf (kindsIn (start .args .scratch .now)) (wordOf word) = sym (held .before .before .variable .given .1) ∙ fit-at found in
-    rw (← fit, ← held-at held, called .before .before .if1 .taken) (rw e at (called .reduce-on .ensures))
-
-same-length-2 : tie.Need-same-length-2
-same-length-2 c = search needs
+    let e : toZ w32 (ofZ w32 word) ≡ word = read-back word (c .before .before .before .new-arg .given) in
+    let none = literal-refused (inRange (natAbs word) 1024) word (rw e at (sym (c .before .before .new .ensures)) ∙ c .enum-told .given .1) in
+    rw (universal-outside (kindsIn (start .args .scratch .now)) word none) (record { answer = refl; kept = refl })
 
 returns-2 : tie.Need-returns-2
 returns-2 c =
-    let fit = sym (c .enum-told .given .1) ∙ fit-at (c .before .before) in
-    rw (← fit) (record { answer = refl; kept = refl })
-
-same-length-3 : tie.Need-same-length-3
-same-length-3 c = search needs
-
-returns-3 : tie.Need-returns-3
-returns-3 c =
-    let held = c .before in
-    let found = held .before .before .before .before in
-    let start = found .before .before .before .before .before in
+    let start = c .before .before .before .before .before .before .before .before .before .before in
     let word = getD (start .args .steps .now) (start .args .at + 2) (pos 0) in
-    let fit : Within (held .before .before .variable .given .0 .0) ≡ universalOf (kindsIn (start .args .scratch .now)) (wordOf word) = sym (held .before .before .variable .given .1) ∙ fit-at found in
-    rw (← fit, ← held-at held, c .if1 .left) (record { answer = refl; kept = refl })
+    let e : toZ w32 (ofZ w32 word) ≡ word = read-back word (c .before .before .before .before .before .before .before .before .new-arg .given) in
+    let l = c .before .before .before .before .before .literal .given in
+    let same = literal-made (inRange (natAbs word) 1024) word (l .0 .0) (rw e at (sym (c .before .before .before .before .before .before .before .new .ensures)) ∙ l .1) .1 in
+    rw (← same) at (c .before .before .reduce-literal .ensures)
 
 pub reduce-fields-spec : {M : Type 1} → statement M
 reduce-fields-spec =
     tie.close
     (tie.spec
-    add-a
-    mul-a
-    shared-slice-copy-out-a
-    sub-universal-of
-    part-universal-of-start
-    part-universal-of-end
-    universal-of-requires
-    enum-told
-    enum-known-variable
-    has-word-requires
-    add-reduce-on
-    reduce-on-requires
-    same-length
+    (λ c. search needs)
+    (λ c. search needs)
+    (λ c. search needs)
+    (λ c κs. search needs)
+    (λ c. search needs)
+    (λ c. search needs)
+    (λ c. search needs)
+    reduce-literal-requires
     returns
-    same-length-2
-    returns-2
-    same-length-3
-    returns-3)
+    (λ c. search needs)
+    returns-2)

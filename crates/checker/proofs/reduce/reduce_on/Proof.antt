@@ -14,10 +14,10 @@ use Rattle.checker.proofs.reduce.reduce_on.Statement.{statement}
 use Rattle.checker.proofs.reduce.reduce_on.Tie as tie
 
 -- what follows the first part stays
-kept-at : (c : tie.After-make-row) → drop 5125 (c .make-row .last .1 .1 .1 .0 ++ drop 5125 (c .before .before .before .args .scratch .now)) ≡ drop 5125 (c .before .before .before .args .scratch .now)
+kept-at : (c : tie.After-universal-row) → drop 5125 (c .universal-row .last .1 .1 .1 .0 ++ drop 5125 (c .before .before .before .args .scratch .now)) ≡ drop 5125 (c .before .before .before .args .scratch .now)
 kept-at c =
     let start = c .before .before .before in
-    front-kept (c .make-row .last .1 .1 .1 .0) (start .args .scratch .now) 5125 (c .make-row .kept .1 .1 .1 .0 ∙ first-part (start .args .scratch .now) (start .pre .0))
+    front-kept (c .universal-row .last .1 .1 .1 .0) (start .args .scratch .now) 5125 (c .universal-row .kept .1 .1 .1 .0 ∙ first-part (start .args .scratch .now) (start .pre .0))
 
 -- the row touches the clause exactly when the clause is blocked
 blocked-at : (c : tie.After-row-touches) → c .row-touches .result ≡ blocked (scopeOf (c .before .before .before .before .before .before .before .before .args .prefix .now) (c .before .before .before .before .before .before .before .before .args .clauses .now)) (c .before .before .before .before .before .before .before .before .args .variable .0) (clauseAt (c .before .before .before .before .before .before .before .before .args .words .now) (c .before .before .before .before .before .before .before .before .args .from))
@@ -25,18 +25,18 @@ blocked-at c =
     let made = c .before .before .before .before .before in
     let start = made .before .before .before in
     let F = formulaOf (start .args .prefix .now) (start .args .clauses .now) in
-    let row : take 1025 (drop 4100 (made .make-row .last .1 .1 .1 .0 ++ drop 5125 (start .args .scratch .now))) ≡ rowOf F (start .args .variable .0) = row-in F (start .args .variable .0) (made .make-row .last .1 .1 .1 .0) (drop 5125 (start .args .scratch .now)) (made .make-row .ensures) in
+    let row : take 1025 (drop 4100 (made .universal-row .last .1 .1 .1 .0 ++ drop 5125 (start .args .scratch .now))) ≡ rowOf F (start .args .variable .0) = row-in F (start .args .variable .0) (made .universal-row .last .1 .1 .1 .0) (drop 5125 (start .args .scratch .now)) (made .universal-row .ensures) in
     (rw row at (c .row-touches .ensures))
     ∙ row-blocked (start .args .prefix .now) (start .args .clauses .now) (start .args .variable .0) (clauseAt (start .args .words .now) (start .args .from)) (start .pre .1 .1 .1)
 
-slice-relend-prefix-make-row : tie.Need-slice-relend-prefix-make-row
-slice-relend-prefix-make-row c = search needs
+slice-relend-prefix-universal-row : tie.Need-slice-relend-prefix-universal-row
+slice-relend-prefix-universal-row c = search needs
 
-slice-aggregate-make-row : tie.Need-slice-aggregate-make-row
-slice-aggregate-make-row c = sym (first-part (c .before .before .args .scratch .now) (c .before .before .pre .0))
+slice-aggregate-universal-row : tie.Need-slice-aggregate-universal-row
+slice-aggregate-universal-row c = sym (first-part (c .before .before .args .scratch .now) (c .before .before .pre .0))
 
-make-row-requires : tie.Need-make-row-requires
-make-row-requires c κs =
+universal-row-requires : tie.Need-universal-row-requires
+universal-row-requires c κs =
     let start = c .before .before in
     (start .pre .1 .0, (start .pre .1 .1 .0, first-part (start .args .scratch .now) (start .pre .0)))
 
@@ -83,7 +83,7 @@ returns-2 c =
     let touched = judged .before .before .before in
     let made = touched .before .before .before .before .before in
     let start = made .before .before .before in
-    let mid = made .make-row .last .1 .1 .1 .0 ++ drop 5125 (start .args .scratch .now) in
+    let mid = made .universal-row .last .1 .1 .1 .0 ++ drop 5125 (start .args .scratch .now) in
     let back = part-back mid (judged .judge-reduct .last .1 .1 .1 .1 .1 .0) 5125 2050 (judged .judge-reduct .ensures .wiped ∙ sym (ap (take 2050) (kept-at made) ∙ start .pre .0 .marks)) in
     rw (← blocked-at touched, judged .before .before .if1 .left) (record { answer = judged .judge-reduct .ensures .answer; kept = ap (drop 5125) back ∙ kept-at made })
 
@@ -91,9 +91,9 @@ pub reduce-on-spec : {M : Type 1} → statement M
 reduce-on-spec =
     tie.close
     (tie.spec
-    slice-relend-prefix-make-row
-    slice-aggregate-make-row
-    make-row-requires
+    slice-relend-prefix-universal-row
+    slice-aggregate-universal-row
+    universal-row-requires
     sub-row-touches
     part-row-touches-start
     part-row-touches-end

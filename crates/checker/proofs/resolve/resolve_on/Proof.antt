@@ -16,19 +16,18 @@ left-at : (c : tie.After-has-word) → c .has-word .result ≡ holds (pos (c .be
 left-at c =
     let start = c .before .before .before .before in
     let v : toZ w32 (start .args .pivot .0) ≡ pos (start .args .pivot .0) = pivot-word (start .args .pivot .0) (start .pre .1 .0) in
-    rw (v, v) at (c .has-word .ensures)
+    rw (c .before .before .literal .ensures, v) at (c .has-word .ensures)
 
 right-at : (c : tie.After-has-word2) → c .has-word2 .result ≡ holds (negℤ (pos (c .before .before .before .before .before .before .before .before .args .pivot .0))) (clauseAt (c .before .before .before .before .before .before .before .before .args .right .now) (c .before .before .before .before .before .before .before .before .args .start))
 right-at c =
     let start = c .before .before .before .before .before .before .before .before in
     let e = pos (start .args .pivot .0) in
-    let v : toZ w32 (start .args .pivot .0) ≡ e = pivot-word (start .args .pivot .0) (start .pre .1 .0) in
-    let n : c .before .before .negated .result .0 ≡ negℤ e = rw v at (c .before .before .negated .ensures) in
+    let n : c .before .before .negated .result .0 ≡ negℤ e = rw (c .before .before .before .before .before .before .literal .ensures) at (c .before .before .negated .ensures) in
     let f : toZ w32 (ofZ w32 (negℤ e)) ≡ negℤ e = toZ-ofZ (opposite-word-fits (start .args .pivot .0) (start .pre .1 .0)) in
     rw (n, f) at (c .has-word2 .ensures)
 
-cast-t13 : tie.Need-cast-t13
-cast-t13 c = search needs
+literal-requires : tie.Need-literal-requires
+literal-requires c κs = search needs
 
 has-word-requires : tie.Need-has-word-requires
 has-word-requires c κs = search needs
@@ -36,7 +35,7 @@ has-word-requires c κs = search needs
 negated-requires : tie.Need-negated-requires
 negated-requires c κs =
     let start = c .before .before .before .before .before in
-    rw (pivot-word (start .args .pivot .0) (start .pre .1 .0)) (start .pre .1 .0)
+    rw (c .before .before .before .literal .ensures) (start .pre .1 .0)
 
 has-word-requires-2 : tie.Need-has-word-requires-2
 has-word-requires-2 c κs = search needs
@@ -65,7 +64,7 @@ pub resolve-on-spec : {M : Type 1} → statement M
 resolve-on-spec =
     tie.close
     (tie.spec
-    cast-t13
+    literal-requires
     has-word-requires
     negated-requires
     has-word-requires-2

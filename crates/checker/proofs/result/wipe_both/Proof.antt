@@ -13,20 +13,8 @@ use Rattle.checker.proofs.Signed.{pivot-word, opposite-word-fits}
 use Rattle.checker.proofs.result.wipe_both.Statement.{statement}
 use Rattle.checker.proofs.result.wipe_both.Tie as tie
 
-cast-t13 : tie.Need-cast-t13
-cast-t13 c = search needs
-
 negated-requires : tie.Need-negated-requires
-negated-requires c κs = let start = c .before .before .before in rw (pivot-word (start .args .pivot .0) (start .pre .1)) (start .pre .1)
-
-wipe-requires : tie.Need-wipe-requires
-wipe-requires c κs = search needs
-
-wipe-requires-2 : tie.Need-wipe-requires-2
-wipe-requires-2 c κs = search needs
-
-same-length : tie.Need-same-length
-same-length c = search needs
+negated-requires c κs = let start = c .before .before .before in rw (c .before .literal .ensures) (start .pre .1)
 
 returns : tie.Need-returns
 returns c =
@@ -35,13 +23,14 @@ returns c =
     let second = c .before .before in
     let e = pos (start .args .pivot .0) in
     let v : toZ w32 (start .args .pivot .0) ≡ e = pivot-word (start .args .pivot .0) (start .pre .1) in
-    let n : first .before .before .before .negated .result .0 ≡ negℤ e = rw v at (first .before .before .before .negated .ensures) in
+    let l : c .before .before .before .before .before .before .before .before .before .before .before .literal .result .0 ≡ e = c .before .before .before .before .before .before .before .before .before .before .before .literal .ensures in
+    let n : first .before .before .before .negated .result .0 ≡ negℤ e = rw l at (first .before .before .before .negated .ensures) in
     let f : toZ w32 (ofZ w32 (negℤ e)) ≡ negℤ e = toZ-ofZ (opposite-word-fits (start .args .pivot .0) (start .pre .1)) in
-    let a : Wiped (start .args .marks .now) (without e (clauseAt (start .args .left .now) (start .args .from))) (first .wipe .result) (first .wipe .last .1 .1 .1 .0) = rw (v, v) at (first .wipe .ensures) in
+    let a : Wiped (start .args .marks .now) (without e (clauseAt (start .args .left .now) (start .args .from))) (first .wipe .result) (first .wipe .last .1 .1 .1 .0) = rw (l, v) at (first .wipe .ensures) in
     let b : Wiped (first .wipe .last .1 .1 .1 .0) (without (negℤ e) (clauseAt (start .args .right .now) (start .args .start))) (second .wipe2 .result) (second .wipe2 .last .1 .1 .1 .0) = rw (n, f) at (second .wipe2 .ensures) in
     both-wiped e _ _ _ _ _ _ _ a b
 
 pub wipe-both-spec : {M : Type 1} → statement M
 wipe-both-spec =
     tie.close
-    (tie.spec cast-t13 negated-requires wipe-requires wipe-requires-2 same-length returns)
+    (tie.spec (λ c κs. search needs) negated-requires (λ c κs. search needs) (λ c κs. search needs) (λ c. search needs) returns)

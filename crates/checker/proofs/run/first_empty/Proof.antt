@@ -1,9 +1,12 @@
 -- `first_empty`: the search from here on finds the same. Assumes nothing.
-use Prim.Native.Nat.{suc, _-_}
+use Prim.Native.Nat.{ℕ, suc, _-_}
 use mathlib.Core.Path.{_≡_, refl, ap, sym, _∙_}
 use native.Mathlib.Numerals.{add-one}
 use native.Mathlib.Omega.{arith}
+use mathlib.Core.Option.{some}
 use lib.ListN.{drop}
+use Rattle.formula.specs.declared.literal.ClauseNumber.{ClauseNumber}
+use Rattle.checker.specs.declared.run.Found.the-variants.{Clause}
 use Rattle.checker.specs.Verdict.{firstEmpty}
 use Rattle.checker.specs.Numbered.{stored}
 use Rattle.checker.specs.Running.{foundOf}
@@ -24,15 +27,19 @@ loop-holds c = refl
 number-is-empty-requires : tie.Need-number-is-empty-requires Inv-loop μ-loop
 number-is-empty-requires c κs = omega (arith, c .loop-test .taken, c .before .before .before .pre)
 
-add-t9 : tie.Need-add-t9 Inv-loop μ-loop
-add-t9 c = let h = c .before .before .loop-test .taken in let f = c .before .before .before .before .before .fits .known .fits in omega arith
+at-requires : tie.Need-at-requires Inv-loop μ-loop
+at-requires c κs = let h = c .before .before .loop-test .taken in let f = c .before .before .before .before .before .fits .known .fits in omega arith
+
+-- the clause of a number
+found-at : (n : ClauseNumber) (m : ℕ) → n .0 ≡ m → Clause n ≡ foundOf (some m)
+found-at n m e = ap (λ (k : ℕ). Clause (record { 0 = k })) e
 
 returns : tie.Need-returns Inv-loop μ-loop
 returns c =
-    let at = c .before .before .before in
+    let at = c .before .before .before .before in
     let start = at .before .before in
-    let e = empty-found (start .args .inputs) (start .args .clauses .now) (start .args .steps .now) (start .args .starts .now) (start .args .known) (at .loop .k) (c .before .before .loop-test .taken) (sym (c .before .number-is-empty .ensures) ∙ c .if1 .taken) in
-    rw (add-one (at .loop .k)) (ap foundOf (sym (at .loop .inv ∙ e)))
+    let e = empty-found (start .args .inputs) (start .args .clauses .now) (start .args .steps .now) (start .args .starts .now) (start .args .known) (at .loop .k) (c .before .before .before .loop-test .taken) (sym (c .before .before .number-is-empty .ensures) ∙ c .before .if1 .taken) in
+    found-at (c .at .result) _ (rw add-one at (c .at .ensures)) ∙ ap foundOf (sym (at .loop .inv ∙ e))
 
 add-k : tie.Need-add-k Inv-loop μ-loop
 add-k c = let h = c .before .before .loop-test .taken in let f = c .before .before .before .before .before .fits .known .fits in omega arith
@@ -54,4 +61,4 @@ returns-2 c =
 
 pub first-empty-spec : {M : Type 1} → statement M
 first-empty-spec =
-    tie.close (tie.spec Inv-loop μ-loop loop-holds number-is-empty-requires add-t9 returns add-k loop-less loop-again returns-2)
+    tie.close (tie.spec Inv-loop μ-loop loop-holds number-is-empty-requires at-requires returns add-k loop-less loop-again returns-2)

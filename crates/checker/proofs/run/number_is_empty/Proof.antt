@@ -10,27 +10,19 @@ use Rattle.checker.specs.Stepping.Laws.{stored-by-number}
 use Rattle.checker.proofs.run.number_is_empty.Statement.{statement}
 use Rattle.checker.proofs.run.number_is_empty.Tie as tie
 
-add-t9 : tie.Need-add-t9
-add-t9 c = search needs
-
-table-of-requires : tie.Need-table-of-requires
-table-of-requires c κs = search needs
-
-start-of-requires : tie.Need-start-of-requires
-start-of-requires c κs = search needs
-
-clause-is-empty-requires : tie.Need-clause-is-empty-requires
-clause-is-empty-requires c κs = search needs
-
 returns : tie.Need-returns
 returns c =
-    let start = c .before .before .before .before in
-    let n : start .args .place + 1 - 1 ≡ start .args .place = omega arith in
-    let stored = stored-by-number (start .args .inputs) (start .args .clauses .now) (start .args .steps .now) (start .args .starts .now) (start .args .place + 1) (omega arith) in
+    let start = c .before .before .before .before .before in
+    let n = start .args .place in
+    let number = c .before .before .before .at .ensures in
+    let table = rw number at (c .before .before .table-of .ensures) in
+    let first = rw number at (c .before .start-of .ensures) in
+    let place : n + 1 - 1 ≡ n = omega arith in
+    let stored = stored-by-number (start .args .inputs) (start .args .clauses .now) (start .args .steps .now) (start .args .starts .now) (n + 1) (omega arith) in
     c .clause-is-empty .ensures
-    ∙ ap isEmpty (ap₂ clauseAt (c .before .before .table-of .ensures) (c .before .start-of .ensures) ∙ sym stored ∙ ap (storedAt (start .args .inputs) (start .args .clauses .now) (start .args .steps .now) (start .args .starts .now)) n)
+    ∙ ap isEmpty (ap₂ clauseAt table first ∙ sym stored ∙ ap (storedAt (start .args .inputs) (start .args .clauses .now) (start .args .steps .now) (start .args .starts .now)) place)
 
 pub number-is-empty-spec : {M : Type 1} → statement M
 number-is-empty-spec =
     tie.close
-    (tie.spec add-t9 table-of-requires start-of-requires clause-is-empty-requires returns)
+    (tie.spec (λ c κs. search needs) (λ c κs. search needs) (λ c κs. search needs) (λ c κs. search needs) returns)

@@ -1,16 +1,13 @@
--- `make_row` searches twice, fills the row behind the two searches and clears their bytes. Assumes nothing.
+-- `make_row` makes its number a variable, which a universal of the prefix is. Assumes nothing.
 use Prim.Native.Nat.{ℕ, _≤_}
-use mathlib.Core.Path.{_≡_, refl, ap, sym, _∙_}
+use mathlib.Core.Path.{_≡_, ap, sym, _∙_}
 use native.Mathlib.Omega.{arith}
 use borrow.Author.Needs.{needs}
-use mathlib.Core.Bool.{true, false}
-use mathlib.Core.List.{List, _++_}
-use lib.ListN.{length, take, drop, length-append, length-drop}
-use lib.Seq.{length-take-le, drop-at}
-use Rattle.formula.specs.Decode.{formulaOf}
-use Rattle.dependency.specs.Row.{rowOf}
-use Rattle.dependency.specs.Search.{rowFrom}
-use Rattle.dependency.specs.Search.Rows.{row-from-searches, lent-twice, row-left}
+use borrow.Author.Tests.{le-leb}
+use Rattle.formula.specs.Bounds.{variableFit, inRange}
+use Rattle.formula.specs.declared.literal.Variable.{Variable}
+use Rattle.formula.specs.declared.literal.VariableFit.{VariableFit}
+use Rattle.formula.specs.declared.literal.VariableFit.the-variants.{Within, Outside}
 use Rattle.dependency.specs.Row.Universal.{universal-range}
 use Rattle.dependency.proofs.row.make_row.Statement.{statement}
 use Rattle.dependency.proofs.row.make_row.Tie as tie
@@ -18,125 +15,39 @@ use Rattle.dependency.proofs.row.make_row.Tie as tie
 range : (c : tie.Start) → (1 ≤ c .args .variable) × (c .args .variable ≤ 1024)
 range c = universal-range (c .args .prefix .now) (c .args .clauses .now) (c .pre .0) (c .args .variable) (c .pre .1 .0)
 
--- what the two searches leave
-abbrev first : (c : tie.After-search) → List ℕ
-first c = c .search .last .1 .1 .1 .1 .0
+-- a number in range is made a variable
+made : (n : ℕ) (f : VariableFit) → (1 ≤ n) × (n ≤ 1024) → variableFit (inRange n 1024) n ≡ f → Within (record { 0 = n }) ≡ f
+made n f r e = rw (le-leb 1 n (r .0), le-leb n 1024 (r .1)) at e
 
-abbrev second : (c : tie.After-search2) → List ℕ
-second c = c .search2 .last .1 .1 .1 .1 .0
+number-of : (n : ℕ) (u : Variable) → Within (record { 0 = n }) ≡ Within u → n ≡ u .0
+number-of n u e = let q : record { 0 = n } ≡ u = cc in ap (λ (v : Variable). v .0) q
 
-first-size : (c : tie.After-search) → length (first c) ≡ 2050
-first-size c = c .search .ensures true refl .size
-
-second-size : (c : tie.After-search2) → length (second c) ≡ 2050
-second-size c = c .search2 .ensures false refl .size
-
--- the bytes that the row is filled from
-abbrev both : (c : tie.After-search2) → List ℕ
-both c = first (c .before .before .before .before) ++ (second c ++ drop 2050 (drop 2050 (c .before .before .before .before .before .before .before .args .work .now)))
-
-both-size : (c : tie.After-search2) → length (both c) ≡ 5125
-both-size c =
-    let p = first-size (c .before .before .before .before) in
-    let n = second-size c in
-    let w = c .before .before .before .before .before .before .before .pre .1 .1 in
-    simp (length-append, length-drop) (omega arith)
-
-filled : (c : tie.After-fill-row) → c .fill-row .last .0 ≡ take 4100 (both (c .before .before .before .before)) ++ rowFrom (both (c .before .before .before .before)) 1025
-filled c =
-    let one = c .before .before .before .before .before .before .before .before in
-    rw (lent-twice (one .before .before .before .args .work .now) (first one) (second (c .before .before .before .before)) (first-size one)) at (c .fill-row .ensures)
-
-row-is :
-    (c : tie.After-search2)
-    → rowFrom (both c) 1025
-    ≡ rowOf (formulaOf (c .before .before .before .before .before .before .before .args .prefix .now) (c .before .before .before .before .before .before .before .args .clauses .now)) (c .before .before .before .before .before .before .before .args .variable)
-unfolding rowOf
-row-is c =
-    let one = c .before .before .before .before in
-    let a = one .before .before .before .args in
-    row-from-searches (formulaOf (a .prefix .now) (a .clauses .now)) (a .variable) (first one) (second c) (drop 2050 (drop 2050 (a .work .now))) (one .search .ensures true refl) (c .search2 .ensures false refl) 1025 (omega arith)
-
-filled-size : (c : tie.After-fill-row) → length (c .fill-row .last .0) ≡ 5125
-filled-size c = c .fill-row .kept .0 ∙ ap length (lent-twice (c .before .before .before .before .before .before .before .before .before .before .before .args .work .now) (first (c .before .before .before .before .before .before .before .before)) (second (c .before .before .before .before)) (first-size (c .before .before .before .before .before .before .before .before))) ∙ both-size (c .before .before .before .before)
-
-mul-positive : tie.Need-mul-positive
-mul-positive c = omega (arith, range (c .before))
-
-slice-relend-prefix-search : tie.Need-slice-relend-prefix-search
-slice-relend-prefix-search c = search needs
-
-slice-aggregate-search : tie.Need-slice-aggregate-search
-slice-aggregate-search c = sym (length-take-le 2050 (c .before .before .args .work .now) (omega arith))
-
-search-requires : tie.Need-search-requires
-search-requires c κs = (c .before .before .pre .0, (range (c .before .before), (omega arith, length-take-le 2050 (c .before .before .args .work .now) (omega arith))))
-
-add-search : tie.Need-add-search
-add-search c = omega (arith, range (c .before .before .before .before .before))
-
-sub-search : tie.Need-sub-search
-sub-search c = search needs
-
-part-search-start : tie.Need-part-search-start
-part-search-start c = search needs
-
-part-search-end : tie.Need-part-search-end
-part-search-end c = search needs
-
-search-requires-2 : tie.Need-search-requires-2
-search-requires-2 c κs =
-    let one = c .before .before .before in
-    let start = one .before .before .before in (
-      start .pre .0,
-      (
-        range start,
-        (
-          omega arith,
-          ap (λ (l : List ℕ). length (take 2050 l)) (drop-at (first one) (drop 2050 (start .args .work .now)) 2050 (first-size one))
-              ∙ length-take-le 2050 (drop 2050 (start .args .work .now)) (simp length-drop (omega arith)),
-        ),
-      ),
-    )
-
-fill-row-requires : tie.Need-fill-row-requires
-fill-row-requires c κs = search needs
-
-slice-relend-prefix-clear-bytes : tie.Need-slice-relend-prefix-clear-bytes
-slice-relend-prefix-clear-bytes c = search needs
-
-slice-aggregate-clear-bytes : tie.Need-slice-aggregate-clear-bytes
-slice-aggregate-clear-bytes c = sym (length-take-le 4100 (c .before .before .before .fill-row .last .0) (omega (arith, filled-size (c .before .before .before))))
-
-clear-bytes-requires : tie.Need-clear-bytes-requires
-clear-bytes-requires c κs = search needs
-
-same-length : tie.Need-same-length
-same-length c = search needs
+variable-at : (c : tie.After-known-told) → c .before .before .before .before .before .args .variable ≡ c .before .u .given .0 .0 .0
+variable-at c =
+    let start = c .before .before .before .before .before in
+    number-of (start .args .variable) _ (made (start .args .variable) _ (range start) (sym (c .before .before .before .new .ensures) ∙ c .before .u .given .1))
 
 returns : tie.Need-returns
 returns c =
-    let done = c .before .before .before .before .before .before in
-    let two = done .before .before .before .before in
-    let a = two .before .before .before .before .before .before .before .args in
-    row-left (formulaOf (a .prefix .now) (a .clauses .now)) (a .variable) (both two) (done .fill-row .last .0) (both-size two) (filled done) (row-is two) (c .before .before .clear-bytes .last .0) (c .before .before .clear-bytes .ensures)
+    let start = c .before .before .before .before in
+    let e = made (start .args .variable) Outside (range start) (sym (c .before .before .new .ensures) ∙ c .enum-told .given .1) in
+    let z : _≡_ {A = ℕ} 0 1 = cc in
+    absurd (omega arith)
+
+universal-row-requires : tie.Need-universal-row-requires
+universal-row-requires c κs = rw (← variable-at (c .before)) (c .before .before .before .before .before .before .pre)
+
+returns-2 : tie.Need-returns-2
+returns-2 c = rw (variable-at (c .before .before .before .before)) (c .before .before .universal-row .ensures)
 
 pub make-row-spec : {M : Type 1} → statement M
 make-row-spec =
     tie.close
     (tie.spec
-    mul-positive
-    slice-relend-prefix-search
-    slice-aggregate-search
-    search-requires
-    add-search
-    sub-search
-    part-search-start
-    part-search-end
-    search-requires-2
-    fill-row-requires
-    slice-relend-prefix-clear-bytes
-    slice-aggregate-clear-bytes
-    clear-bytes-requires
-    same-length
-    returns)
+    (λ c κs. search needs)
+    (λ c. search needs)
+    (λ c. search needs)
+    returns
+    universal-row-requires
+    (λ c. search needs)
+    returns-2)

@@ -1,28 +1,9 @@
 -- `header_number` answers by the next token. Assumes nothing.
 use mathlib.Core.Path.{sym, _∙_}
-use borrow.Author.Tests.{lt-ltb, le-ltb}
 use Rattle.formula.specs.Stage.{numberFound}
 use borrow.Author.Needs.{needs}
 use Rattle.formula.proofs.header.header_number.Statement.{statement}
 use Rattle.formula.proofs.header.header_number.Tie as tie
-
-next-token-requires : tie.Need-next-token-requires
-next-token-requires c κs = search needs
-
-enum-told : tie.Need-enum-told
-enum-told c = search needs
-
-enum-known-token : tie.Need-enum-known-token
-enum-known-token c = search needs
-
-enum-known-token-2 : tie.Need-enum-known-token-2
-enum-known-token-2 c = search needs
-
-enum-told-2 : tie.Need-enum-told-2
-enum-told-2 c = search needs
-
-enum-told-3 : tie.Need-enum-told-3
-enum-told-3 c = search needs
 
 returns : tie.Need-returns
 unfolding numberFound
@@ -30,32 +11,27 @@ returns c = rw (sym (c .before .before .next-token .ensures) ∙ c .enum-told .g
 
 returns-2 : tie.Need-returns-2
 unfolding numberFound
-returns-2 c = rw (sym (c .before .before .before .before .before .before .before .next-token .ensures) ∙ c .before .before .before .before .before .token .given .1, c .before .before .token2 .given .1) (simp (lt-ltb _ _ (c .if1 .taken)))
+returns-2 c = rw (sym (c .before .before .before .before .before .before .next-token .ensures) ∙ c .before .before .before .before .token .given .1, c .before .token2 .given .1)
 
 returns-3 : tie.Need-returns-3
 unfolding numberFound
-returns-3 c = rw (sym (c .before .before .before .before .before .before .before .next-token .ensures) ∙ c .before .before .before .before .before .token .given .1, c .before .before .token2 .given .1) (simp (le-ltb _ _ (c .if1 .left)))
+returns-3 c = rw (sym (c .before .before .before .before .before .next-token .ensures) ∙ c .before .before .before .token .given .1, c .enum-told2 .given .1)
 
 returns-4 : tie.Need-returns-4
 unfolding numberFound
-returns-4 c = rw (sym (c .before .before .before .before .before .next-token .ensures) ∙ c .before .before .before .token .given .1, c .enum-told2 .given .1)
-
-returns-5 : tie.Need-returns-5
-unfolding numberFound
-returns-5 c = rw (sym (c .before .before .before .before .before .next-token .ensures) ∙ c .before .before .before .token .given .1, c .enum-told3 .given .1)
+returns-4 c = rw (sym (c .before .before .before .before .before .next-token .ensures) ∙ c .before .before .before .token .given .1, c .enum-told3 .given .1)
 
 pub header-number-spec : {M : Type 1} → statement M
 header-number-spec =
     tie.close
     (tie.spec
-    next-token-requires
-    enum-told
-    enum-known-token
-    enum-known-token-2
-    enum-told-2
-    enum-told-3
+    (λ c κs. search needs)
+    (λ c. search needs)
+    (λ c. search needs)
+    (λ c. search needs)
+    (λ c. search needs)
+    (λ c. search needs)
     returns
     returns-2
     returns-3
-    returns-4
-    returns-5)
+    returns-4)

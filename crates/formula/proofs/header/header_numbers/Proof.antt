@@ -1,27 +1,20 @@
--- `header_numbers` reads V, then C. Assumes nothing.
+-- `header_numbers` reads V, within its bound, then C. Assumes nothing.
 use mathlib.Core.Path.{sym, _∙_}
-use Rattle.formula.specs.Stage.Laws.{v-read, c-read}
 use borrow.Author.Needs.{needs}
+use borrow.Author.Tests.{leb-true, leb-false}
+use Rattle.formula.specs.Bounds.{variableBound}
+use Rattle.formula.specs.Bounds.Laws.{fit-refused, variables-made}
+use Rattle.formula.specs.Text.{wantsV, wantsC}
+use Rattle.formula.specs.Stage.Laws.{v-read, header-before}
 use Rattle.formula.proofs.header.header_numbers.Statement.{statement}
 use Rattle.formula.proofs.header.header_numbers.Tie as tie
 
-header-number-requires : tie.Need-header-number-requires
-header-number-requires c κs = search needs
-
-enum-known-r : tie.Need-enum-known-r
-enum-known-r c = search needs
-
-enum-known-value : tie.Need-enum-known-value
-enum-known-value c = search needs
-
-header-number-requires-2 : tie.Need-header-number-requires-2
-header-number-requires-2 c κs = search needs
-
-enum-known-r-2 : tie.Need-enum-known-r-2
-enum-known-r-2 c = search needs
-
-enum-known-count : tie.Need-enum-known-count
-enum-known-count c = search needs
+header-clauses-requires : tie.Need-header-clauses-requires
+header-clauses-requires c κs =
+    let n = c .before .before .before .before .before .value .given in
+    let k = c .before .variables .given in
+    let made = variables-made (n .0 .0) (k .0 .0) (sym (c .before .before .before .new .ensures) ∙ k .1) in
+    rw (← made .1) (leb-true (n .0 .0) variableBound (made .0))
 
 returns : tie.Need-returns
 returns c =
@@ -30,30 +23,34 @@ returns c =
 
 returns-2 : tie.Need-returns-2
 returns-2 c =
-    let args = c .before .before .before .before .before .before .before .before .before .args in
-    let v = c .before .before .before .before .before .value .given in
-    λ rp rc.
-    v-read rp rc (args .text .now) (args .at) _ (sym (v .1) ∙ c .before .before .before .before .before .before .before .header-number .ensures) .0 ∙ c-read rp rc (args .text .now) (v .0 .0) (v .0 .1 .0) _ (sym (c .before .r2 .given .1) ∙ c .before .before .before .header-number2 .ensures)
+    let args = c .before .before .before .before .before .before .before .before .args in
+    let n = c .before .before .before .before .value .given in
+    let large = leb-false (n .0 .0) variableBound (fit-refused _ _ _ _ (sym (c .before .before .new .ensures) ∙ c .enum-told .given .1) (λ z. cc)) in
+    λ rp rc. v-read rp rc (args .text .now) (args .at) _ (sym (n .1) ∙ c .before .before .before .before .before .before .header-number .ensures) .1 large
 
 returns-3 : tie.Need-returns-3
 returns-3 c =
-    let args = c .before .before .before .before .before .before .before .before .before .args in
-    let v = c .before .before .before .before .before .value .given in
-    let e = sym (v .1) ∙ c .before .before .before .before .before .before .before .header-number .ensures in
-    let f = sym (c .before .count .given .1) ∙ c .before .before .before .header-number2 .ensures in
-    let text = args .text .now in
-    (λ rp rc. v-read rp rc text (args .at) _ e .0 ∙ c-read rp rc text (v .0 .0) (v .0 .1 .0) _ f .0, v-read 0 0 text (args .at) _ e .1, c-read 0 0 text (v .0 .0) (v .0 .1 .0) _ f .1)
+    let args = c .before .before .before .before .before .before .before .before .before .before .args in
+    let n = c .before .before .before .before .before .before .value .given in
+    let k = c .before .before .variables .given in
+    let made = variables-made (n .0 .0) (k .0 .0) (sym (c .before .before .before .before .new .ensures) ∙ k .1) in
+    let small = leb-true (n .0 .0) variableBound (made .0) in
+    header-before (args .text .now) wantsV (wantsC (k .0 .0 .0)) (args .at) (n .0 .1 .0)
+    (λ rp rc. rw (← made .1) (v-read rp rc (args .text .now) (args .at) _ (sym (n .1) ∙ c .before .before .before .before .before .before .before .before .header-number .ensures) .0 small))
+    (c .header-clauses .result)
+    (c .header-clauses .ensures)
 
 pub header-numbers-spec : {M : Type 1} → statement M
 header-numbers-spec =
     tie.close
     (tie.spec
-    header-number-requires
-    enum-known-r
-    enum-known-value
-    header-number-requires-2
-    enum-known-r-2
-    enum-known-count
+    (λ c κs. search needs)
+    (λ c. search needs)
+    (λ c. search needs)
+    (λ c κs. search needs)
+    (λ c. search needs)
+    (λ c. search needs)
+    header-clauses-requires
     returns
     returns-2
     returns-3)

@@ -1,7 +1,8 @@
 -- `fill` asks for the length, then reads the header and the rest. Assumes nothing.
 use mathlib.Core.Path.{sym, _∙_}
 use lib.ListN.{length}
-use Rattle.formula.specs.Stage.FillLaws.{text-oversized, text-within, reading-from, reading-long}
+use Rattle.formula.specs.Stage.FillLaws.{reading-from, reading-long}
+use Rattle.formula.specs.Bounds.Laws.{fit-made, fit-refused}
 use borrow.Author.Needs.{needs}
 use Rattle.formula.proofs.read.fill.Statement.{statement}
 use Rattle.formula.proofs.read.fill.Tie as tie
@@ -32,12 +33,12 @@ fill-tables-requires c κs =
 returns : tie.Need-returns
 returns c =
     let args = c .before .before .before .before .args in
-    reading-long (args .text .now) _ _ (text-oversized _ (length (args .text .now)) (sym (c .before .before .new .ensures) ∙ c .enum-told .given .1))
+    reading-long (args .text .now) _ _ (fit-refused _ _ _ _ (sym (c .before .before .new .ensures) ∙ c .enum-told .given .1) (λ z. cc))
 
 returns-2 : tie.Need-returns-2
 returns-2 c =
     let args = c .before .before .before .before .before .before .before .before .args in
-    let short = text-within _ (length (args .text .now)) _ (sym (c .before .before .before .before .before .before .new .ensures) ∙ c .before .before .before .before .enum-told2 .given .1) in
+    let short = fit-made _ _ _ _ (sym (c .before .before .before .before .before .before .new .ensures) ∙ c .before .before .before .before .enum-told2 .given .1) (λ z. cc) .0 in
     let post = rw (c .before .r .given .1) at (c .before .before .before .read-header .ensures) in
     reading-from (args .text .now) _ _ short ∙ post _ _
 
@@ -50,7 +51,7 @@ same-length-2 c = search needs
 returns-3 : tie.Need-returns-3
 returns-3 c =
     let args = c .before .before .before .before .before .before .before .before .before .before .before .before .before .args in
-    let short = text-within _ (length (args .text .now)) _ (sym (c .before .before .before .before .before .before .before .before .before .before .before .new .ensures) ∙ c .before .before .before .before .before .before .before .before .before .enum-told2 .given .1) in
+    let short = fit-made _ _ _ _ (sym (c .before .before .before .before .before .before .before .before .before .before .before .new .ensures) ∙ c .before .before .before .before .before .before .before .before .before .enum-told2 .given .1) (λ z. cc) .0 in
     let post = rw (c .before .before .before .before .before .before .variables .given .1) at (c .before .before .before .before .before .before .before .before .read-header .ensures) in
     rw (reading-from (args .text .now) (length (args .prefix .now)) (length (args .clauses .now)) short ∙ post .0 (length (args .prefix .now)) (length (args .clauses .now))) (c .before .before .fill-tables .ensures)
 

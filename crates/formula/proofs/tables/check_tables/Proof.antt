@@ -1,81 +1,59 @@
 -- `check_tables`: sizes first, then the words. Assumes nothing.
 use mathlib.Core.Path.{_≡_, sym, _∙_}
 use mathlib.Core.Bool.{true, false}
-use borrow.Author.Tests.{le-leb, lt-leb}
 use lib.ListN.{length}
 use lib.Dec.{leb}
 use Rattle.formula.specs.Bounds.{variableBound, matrixBound, countBound}
+use Rattle.formula.specs.Bounds.Laws.{fit-made, fit-refused, variables-made, clauses-made}
 use Rattle.formula.specs.Tables.{zeros, sized}
-use Rattle.formula.proofs.Scan.{matrix-oversized, matrix-within, sizes-refused, words-refused, words-admitted}
+use Rattle.formula.proofs.Scan.{sizes-refused, words-refused, words-admitted}
 use borrow.Author.Needs.{needs}
 use Rattle.formula.proofs.tables.check_tables.Statement.{statement}
 use Rattle.formula.proofs.tables.check_tables.Tie as tie
 
 returns : tie.Need-returns
 returns c =
-    let a = c .before .args in
-    sym (sizes-refused (a .prefix .now) (a .clauses .now) (rw (lt-leb (length (a .prefix .now)) variableBound (c .if1 .taken))))
+    let a = c .before .before .before .args in
+    let e : leb (length (a .prefix .now)) variableBound ≡ false = fit-refused _ _ _ _ (sym (c .before .before .new .ensures) ∙ c .enum-told .given .1) (λ z. cc) in
+    sym (sizes-refused (a .prefix .now) (a .clauses .now) (rw e))
 
-new-requires : tie.Need-new-requires
-new-requires c κs = search needs
-
-enum-told : tie.Need-enum-told
-enum-told c = search needs
-
-enum-told-2 : tie.Need-enum-told-2
-enum-told-2 c = search needs
+-- the number of variables, within its bound
+variables-at : (c : tie.After-known-told) → (leb (length (c .before .before .before .before .args .prefix .now)) variableBound ≡ true) × (length (c .before .before .before .before .args .prefix .now) ≡ c .before .variables .given .0 .0 .0)
+variables-at c =
+    variables-made (length (c .before .before .before .before .args .prefix .now)) (c .before .variables .given .0 .0) (sym (c .before .before .before .new .ensures) ∙ c .before .variables .given .1)
 
 returns-2 : tie.Need-returns-2
 returns-2 c =
-    let a = c .before .before .before .before .args in
-    let n = length (a .clauses .now) in
-    let e : leb n matrixBound ≡ false = matrix-oversized (leb n matrixBound) n (sym (c .before .before .new .ensures) ∙ c .enum-told2 .given .1) in
-    sym
-    (sizes-refused (a .prefix .now) (a .clauses .now) (rw (le-leb (length (a .prefix .now)) variableBound (c .before .before .before .if1 .left), e)))
+    let a = c .before .before .before .before .before .before .before .args in
+    let e : leb (length (a .clauses .now)) matrixBound ≡ false = fit-refused _ _ _ _ (sym (c .before .before .new2 .ensures) ∙ c .enum-told3 .given .1) (λ z. cc) in
+    sym (sizes-refused (a .prefix .now) (a .clauses .now) (rw (variables-at (c .before .before .before) .0, e)))
 
--- the lengths fit
-lengths : (c : tie.After-count-zeros) → (leb (length (c .before .before .before .before .before .args .prefix .now)) variableBound ≡ true) × (leb (length (c .before .before .before .before .before .args .clauses .now)) matrixBound ≡ true)
-lengths c =
-    let a = c .before .before .before .before .before .args in
-    let n = length (a .clauses .now) in (
-      le-leb (length (a .prefix .now)) variableBound (c .before .before .before .before .if1 .left),
-      matrix-within (leb n matrixBound) n (c .before .enum-told .given .0 .0) (sym (c .before .before .before .new .ensures) ∙ c .before .enum-told .given .1),
-    )
-
-count-zeros-requires : tie.Need-count-zeros-requires
-count-zeros-requires c κs = search needs
+-- the clause words, within their bound
+words-at : (c : tie.After-enum-told2) → leb (length (c .before .before .before .before .before .before .before .args .clauses .now)) matrixBound ≡ true
+words-at c = fit-made _ _ _ _ (sym (c .before .before .new2 .ensures) ∙ c .enum-told2 .given .1) (λ z. cc) .0
 
 returns-3 : tie.Need-returns-3
 returns-3 c =
-    let k = c .before in
-    let a = k .before .before .before .before .before .args in
-    let l = lengths k in
-    sym
-    (sizes-refused
-    (a .prefix .now)
-    (a .clauses .now)
-    (rw (l .0, l .1, lt-leb (zeros (a .clauses .now)) countBound (rw (k .count-zeros .ensures) at (c .if2 .taken)))))
+    let k = c .before .before .before in
+    let a = c .before .before .before .before .before .before .before .before .before .before .before .args in
+    let e = fit-refused _ _ _ _ (sym (c .before .before .new3 .ensures) ∙ c .enum-told4 .given .1) (λ z. cc) in
+    let many : leb (zeros (a .clauses .now)) countBound ≡ false = rw (k .count-zeros .ensures) at e in
+    sym (sizes-refused (a .prefix .now) (a .clauses .now) (rw (variables-at (k .before .before .before .before) .0, words-at (k .before), many)))
 
--- the sizes fit
-sizes : (c : tie.Else2) → sized (c .before .before .before .before .before .before .args .prefix .now) (c .before .before .before .before .before .before .args .clauses .now) ≡ true
-sizes c =
-    let k = c .before in
-    let l = lengths k in
-    rw (l .0, l .1, le-leb (zeros (k .before .before .before .before .before .args .clauses .now)) countBound (rw (k .count-zeros .ensures) at (c .if2 .left)))
+-- the number of clauses, within its bound; then the sizes fit
+clauses-at : (c : tie.After-known-told2) → (leb (zeros (c .before .before .before .before .before .before .before .before .before .before .before .before .args .clauses .now)) countBound ≡ true) × (zeros (c .before .before .before .before .before .before .before .before .before .before .before .before .args .clauses .now) ≡ c .before .count .given .0 .0 .0)
+clauses-at c =
+    let k = c .before .before .before .before in
+    let e = clauses-made (k .count-zeros .result) (c .before .count .given .0 .0) (sym (c .before .before .before .new3 .ensures) ∙ c .before .count .given .1) in
+    rw (k .count-zeros .ensures) at e
 
-check-words-requires : tie.Need-check-words-requires
-check-words-requires c κs = search needs
-
-enum-known-r : tie.Need-enum-known-r
-enum-known-r c = search needs
-
-enum-told-3 : tie.Need-enum-told-3
-enum-told-3 c = search needs
+sizes : (c : tie.After-known-told2) → sized (c .before .before .before .before .before .before .before .before .before .before .before .before .args .prefix .now) (c .before .before .before .before .before .before .before .before .before .before .before .before .args .clauses .now) ≡ true
+sizes c = let k = c .before .before .before .before in rw (variables-at (k .before .before .before .before) .0, words-at (k .before), clauses-at c .0)
 
 returns-4 : tie.Need-returns-4
 returns-4 c =
     let w = c .before .before .before in
-    let a = w .before .before .before .before .before .before .before .args in
+    let a = w .before .before .before .before .before .before .before .before .before .before .before .before .before .args in
     sym
     (words-refused
     (a .prefix .now)
@@ -87,24 +65,30 @@ returns-4 c =
 returns-5 : tie.Need-returns-5
 returns-5 c =
     let w = c .before .before in
-    let a = w .before .before .before .before .before .before .before .args in
-    let k = w .before .before in
-    rw (k .count-zeros .ensures)
-    (sym (words-admitted (a .prefix .now) (a .clauses .now) (sizes (w .before)) (sym (w .check-words .ensures) ∙ c .enum-told3 .given .1)))
+    let a = w .before .before .before .before .before .before .before .before .before .before .before .before .before .args in
+    let k = w .before in
+    rw (← variables-at (k .before .before .before .before .before .before .before .before) .1, ← clauses-at k .1)
+    (sym (words-admitted (a .prefix .now) (a .clauses .now) (sizes k) (sym (w .check-words .ensures) ∙ c .enum-told5 .given .1)))
 
 pub check-tables-spec : {M : Type 1} → statement M
 check-tables-spec =
     tie.close
     (tie.spec
+    (λ c κs. search needs)
+    (λ c. search needs)
+    (λ c. search needs)
     returns
-    new-requires
-    enum-told
-    enum-told-2
+    (λ c κs. search needs)
+    (λ c. search needs)
+    (λ c. search needs)
     returns-2
-    count-zeros-requires
+    (λ c κs. search needs)
+    (λ c κs. search needs)
+    (λ c. search needs)
+    (λ c. search needs)
     returns-3
-    check-words-requires
-    enum-known-r
-    enum-told-3
+    (λ c κs. search needs)
+    (λ c. search needs)
+    (λ c. search needs)
     returns-4
     returns-5)

@@ -10,8 +10,8 @@ use denote.Ref.{now}
 use lib.ListN.{length, drop}
 use lib.IntN.{ℤ}
 use Rattle.formula.specs.ClauseWord.{wordAt, closeFrom}
-use Rattle.formula.specs.ClauseWordLaws.{literal-within, close-past-literal, close-at-zero, close-at-end}
-use Rattle.formula.specs.declared.words.ClauseWord.the-variants.{Literal}
+use Rattle.formula.specs.ClauseWordLaws.{word-within, close-past-word, close-at-zero, close-at-end}
+use Rattle.formula.specs.declared.words.ClauseWord.the-variants.{Word}
 use Rattle.formula.proofs.words.clause_end.Statement.{statement}
 use Rattle.formula.proofs.words.clause_end.Tie as tie
 
@@ -37,11 +37,11 @@ words c = now (c .before .before .before .before .args .words)
 abbrev place : tie.After-enum-told Inv-loop μ-loop → ℕ
 place c = c .before .before .before .loop .at
 
-found : (c : tie.After-enum-told Inv-loop μ-loop) → wordAt (words c) (place c) ≡ Literal (c .enum-told .given .0 .0)
+found : (c : tie.After-enum-told Inv-loop μ-loop) → wordAt (words c) (place c) ≡ Word (c .enum-told .given .0 .0)
 found c = sym (c .before .before .clause-word .ensures) ∙ c .enum-told .given .1
 
 within : (c : tie.After-enum-told Inv-loop μ-loop) → place c < length (words c)
-within c = literal-within (words c) (place c) _ (found c)
+within c = word-within (words c) (place c) _ (found c)
 
 add-at : tie.Need-add-at Inv-loop μ-loop
 add-at c = let h : place c < length (words c) = within c in search needs
@@ -50,7 +50,7 @@ loop-less : tie.Need-loop-less Inv-loop μ-loop
 loop-less c = omega (arith, within c)
 
 loop-again : tie.Need-loop-again Inv-loop μ-loop
-loop-again c = rw add-one (sym (close-past-literal (place c) (words c) (place c) _ (found c)) ∙ c .before .before .before .loop .inv)
+loop-again c = rw add-one (sym (close-past-word (place c) (words c) (place c) _ (found c)) ∙ c .before .before .before .loop .inv)
 
 enum-told-2 : tie.Need-enum-told-2 Inv-loop μ-loop
 enum-told-2 c = search needs

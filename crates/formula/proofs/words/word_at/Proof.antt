@@ -7,7 +7,7 @@ use mir.Syntax.{w32}
 use mir.Val.{toZ, ofZ, SFits}
 use denote.Ref.{now}
 use Rattle.formula.specs.ClauseWord.{wordIs}
-use Rattle.formula.specs.ClauseWordLaws.{word-at-end, word-at-word, word-is-literal}
+use Rattle.formula.specs.ClauseWordLaws.{word-at-end, word-at-word, word-nonzero}
 use Rattle.formula.proofs.Signed.{bits-zero}
 use Rattle.formula.proofs.words.word_at.Statement.{statement}
 use Rattle.formula.proofs.words.word_at.Tie as tie
@@ -32,7 +32,7 @@ returns-2 c =
     let a = c .before .before .before .args in
     let z = getD (now (a .words)) (a .at) (pos 0) in
     let e : toZ w32 (ofZ w32 z) ≡ z = search needs in
-    rw e (sym (word-at-word (now (a .words)) (a .at) (c .before .before .if1 .taken) ∙ word-is-literal z (λ h. c .if2 .left (ap (ofZ w32) h))))
+    rw e (sym (word-at-word (now (a .words)) (a .at) (c .before .before .if1 .taken) ∙ word-nonzero z (λ h. c .if2 .left (ap (ofZ w32) h))))
 
 returns-3 : tie.Need-returns-3
 returns-3 c = sym (word-at-end _ _ (c .if1 .left))

@@ -1,13 +1,7 @@
 -- `ProofLength::new` answers by its test. Assumes nothing.
-use borrow.Author.Tests.{le-leb, lt-leb}
+use Rattle.formula.specs.Bounds.Laws.{fit-within, fit-above}
 use Rattle.formula.proofs.bounds.ProofLength.new.Statement.{statement}
 use Rattle.formula.proofs.bounds.ProofLength.new.Tie as tie
 
-returns : tie.Need-returns
-returns c = simp (le-leb _ _ (c .if1 .taken))
-
-returns-2 : tie.Need-returns-2
-returns-2 c = simp (lt-leb _ _ (c .if1 .left))
-
 pub new-spec : {M : Type 1} → statement M
-new-spec = tie.close (tie.spec returns returns-2)
+new-spec = tie.close (tie.spec (λ c. fit-within _ _ _ _ (c .if1 .taken)) (λ c. fit-above _ _ _ _ (c .if1 .left)))
