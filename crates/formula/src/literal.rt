@@ -101,7 +101,7 @@ impl Literal {
     }
 }
 
-// What a word of a table is: all that is asked of its sign and its range is asked here.
+// What a word of a table is, by its sign and its range.
 pub enum Word {
     Zero,
     TooLarge,
