@@ -4,8 +4,10 @@
  *     qdr deps FORMULA            prints each universal and its dependents, or the refused line
  *
  * Here files are read and room is lent; every byte on standard output was put there by a proved function (qdr.h).
+ * A formula is read up to its end or up to QDR_MAX_TEXT + 1 bytes: so many are refused as 2, whatever they are and whatever
+ * follows, so that the line is that of the whole file. A proof is read up to its end, since its note may have any length.
  * Exit status: 0 accepted, or dependencies printed; 1 refused; 2 trouble, told on standard error: wrong usage, a file
- * that cannot be read whole, no memory, standard output that cannot be written. */
+ * that cannot be read so far, no memory, standard output that cannot be written. */
 #include "qdr.h"
 
 #include <errno.h>
@@ -14,6 +16,10 @@
 #include <string.h>
 
 enum { ACCEPTED = 0, REFUSED = 1, TROUBLE = 2 };
+
+/* The most bytes that are read of a formula and of a proof. */
+static const size_t formula_limit = QDR_MAX_TEXT + 1;
+static const size_t proof_limit = SIZE_MAX;
 
 /* A file's bytes; never a null pointer, once read. */
 struct file {
@@ -47,15 +53,16 @@ static int grow(struct file *file, size_t *room) {
     return 1;
 }
 
-/* Reads a stream up to its end. Answers 0, or an error's number. */
-static int read_stream(FILE *stream, struct file *file) {
+/* Reads a stream up to its end, or until there are `limit` bytes. Answers 0, or an error's number. */
+static int read_stream(FILE *stream, size_t limit, struct file *file) {
     size_t room = 0;
-    for (;;) {
+    while (file->length < limit) {
         if (file->length == room && !grow(file, &room)) {
             return ENOMEM;
         }
+        size_t end = room < limit ? room : limit;
         errno = 0;
-        file->length += fread(file->bytes + file->length, 1, room - file->length, stream);
+        file->length += fread(file->bytes + file->length, 1, end - file->length, stream);
         if (ferror(stream)) {
             return errno != 0 ? errno : EIO;
         }
@@ -63,15 +70,16 @@ static int read_stream(FILE *stream, struct file *file) {
             return 0;
         }
     }
+    return 0;
 }
 
-/* Reads a file whole: the end was seen, or it is trouble. Answers 0 or TROUBLE. */
-static int read_file(const char *path, struct file *file) {
+/* Reads a file: its end was seen, or there are `limit` bytes, or it is trouble. Answers 0 or TROUBLE. */
+static int read_file(const char *path, size_t limit, struct file *file) {
     FILE *stream = fopen(path, "rb");
     if (stream == NULL) {
         return trouble(path, strerror(errno));
     }
-    int error = read_stream(stream, file);
+    int error = read_stream(stream, limit, file);
     fclose(stream);
     return error == 0 ? 0 : trouble(path, strerror(error));
 }
@@ -109,9 +117,9 @@ static int deps(const struct file *formula) {
 static int run(const char *formula_path, const char *proof_path) {
     struct file formula = {NULL, 0};
     struct file proof = {NULL, 0};
-    int status = read_file(formula_path, &formula);
+    int status = read_file(formula_path, formula_limit, &formula);
     if (status == 0 && proof_path != NULL) {
-        status = read_file(proof_path, &proof);
+        status = read_file(proof_path, proof_limit, &proof);
     }
     if (status == 0) {
         status = proof_path != NULL ? check(&formula, &proof) : deps(&formula);

@@ -7,11 +7,13 @@ mod proved;
 
 use std::fmt;
 
+#[cfg(any(proved, test))]
+use crate::generate::empty;
 use crate::generate::{batch, edges, Case, Random};
 
 pub use expected::reference_answer;
 #[cfg(proved)]
-pub use proved::proved_answer;
+pub use proved::{null_answer, proved_answer};
 
 /// An entry's answer: what it returned, the five words of `out`, the buffers after it. An entry that prints
 /// returns how many bytes, and has no `out`; every other one returns 0 or a refusal's number.
@@ -180,8 +182,29 @@ fn compare_one(
 ) -> Result<(), Box<Difference>> {
     let (drawn, expected) = reference_answer(&case);
     let found = library(&case, filling);
+    let entry = entry(&case);
+    agreed(case, expected, found)?;
+    seen.0[entry][drawn] += 1;
+    Ok(())
+}
+
+/// Runs each entry once with every table empty and no room in any buffer, and answers how many. The library is
+/// to be handed null pointers; it has no buffers to show.
+#[cfg(any(proved, test))]
+pub fn compare_empty(library: impl Fn(&Case) -> Answer) -> Result<usize, Box<Difference>> {
+    let cases = empty();
+    let count = cases.len();
+    for case in cases {
+        let (_, mut expected) = reference_answer(&case);
+        expected.buffers.clear();
+        let found = library(&case);
+        agreed(case, expected, found)?;
+    }
+    Ok(count)
+}
+
+fn agreed(case: Case, expected: Answer, found: Answer) -> Result<(), Box<Difference>> {
     if expected == found {
-        seen.0[entry(&case)][drawn] += 1;
         return Ok(());
     }
     Err(Box::new(Difference {
@@ -202,6 +225,54 @@ mod tests {
         let seen = seen.unwrap_or_else(|difference| panic!("{difference}"));
         println!("{seen}");
         assert_eq!(seen.missing(), Vec::<String>::new());
+    }
+
+    /// What the specification says where every table is empty and no buffer has room, by the reference: what is
+    /// returned, and the words of `out`, which are a refusal's place first.
+    const EMPTY: [(u64, [u64; 5]); 9] = [
+        (0, [0; 5]),
+        (1, [0; 5]),
+        (3, [0; 5]),
+        (20, [0; 5]),
+        (11, [0; 5]),
+        (3, [0; 5]),
+        (0, [1, 0, 0, 0, 0]),
+        (0, [0; 5]),
+        (0, [0; 5]),
+    ];
+
+    fn empty_answer(case: &Case) -> Answer {
+        let (returned, out) = EMPTY[entry(case)];
+        Answer {
+            returned,
+            out,
+            buffers: vec![],
+        }
+    }
+
+    #[test]
+    fn empty_slices() {
+        assert_eq!(empty().each_ref().map(entry), [0, 1, 2, 3, 4, 5, 6, 7, 8]);
+        let run = compare_empty(empty_answer);
+        assert_eq!(run.unwrap_or_else(|difference| panic!("{difference}")), 9);
+        #[cfg(proved)]
+        for case in empty() {
+            assert_eq!(null_answer(&case), empty_answer(&case));
+        }
+    }
+
+    /// A fault in any entry's answer to empty slices is found out.
+    #[test]
+    fn faults_on_empty_slices_are_found() {
+        for faulty in 0..ENTRIES.len() {
+            let library = |case: &Case| {
+                let mut answer = empty_answer(case);
+                answer.returned += u64::from(entry(case) == faulty);
+                answer
+            };
+            let difference = compare_empty(library).err();
+            assert_eq!(difference.map(|found| entry(&found.case)), Some(faulty));
+        }
     }
 
     /// A library with one fault is found out, whichever part of the answer the fault is in.

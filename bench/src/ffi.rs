@@ -8,7 +8,8 @@ pub type Out = [u64; 5];
 /// Declares functions of the library and a safe call of each under the same name: `const` and `mut` name
 /// slices, which C takes as a pointer and a length; `fill` the words of `out`; `value` a number.
 /// Each call hands over pointers and lengths of live slices, none of which overlap, and the library
-/// writes inside the mutable ones alone.
+/// writes inside the mutable ones alone. In `null` stands another call of each, which hands over a null pointer
+/// and the length 0 for every slice.
 macro_rules! library {
     ($(fn $name:ident($(
         $(const $slice:ident: [$element:ty])?
@@ -42,6 +43,24 @@ macro_rules! library {
                 )*)
             }
         })*
+        pub mod null {
+            use super::{symbols, Out};
+            use std::ptr;
+
+            $(pub fn $name($(
+                $($out: &mut Out,)?
+                $($number: $kind,)?
+            )*) -> $result {
+                unsafe {
+                    symbols::$name($(
+                        $(ptr::null::<$element>(), 0,)?
+                        $(ptr::null_mut::<$item>(), 0,)?
+                        $($out.as_mut_ptr(),)?
+                        $($number,)?
+                    )*)
+                }
+            })*
+        }
     };
 }
 

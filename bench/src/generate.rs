@@ -17,6 +17,8 @@ use crate::reference::program::Room;
 use crate::reference::{MAX_CLAUSES, MAX_CLAUSE_WORDS, MAX_VARIABLE};
 
 pub use edges::edges;
+#[cfg(any(proved, test))]
+pub use edges::empty;
 
 /// Marsaglia's xorshift, multiplied at the end.
 pub struct Random(u64);

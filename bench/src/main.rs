@@ -133,6 +133,16 @@ fn compare_all(with_library: bool, seed: u64, inputs: usize) -> ExitCode {
     };
     print!("{seen}");
     println!("{} inputs, no difference, seed {seed}", seen.inputs());
+    #[cfg(proved)]
+    if with_library {
+        match compare::compare_empty(compare::null_answer) {
+            Ok(count) => println!("{count} entries with null pointers alone, no difference"),
+            Err(difference) => {
+                println!("with null pointers alone: {difference}");
+                return ExitCode::FAILURE;
+            }
+        }
+    }
     let missing = seen.missing();
     if missing.is_empty() {
         return ExitCode::SUCCESS;

@@ -1,4 +1,4 @@
-//! The inputs at each bound and one past it.
+//! The inputs at each bound and one past it, and those without anything.
 
 use super::chains::{chain, reductions, Order};
 use super::derive::long_derivation;
@@ -7,6 +7,8 @@ use super::proofs::check_case;
 use super::texts::{spell, tokens};
 use super::{push_clause, Case, Random, Shape, Tables};
 use crate::reference::file::write_proof;
+#[cfg(any(proved, test))]
+use crate::reference::program::Room;
 use crate::reference::{
     MAX_CLAUSES, MAX_CLAUSE_WORDS, MAX_STEP_WORDS, MAX_TEXT, MAX_VARIABLE, ROW_BYTES, SCRATCH_BYTES,
 };
@@ -52,6 +54,66 @@ pub fn edges(random: &mut Random) -> Vec<Case> {
     cases.extend(edge_chains(random));
     cases.extend(edge_lines(random));
     cases
+}
+
+/// Each entry once, with every table empty and no room in any buffer.
+#[cfg(any(proved, test))]
+pub fn empty() -> [Case; 9] {
+    let tables = Tables {
+        prefix: vec![],
+        clauses: vec![],
+    };
+    let room = Room {
+        file: usize::MAX,
+        prefix: 0,
+        clauses: 0,
+        steps: 0,
+        scratch: 0,
+        starts: 0,
+    };
+    [
+        Case::CheckTables {
+            tables: tables.clone(),
+        },
+        Case::Read {
+            text: vec![],
+            prefix_room: 0,
+            clause_room: 0,
+        },
+        Case::Write {
+            tables: tables.clone(),
+            room: 0,
+        },
+        Case::Row {
+            tables: tables.clone(),
+            variable: 1,
+            row_room: 0,
+            scratch_room: 0,
+        },
+        Case::ReadProof {
+            file: vec![],
+            clause_count: 0,
+            room: 0,
+        },
+        Case::Check {
+            tables: tables.clone(),
+            steps: vec![],
+            scratch_room: 0,
+            starts_room: 0,
+        },
+        Case::Evaluate { tables },
+        Case::CheckLine {
+            formula: vec![],
+            proof: vec![],
+            room,
+            line_room: 0,
+        },
+        Case::DependencyLines {
+            formula: vec![],
+            room,
+            text_room: 0,
+        },
+    ]
 }
 
 /// Tables at each bound, one past it, and with a fault found only after all of it.
