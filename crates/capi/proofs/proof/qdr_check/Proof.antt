@@ -29,39 +29,12 @@ promised made =
       lost = λ empty count accepted. made .lost empty count (made .verdict ∙ accepted);
     }
 
-check-proof-requires : tie.Need-check-proof-requires
-check-proof-requires c κs = search needs
-
-enum-known-empty : tie.Need-enum-known-empty
-enum-known-empty c = search needs
-
-accept-requires : tie.Need-accept-requires
-accept-requires c κs = search needs
-
-enum-known-r : tie.Need-enum-known-r
-enum-known-r c = search needs
-
-refuse-requires : tie.Need-refuse-requires
-refuse-requires c κs = search needs
-
-same-length : tie.Need-same-length
-same-length c = search needs
-
-same-length-2 : tie.Need-same-length-2
-same-length-2 c = search needs
-
 returns : tie.Need-returns
 unfolding verdictTold
 returns c =
     let made = c .before .before .before .before .before .before .before .before .before .check-proof .ensures in
     let told = tells verdictTold {due = due (c .before .before .before .before .before .before .before .before .before .before .before .before .before .before)} (made .verdict) (c .before .before .before .empty .given .1) (c .accept .ensures) in
     (told, promised made)
-
-same-length-3 : tie.Need-same-length-3
-same-length-3 c = search needs
-
-same-length-4 : tie.Need-same-length-4
-same-length-4 c = search needs
 
 returns-2 : tie.Need-returns-2
 unfolding verdictTold
@@ -74,14 +47,14 @@ pub qdr-check-spec : {M : Type 1} → statement M
 qdr-check-spec =
     tie.close
     (tie.spec
-    check-proof-requires
-    enum-known-empty
-    accept-requires
-    enum-known-r
-    refuse-requires
-    same-length
-    same-length-2
+    (λ c κs. search needs)
+    (λ c. search needs)
+    (λ c κs. search needs)
+    (λ c. search needs)
+    (λ c κs. search needs)
+    (λ c. search needs)
+    (λ c. search needs)
     returns
-    same-length-3
-    same-length-4
+    (λ c. search needs)
+    (λ c. search needs)
     returns-2)

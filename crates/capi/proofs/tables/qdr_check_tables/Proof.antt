@@ -5,21 +5,6 @@ use borrow.Author.Needs.{needs}
 use Rattle.capi.proofs.tables.qdr_check_tables.Statement.{statement}
 use Rattle.capi.proofs.tables.qdr_check_tables.Tie as tie
 
-check-tables-requires : tie.Need-check-tables-requires
-check-tables-requires c κs = search needs
-
-enum-known-variables : tie.Need-enum-known-variables
-enum-known-variables c = search needs
-
-accept-requires : tie.Need-accept-requires
-accept-requires c κs = search needs
-
-enum-known-r : tie.Need-enum-known-r
-enum-known-r c = search needs
-
-refuse-requires : tie.Need-refuse-requires
-refuse-requires c κs = search needs
-
 returns : tie.Need-returns
 unfolding tablesTold
 returns c =
@@ -36,10 +21,10 @@ pub qdr-check-tables-spec : {M : Type 1} → statement M
 qdr-check-tables-spec =
     tie.close
     (tie.spec
-    check-tables-requires
-    enum-known-variables
-    accept-requires
-    enum-known-r
-    refuse-requires
+    (λ c κs. search needs)
+    (λ c. search needs)
+    (λ c κs. search needs)
+    (λ c. search needs)
+    (λ c κs. search needs)
     returns
     returns-2)

@@ -14,27 +14,6 @@ use Rattle.capi.proofs.tables.qdr_row.Tie as tie
 abbrev due : (c : tie.Start) → RowAnswer
 due c = answerRow (rowRefusal (c .args .prefix .now) (c .args .clauses .now) (c .args .variable) (length (c .args .row .now)) (length (c .args .scratch .now)))
 
-dependency-row-requires : tie.Need-dependency-row-requires
-dependency-row-requires c κs = search needs
-
-enum-told : tie.Need-enum-told
-enum-told c = search needs
-
-accept-requires : tie.Need-accept-requires
-accept-requires c κs = search needs
-
-enum-known-r : tie.Need-enum-known-r
-enum-known-r c = search needs
-
-refuse-requires : tie.Need-refuse-requires
-refuse-requires c κs = search needs
-
-same-length : tie.Need-same-length
-same-length c = search needs
-
-same-length-2 : tie.Need-same-length-2
-same-length-2 c = search needs
-
 returns : tie.Need-returns
 unfolding rowTold
 returns c =
@@ -42,12 +21,6 @@ returns c =
     let made = rw (toZ-ofZ (start .fits .variable)) at (c .before .before .before .before .before .before .before .before .dependency-row .ensures) in
     let told = tells rowTold {due = due start} (made .answered) (c .before .before .enum-told .given .1) (c .accept .ensures) in
     (told, record { answered = refl; filled = made .filled; cleared = made .cleared })
-
-same-length-3 : tie.Need-same-length-3
-same-length-3 c = search needs
-
-same-length-4 : tie.Need-same-length-4
-same-length-4 c = search needs
 
 returns-2 : tie.Need-returns-2
 unfolding rowTold
@@ -61,14 +34,14 @@ pub qdr-row-spec : {M : Type 1} → statement M
 qdr-row-spec =
     tie.close
     (tie.spec
-    dependency-row-requires
-    enum-told
-    accept-requires
-    enum-known-r
-    refuse-requires
-    same-length
-    same-length-2
+    (λ c κs. search needs)
+    (λ c. search needs)
+    (λ c κs. search needs)
+    (λ c. search needs)
+    (λ c κs. search needs)
+    (λ c. search needs)
+    (λ c. search needs)
     returns
-    same-length-3
-    same-length-4
+    (λ c. search needs)
+    (λ c. search needs)
     returns-2)

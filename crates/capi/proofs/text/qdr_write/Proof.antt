@@ -13,33 +13,12 @@ use Rattle.capi.proofs.text.qdr_write.Tie as tie
 abbrev due : (c : tie.Start) → WriteAnswer
 due c = answerWriting (writingRefusal (c .args .prefix .now) (c .args .clauses .now) (length (c .args .text .now))) (length (written (c .args .prefix .now) (c .args .clauses .now)))
 
-write-formula-requires : tie.Need-write-formula-requires
-write-formula-requires c κs = search needs
-
-enum-known-used : tie.Need-enum-known-used
-enum-known-used c = search needs
-
-accept-requires : tie.Need-accept-requires
-accept-requires c κs = search needs
-
-enum-known-r : tie.Need-enum-known-r
-enum-known-r c = search needs
-
-refuse-requires : tie.Need-refuse-requires
-refuse-requires c κs = search needs
-
-same-length : tie.Need-same-length
-same-length c = search needs
-
 returns : tie.Need-returns
 unfolding writeTold
 returns c =
     let made = c .before .before .before .before .before .before .before .write-formula .ensures in
     let told = tells writeTold {due = due (c .before .before .before .before .before .before .before .before .before .before)} (made .answers) (c .before .before .before .used .given .1) (c .accept .ensures) in
     (told, record { answers = refl; leaves = made .leaves })
-
-same-length-2 : tie.Need-same-length-2
-same-length-2 c = search needs
 
 returns-2 : tie.Need-returns-2
 unfolding writeTold
@@ -52,12 +31,12 @@ pub qdr-write-spec : {M : Type 1} → statement M
 qdr-write-spec =
     tie.close
     (tie.spec
-    write-formula-requires
-    enum-known-used
-    accept-requires
-    enum-known-r
-    refuse-requires
-    same-length
+    (λ c κs. search needs)
+    (λ c. search needs)
+    (λ c κs. search needs)
+    (λ c. search needs)
+    (λ c κs. search needs)
+    (λ c. search needs)
     returns
-    same-length-2
+    (λ c. search needs)
     returns-2)

@@ -15,12 +15,6 @@ abbrev μ-loop : tie.MeasureT-loop
 loop-holds : tie.Need-loop-holds Inv-loop μ-loop
 loop-holds c = tt
 
-shared-slice-read-dependent : tie.Need-shared-slice-read-dependent Inv-loop μ-loop
-shared-slice-read-dependent c = search needs
-
-dependent-requires : tie.Need-dependent-requires Inv-loop μ-loop
-dependent-requires c κs = search needs
-
 add-i : tie.Need-add-i Inv-loop μ-loop
 add-i c = omega arith
 
@@ -40,8 +34,8 @@ dependents-spec =
     Inv-loop
     μ-loop
     loop-holds
-    shared-slice-read-dependent
-    dependent-requires
+    (λ c. search needs)
+    (λ c κs. search needs)
     add-i
     loop-less
     loop-again

@@ -15,12 +15,6 @@ abbrev μ-loop : tie.MeasureT-loop
 loop-holds : tie.Need-loop-holds Inv-loop μ-loop
 loop-holds c = tt
 
-shared-slice-read-append : tie.Need-shared-slice-read-append Inv-loop μ-loop
-shared-slice-read-append c = search needs
-
-append-requires : tie.Need-append-requires Inv-loop μ-loop
-append-requires c κs = search needs
-
 add-i : tie.Need-add-i Inv-loop μ-loop
 add-i c = omega arith
 
@@ -40,8 +34,8 @@ magnitude-spec =
     Inv-loop
     μ-loop
     loop-holds
-    shared-slice-read-append
-    append-requires
+    (λ c. search needs)
+    (λ c κs. search needs)
     add-i
     loop-less
     loop-again

@@ -19,23 +19,11 @@ loop-holds c = refl
 add-v : tie.Need-add-v Inv-loop μ-loop
 add-v c = omega arith
 
-variable-word-requires : tie.Need-variable-word-requires Inv-loop μ-loop
-variable-word-requires c κs = search needs
-
-mul-t4 : tie.Need-mul-t4 Inv-loop μ-loop
-mul-t4 c = search needs
-
-slice-set-from-table : tie.Need-slice-set-from-table Inv-loop μ-loop
-slice-set-from-table c = search needs
-
 loop-less : tie.Need-loop-less Inv-loop μ-loop
 loop-less c = simp length-set (omega arith)
 
 loop-again : tie.Need-loop-again Inv-loop μ-loop
 loop-again c = simp length-set (c .before .before .loop .inv)
-
-same-length : tie.Need-same-length Inv-loop μ-loop
-same-length c = search needs
 
 returns : tie.Need-returns Inv-loop μ-loop
 returns c = tt
@@ -48,10 +36,10 @@ number-words-spec =
     μ-loop
     loop-holds
     add-v
-    variable-word-requires
-    mul-t4
-    slice-set-from-table
+    (λ c κs. search needs)
+    (λ c. search needs)
+    (λ c. search needs)
     loop-less
     loop-again
-    same-length
+    (λ c. search needs)
     returns)

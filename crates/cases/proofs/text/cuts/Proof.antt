@@ -15,9 +15,6 @@ abbrev μ-loop : tie.MeasureT-loop
 loop-holds : tie.Need-loop-holds Inv-loop μ-loop
 loop-holds c = tt
 
-cut-requires : tie.Need-cut-requires Inv-loop μ-loop
-cut-requires c κs = search needs
-
 add-n : tie.Need-add-n Inv-loop μ-loop
 add-n c = omega arith
 
@@ -26,9 +23,6 @@ loop-less c = omega arith
 
 loop-again : tie.Need-loop-again Inv-loop μ-loop
 loop-again c = tt
-
-cut-requires-2 : tie.Need-cut-requires-2 Inv-loop μ-loop
-cut-requires-2 c κs = search needs
 
 returns : tie.Need-returns Inv-loop μ-loop
 returns c = tt
@@ -40,9 +34,9 @@ cuts-spec =
     Inv-loop
     μ-loop
     loop-holds
-    cut-requires
+    (λ c κs. search needs)
     add-n
     loop-less
     loop-again
-    cut-requires-2
+    (λ c κs. search needs)
     returns)

@@ -15,18 +15,6 @@ abbrev μ-loop : tie.MeasureT-loop
 loop-holds : tie.Need-loop-holds Inv-loop μ-loop
 loop-holds c = tt
 
-mul-if2 : tie.Need-mul-if2 Inv-loop μ-loop
-mul-if2 c = search needs
-
-shared-slice-copy-out-if2 : tie.Need-shared-slice-copy-out-if2 Inv-loop μ-loop
-shared-slice-copy-out-if2 c = search needs
-
-mul-if2-2 : tie.Need-mul-if2-2 Inv-loop μ-loop
-mul-if2-2 c = search needs
-
-shared-slice-copy-out-if2-2 : tie.Need-shared-slice-copy-out-if2-2 Inv-loop μ-loop
-shared-slice-copy-out-if2-2 c = search needs
-
 returns : tie.Need-returns Inv-loop μ-loop
 returns c = tt
 
@@ -52,10 +40,10 @@ same-words-spec =
     Inv-loop
     μ-loop
     loop-holds
-    mul-if2
-    shared-slice-copy-out-if2
-    mul-if2-2
-    shared-slice-copy-out-if2-2
+    (λ c. search needs)
+    (λ c. search needs)
+    (λ c. search needs)
+    (λ c. search needs)
     returns
     returns-2
     add-i

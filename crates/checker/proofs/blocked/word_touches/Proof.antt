@@ -22,28 +22,10 @@ byte-at c w e =
     let start = c .before .before in
     ap (λ (n : _). eqb n 1) (ap (byteOf (start .args .row .now)) e ∙ byte-read (start .args .row .now) (start .args .word) (start .pre))
 
-of-requires : tie.Need-of-requires
-of-requires c κs = search needs
-
-enum-told : tie.Need-enum-told
-enum-told c = search needs
-
-shared-slice-read-result : tie.Need-shared-slice-read-result
-shared-slice-read-result c = search needs
-
-enum-told-2 : tie.Need-enum-told-2
-enum-told-2 c = search needs
-
-enum-known-v : tie.Need-enum-known-v
-enum-known-v c = search needs
-
 shared-slice-read-result-2 : tie.Need-shared-slice-read-result-2
 shared-slice-read-result-2 c =
     let read = c .before .before .before .before in
     omega (arith, positive-bound _ (c .before .before .v .given .0 .0) (sym (c .before .before .v .given .1) ∙ word-at read), read .before .before .pre)
-
-enum-known-v-2 : tie.Need-enum-known-v-2
-enum-known-v-2 c = search needs
 
 shared-slice-read-result-3 : tie.Need-shared-slice-read-result-3
 shared-slice-read-result-3 c =
@@ -70,13 +52,13 @@ pub word-touches-spec : {M : Type 1} → statement M
 word-touches-spec =
     tie.close
     (tie.spec
-    of-requires
-    enum-told
-    shared-slice-read-result
-    enum-told-2
-    enum-known-v
+    (λ c κs. search needs)
+    (λ c. search needs)
+    (λ c. search needs)
+    (λ c. search needs)
+    (λ c. search needs)
     shared-slice-read-result-2
-    enum-known-v-2
+    (λ c. search needs)
     shared-slice-read-result-3
     returns
     returns-2

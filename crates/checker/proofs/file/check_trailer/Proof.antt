@@ -33,9 +33,6 @@ bounded c =
     let n = c .before .before .before in
     count-within (n .before .before .before .before .args .file .now) (n .number-at .result) (c .enum-told .given .0 .0) (n .number-at .ensures) (sym (c .before .before .new .ensures) ∙ c .enum-told .given .1)
 
-has-trailer-requires : tie.Need-has-trailer-requires
-has-trailer-requires c κs = search needs
-
 sub-start : tie.Need-sub-start
 sub-start c =
     trailer-of (c .before .before .before .args .file .now) (trailed c) .long
@@ -45,27 +42,12 @@ number-at-requires c κs =
     let t = trailer-of (c .before .before .before .args .file .now) (trailed c) in
     omega arith
 
-cast-words : tie.Need-cast-words
-cast-words c = search needs
-
-new-requires : tie.Need-new-requires
-new-requires c κs = search needs
-
-enum-told : tie.Need-enum-told
-enum-told c = search needs
-
-enum-told-2 : tie.Need-enum-told-2
-enum-told-2 c = search needs
-
 returns : tie.Need-returns
 returns c =
     let n = c .before .before .before in
     let s = n .before .before .before .before .args in
     let b = count-oversized (s .file .now) (n .number-at .result) (n .number-at .ensures) (sym (c .before .before .new .ensures) ∙ c .enum-told2 .given .1) in
     rw (refusal-oversized (s .file .now) (s .clause-count) (s .room) (trailed (n .before)) b)
-
-add-number-at : tie.Need-add-number-at
-add-number-at c = search needs
 
 number-at-requires-2 : tie.Need-number-at-requires-2
 number-at-requires-2 c κs =
@@ -108,15 +90,15 @@ pub check-trailer-spec : {M : Type 1} → statement M
 check-trailer-spec =
     tie.close
     (tie.spec
-    has-trailer-requires
+    (λ c κs. search needs)
     sub-start
     number-at-requires
-    cast-words
-    new-requires
-    enum-told
-    enum-told-2
+    (λ c. search needs)
+    (λ c κs. search needs)
+    (λ c. search needs)
+    (λ c. search needs)
     returns
-    add-number-at
+    (λ c. search needs)
     number-at-requires-2
     returns-2
     returns-3

@@ -22,24 +22,6 @@ abbrev μ-loop : tie.MeasureT-loop
 loop-holds : tie.Need-loop-holds Inv-loop μ-loop
 loop-holds c = (omega arith, refl, refl, refl)
 
-mul-number-at : tie.Need-mul-number-at Inv-loop μ-loop
-mul-number-at c = search needs
-
-number-at-requires : tie.Need-number-at-requires Inv-loop μ-loop
-number-at-requires c κs = search needs
-
-signed-requires : tie.Need-signed-requires Inv-loop μ-loop
-signed-requires c κs = search needs
-
-mul-t9 : tie.Need-mul-t9 Inv-loop μ-loop
-mul-t9 c = search needs
-
-slice-set-from-steps : tie.Need-slice-set-from-steps Inv-loop μ-loop
-slice-set-from-steps c = search needs
-
-add-i : tie.Need-add-i Inv-loop μ-loop
-add-i c = search needs
-
 loop-less : tie.Need-loop-less Inv-loop μ-loop
 loop-less c = omega arith
 
@@ -55,9 +37,6 @@ loop-again c =
       rw v (copy-step (s .bytes .now) (l .steps) (l .i) (omega arith) (omega arith) (l .inv .3)),
     )
 
-same-length : tie.Need-same-length Inv-loop μ-loop
-same-length c = search needs
-
 returns : tie.Need-returns Inv-loop μ-loop
 returns c =
     let l = c .before .loop in
@@ -72,13 +51,13 @@ copy-words-spec =
     Inv-loop
     μ-loop
     loop-holds
-    mul-number-at
-    number-at-requires
-    signed-requires
-    mul-t9
-    slice-set-from-steps
-    add-i
+    (λ c. search needs)
+    (λ c κs. search needs)
+    (λ c κs. search needs)
+    (λ c. search needs)
+    (λ c. search needs)
+    (λ c. search needs)
     loop-less
     loop-again
-    same-length
+    (λ c. search needs)
     returns)

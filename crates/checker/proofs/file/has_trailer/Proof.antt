@@ -11,21 +11,6 @@ use Rattle.checker.proofs.file.has_trailer.Tie as tie
 returns : tie.Need-returns
 returns c = sym (trailer-short (c .before .before .args .file .now) (search needs))
 
-sub-start : tie.Need-sub-start
-sub-start c = search needs
-
-add-mark-at : tie.Need-add-mark-at
-add-mark-at c = search needs
-
-mark-at-requires : tie.Need-mark-at-requires
-mark-at-requires c κs = search needs
-
-number-at-requires : tie.Need-number-at-requires
-number-at-requires c κs = search needs
-
-cast-distance : tie.Need-cast-distance
-cast-distance c = search needs
-
 returns-2 : tie.Need-returns-2
 returns-2 c =
     let b = c .before .before .before in
@@ -52,11 +37,11 @@ has-trailer-spec =
     tie.close
     (tie.spec
     returns
-    sub-start
-    add-mark-at
-    mark-at-requires
-    number-at-requires
-    cast-distance
+    (λ c. search needs)
+    (λ c. search needs)
+    (λ c κs. search needs)
+    (λ c κs. search needs)
+    (λ c. search needs)
     returns-2
     returns-3
     returns-4)

@@ -26,18 +26,6 @@ part c =
     let s = c .before .before .before .before .args in
     counted-bytes (s .file .now) (s .clause-count) (length (s .steps .now)) (c .n .given .0 .0) (counted c)
 
-check-trailer-requires : tie.Need-check-trailer-requires
-check-trailer-requires c κs = search needs
-
-enum-known-refusal : tie.Need-enum-known-refusal
-enum-known-refusal c = search needs
-
-clear-words-requires : tie.Need-clear-words-requires
-clear-words-requires c κs = search needs
-
-enum-known-n : tie.Need-enum-known-n
-enum-known-n c = search needs
-
 sub-end : tie.Need-sub-end
 sub-end c = counted (c .before) .passed .trailer .long
 
@@ -50,15 +38,6 @@ sub-start : tie.Need-sub-start
 sub-start c =
     let k = counted (c .before) in
     omega arith
-
-sub-copy-words : tie.Need-sub-copy-words
-sub-copy-words c = search needs
-
-part-copy-words-start : tie.Need-part-copy-words-start
-part-copy-words-start c = search needs
-
-part-copy-words-end : tie.Need-part-copy-words-end
-part-copy-words-end c = search needs
 
 copy-words-requires : tie.Need-copy-words-requires
 copy-words-requires c κs =
@@ -73,12 +52,6 @@ copy-words-requires c κs =
       omega arith,
     )
 
-clear-words-requires-2 : tie.Need-clear-words-requires-2
-clear-words-requires-2 c κs = search needs
-
-same-length : tie.Need-same-length
-same-length c = search needs
-
 returns : tie.Need-returns
 returns c =
     let v = c .before .before .before .before in
@@ -87,9 +60,6 @@ returns c =
     read-refused (s .file .now) (s .clause-count) (s .steps .now) (c .before .clear-words .last .0) (v .refusal .given .0 .0)
     (length-answer-refused (proofRefusal (s .file .now) (s .clause-count) (length (s .steps .now))) (stepCount (s .file .now)) (v .refusal .given .0 .0) (sym (a .check-trailer .ensures) ∙ v .refusal .given .1))
     (c .before .clear-words .ensures)
-
-same-length-2 : tie.Need-same-length-2
-same-length-2 c = search needs
 
 returns-2 : tie.Need-returns-2
 returns-2 c =
@@ -108,19 +78,19 @@ pub read-proof-spec : {M : Type 1} → statement M
 read-proof-spec =
     tie.close
     (tie.spec
-    check-trailer-requires
-    enum-known-refusal
-    clear-words-requires
-    enum-known-n
+    (λ c κs. search needs)
+    (λ c. search needs)
+    (λ c κs. search needs)
+    (λ c. search needs)
     sub-end
     mul-start
     sub-start
-    sub-copy-words
-    part-copy-words-start
-    part-copy-words-end
+    (λ c. search needs)
+    (λ c. search needs)
+    (λ c. search needs)
     copy-words-requires
-    clear-words-requires-2
-    same-length
+    (λ c κs. search needs)
+    (λ c. search needs)
     returns
-    same-length-2
+    (λ c. search needs)
     returns-2)

@@ -19,23 +19,8 @@ positive-at c = sym (c .before .v .given .1) ∙ word-at (c .before .before .bef
 negative-at : (c : tie.After-known-told2) → Negative (c .before .v2 .given .0 .0) ≡ wordOf (c .before .before .before .before .before .args .word)
 negative-at c = sym (c .before .v2 .given .1) ∙ word-at (c .before .before .before)
 
-of-requires : tie.Need-of-requires
-of-requires c κs = search needs
-
-enum-told : tie.Need-enum-told
-enum-told c = search needs
-
-enum-told-2 : tie.Need-enum-told-2
-enum-told-2 c = search needs
-
-enum-known-v : tie.Need-enum-known-v
-enum-known-v c = search needs
-
 slice-write-kinds : tie.Need-slice-write-kinds
 slice-write-kinds c = omega (arith, positive-bound _ (c .before .v .given .0 .0) (positive-at c), c .before .before .before .before .before .pre)
-
-enum-known-v-2 : tie.Need-enum-known-v-2
-enum-known-v-2 c = search needs
 
 slice-write-kinds-2 : tie.Need-slice-write-kinds-2
 slice-write-kinds-2 c = omega (arith, negative-bound _ (c .before .v2 .given .0 .0) (negative-at c), c .before .before .before .before .before .pre)
@@ -46,14 +31,8 @@ returns c = ap (kindWord (c .before .before .before .before .args .kinds .now)) 
 returns-2 : tie.Need-returns-2
 returns-2 c = ap (kindWord (c .before .before .before .before .args .kinds .now)) (sym (c .enum-told2 .given .1) ∙ word-at (c .before .before))
 
-same-length : tie.Need-same-length
-same-length c = search needs
-
 returns-3 : tie.Need-returns-3
 returns-3 c = ap (kindWord (c .before .before .before .before .before .args .kinds .now)) (positive-at c)
-
-same-length-2 : tie.Need-same-length-2
-same-length-2 c = search needs
 
 returns-4 : tie.Need-returns-4
 returns-4 c = ap (kindWord (c .before .before .before .before .before .args .kinds .now)) (negative-at c)
@@ -62,16 +41,16 @@ pub fill-word-spec : {M : Type 1} → statement M
 fill-word-spec =
     tie.close
     (tie.spec
-    of-requires
-    enum-told
-    enum-told-2
-    enum-known-v
+    (λ c κs. search needs)
+    (λ c. search needs)
+    (λ c. search needs)
+    (λ c. search needs)
     slice-write-kinds
-    enum-known-v-2
+    (λ c. search needs)
     slice-write-kinds-2
     returns
     returns-2
-    same-length
+    (λ c. search needs)
     returns-3
-    same-length-2
+    (λ c. search needs)
     returns-4)

@@ -15,18 +15,6 @@ word-at c = read-word (c .before .before .args .word) (c .before .before .fits .
 positive-at : (c : tie.After-known-told) → Positive (c .before .v .given .0 .0) ≡ wordOf (c .before .before .before .before .before .args .word)
 positive-at c = sym (c .before .v .given .1) ∙ word-at (c .before .before .before)
 
-of-requires : tie.Need-of-requires
-of-requires c κs = search needs
-
-enum-told : tie.Need-enum-told
-enum-told c = search needs
-
-enum-told-2 : tie.Need-enum-told-2
-enum-told-2 c = search needs
-
-enum-known-v : tie.Need-enum-known-v
-enum-known-v c = search needs
-
 of-kind-requires : tie.Need-of-kind-requires
 of-kind-requires c κs = (c .before .before .before .before .before .pre, positive-bound _ (c .before .v .given .0 .0) (positive-at c))
 
@@ -42,9 +30,6 @@ returns-3 c = c .of-kind .ensures ∙ ap (universalOf (c .before .before .before
 negative-at : (c : tie.After-known-told2) → Negative (c .before .v2 .given .0 .0) ≡ wordOf (c .before .before .before .before .before .args .word)
 negative-at c = sym (c .before .v2 .given .1) ∙ word-at (c .before .before .before)
 
-enum-known-v-2 : tie.Need-enum-known-v-2
-enum-known-v-2 c = search needs
-
 of-kind-requires-2 : tie.Need-of-kind-requires-2
 of-kind-requires-2 c κs = (c .before .before .before .before .before .pre, negative-bound _ (c .before .v2 .given .0 .0) (negative-at c))
 
@@ -55,12 +40,12 @@ pub universal-of-spec : {M : Type 1} → statement M
 universal-of-spec =
     tie.close
     (tie.spec
-    of-requires
-    enum-told
-    enum-told-2
-    enum-known-v
+    (λ c κs. search needs)
+    (λ c. search needs)
+    (λ c. search needs)
+    (λ c. search needs)
     of-kind-requires
-    enum-known-v-2
+    (λ c. search needs)
     of-kind-requires-2
     returns
     returns-2

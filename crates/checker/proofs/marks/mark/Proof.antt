@@ -27,17 +27,8 @@ abbrev μ-loop : tie.MeasureT-loop
 loop-holds : tie.Need-loop-holds Inv-loop μ-loop
 loop-holds c = ((refl, refl), refl)
 
-mul-word : tie.Need-mul-word Inv-loop μ-loop
-mul-word c = search needs
-
-shared-slice-copy-out-word : tie.Need-shared-slice-copy-out-word Inv-loop μ-loop
-shared-slice-copy-out-word c = search needs
-
 is-zero-requires : tie.Need-is-zero-requires Inv-loop μ-loop
 is-zero-requires c κs = tt
-
-same-length : tie.Need-same-length Inv-loop μ-loop
-same-length c = search needs
 
 -- at a clause's end, the word left out being what was passed
 ends-at :
@@ -57,12 +48,6 @@ returns c =
 mark-word-requires : tie.Need-mark-word-requires Inv-loop μ-loop
 mark-word-requires c κs = let at = c .before .before .before .before .before in at .loop .inv .1 ∙ at .before .before .pre
 
-add-i : tie.Need-add-i Inv-loop μ-loop
-add-i c = search needs
-
-loop-less : tie.Need-loop-less Inv-loop μ-loop
-loop-less c = search needs
-
 loop-again : tie.Need-loop-again Inv-loop μ-loop
 loop-again c =
     let called = c .before .before in
@@ -76,9 +61,6 @@ loop-again c =
     let t = mark-turns (start .args .marks .now) _ (at .loop .marks) (called .mark-word .last .1 .1 .0) (at .loop .clash) (called .mark-word .result) (toZ w32 (ofZ w32 (start .args .except))) word _ (clauseAt words (at .loop .i + 1)) d k (at .loop .inv .0) in
     (t, called .mark-word .kept .1 .1 .0 ∙ at .loop .inv .1)
 
-same-length-2 : tie.Need-same-length-2 Inv-loop μ-loop
-same-length-2 c = search needs
-
 returns-2 : tie.Need-returns-2 Inv-loop μ-loop
 returns-2 c = ends-at (c .before) (clause-past (c .before .before .before .args .words .now) (c .before .loop .i) (search needs))
 
@@ -89,14 +71,14 @@ mark-spec =
     Inv-loop
     μ-loop
     loop-holds
-    mul-word
-    shared-slice-copy-out-word
+    (λ c. search needs)
+    (λ c. search needs)
     is-zero-requires
-    same-length
+    (λ c. search needs)
     returns
     mark-word-requires
-    add-i
-    loop-less
+    (λ c. search needs)
+    (λ c. search needs)
     loop-again
-    same-length-2
+    (λ c. search needs)
     returns-2)

@@ -24,17 +24,8 @@ abbrev μ-loop : tie.MeasureT-loop
 loop-holds : tie.Need-loop-holds Inv-loop μ-loop
 loop-holds c = ((refl, refl), refl)
 
-mul-word : tie.Need-mul-word Inv-loop μ-loop
-mul-word c = search needs
-
-shared-slice-copy-out-word : tie.Need-shared-slice-copy-out-word Inv-loop μ-loop
-shared-slice-copy-out-word c = search needs
-
 is-zero-requires : tie.Need-is-zero-requires Inv-loop μ-loop
 is-zero-requires c κs = tt
-
-same-length : tie.Need-same-length Inv-loop μ-loop
-same-length c = search needs
 
 ends-at :
     (c : tie.At-loop Inv-loop μ-loop) → clauseAt (c .before .before .args .words .now) (c .loop .i) ≡ []
@@ -68,12 +59,6 @@ ticked-at c =
     let e : toZ w32 (ofZ w32 word) ≡ word = read-back word (c .before .before .before .before .word .given) in
     rw e at (c .tick-word .ensures)
 
-add-i : tie.Need-add-i Inv-loop μ-loop
-add-i c = search needs
-
-loop-less : tie.Need-loop-less Inv-loop μ-loop
-loop-less c = search needs
-
 loop-again : tie.Need-loop-again Inv-loop μ-loop
 loop-again c =
     let called = c .before .before .before in
@@ -94,9 +79,6 @@ returns-2 c =
     let at = called .before .before .before .before .before .before in
     tick-stops _ _ (at .loop .marks) (called .tick-word .last .1 .0) _ _ (clauseAt (at .before .before .args .words .now) (at .loop .i + 1)) (literal-at called) (rw (c .if2 .left) at (ticked-at called)) (at .loop .inv .0)
 
-same-length-3 : tie.Need-same-length-3 Inv-loop μ-loop
-same-length-3 c = search needs
-
 returns-3 : tie.Need-returns-3 Inv-loop μ-loop
 returns-3 c = ends-at (c .before) (clause-past (c .before .before .before .args .words .now) (c .before .loop .i) (search needs))
 
@@ -107,16 +89,16 @@ tick-spec =
     Inv-loop
     μ-loop
     loop-holds
-    mul-word
-    shared-slice-copy-out-word
+    (λ c. search needs)
+    (λ c. search needs)
     is-zero-requires
-    same-length
+    (λ c. search needs)
     returns
     tick-word-requires
-    add-i
-    loop-less
+    (λ c. search needs)
+    (λ c. search needs)
     loop-again
     same-length-2
     returns-2
-    same-length-3
+    (λ c. search needs)
     returns-3)

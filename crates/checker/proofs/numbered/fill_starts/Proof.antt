@@ -62,9 +62,6 @@ loop-again c =
       simp length-set (l .inv .1),
     )
 
-same-length : tie.Need-same-length Inv-loop μ-loop
-same-length c = search needs
-
 returns : tie.Need-returns Inv-loop μ-loop
 returns c =
     let l = c .before .loop in
@@ -85,5 +82,5 @@ fill-starts-spec =
     add-from
     loop-less
     loop-again
-    same-length
+    (λ c. search needs)
     returns)

@@ -8,21 +8,6 @@ use Rattle.checker.specs.Verdict.Parts.{cleared-whole}
 use Rattle.checker.proofs.proof.check_proof.Statement.{statement}
 use Rattle.checker.proofs.proof.check_proof.Tie as tie
 
-judge-proof-requires : tie.Need-judge-proof-requires
-judge-proof-requires c κs = search needs
-
-clear-bytes-requires : tie.Need-clear-bytes-requires
-clear-bytes-requires c κs = search needs
-
-clear-numbers-requires : tie.Need-clear-numbers-requires
-clear-numbers-requires c κs = search needs
-
-same-length : tie.Need-same-length
-same-length c = search needs
-
-same-length-2 : tie.Need-same-length-2
-same-length-2 c = search needs
-
 returns : tie.Need-returns
 returns c =
     let numbers = c .before .before in
@@ -43,9 +28,9 @@ pub check-proof-spec : {M : Type 1} → statement M
 check-proof-spec =
     tie.close
     (tie.spec
-    judge-proof-requires
-    clear-bytes-requires
-    clear-numbers-requires
-    same-length
-    same-length-2
+    (λ c κs. search needs)
+    (λ c κs. search needs)
+    (λ c κs. search needs)
+    (λ c. search needs)
+    (λ c. search needs)
     returns)

@@ -14,15 +14,6 @@ admitted-at c =
     let start = c .before .before .before .before .before .before in
     answer-admitted (start .args .prefix .now) (start .args .clauses .now) (c .before .inputs .given .0 .0) (c .before .inputs .given .0 .1 .0) (sym (c .before .before .before .check-tables .ensures) ∙ c .before .inputs .given .1)
 
-check-tables-requires : tie.Need-check-tables-requires
-check-tables-requires c κs = search needs
-
-enum-known-refusal : tie.Need-enum-known-refusal
-enum-known-refusal c = search needs
-
-enum-known-inputs : tie.Need-enum-known-inputs
-enum-known-inputs c = search needs
-
 judge-sized-requires : tie.Need-judge-sized-requires
 judge-sized-requires c κs =
     let a = admitted-at (c .before .before) in
@@ -34,12 +25,6 @@ returns c =
     let start = c .before .before .before .before .before .before in
     rw (answer-refused (start .args .prefix .now) (start .args .clauses .now) (c .before .refusal .given .0 .0) (sym (c .before .before .before .check-tables .ensures) ∙ c .before .refusal .given .1))
 
-same-length : tie.Need-same-length
-same-length c = search needs
-
-same-length-2 : tie.Need-same-length-2
-same-length-2 c = search needs
-
 returns-2 : tie.Need-returns-2
 unfolding verdictOf
 returns-2 c =
@@ -50,11 +35,11 @@ pub judge-proof-spec : {M : Type 1} → statement M
 judge-proof-spec =
     tie.close
     (tie.spec
-    check-tables-requires
-    enum-known-refusal
-    enum-known-inputs
+    (λ c κs. search needs)
+    (λ c. search needs)
+    (λ c. search needs)
     judge-sized-requires
     returns
-    same-length
-    same-length-2
+    (λ c. search needs)
+    (λ c. search needs)
     returns-2)

@@ -18,23 +18,11 @@ use Rattle.checker.proofs.proof.judge_sized.Tie as tie
 within-at : (c : tie.After-enum-told2) → leb (length (c .before .before .before .before .before .args .steps .now)) 1048576 ≡ true
 within-at c = fit-made _ _ _ _ (sym (c .before .before .new .ensures) ∙ c .enum-told2 .given .1) (λ z. cc) .0
 
-new-requires : tie.Need-new-requires
-new-requires c κs = search needs
-
-enum-told : tie.Need-enum-told
-enum-told c = search needs
-
-enum-told-2 : tie.Need-enum-told-2
-enum-told-2 c = search needs
-
 returns : tie.Need-returns
 unfolding sizedVerdict
 returns c =
     let start = c .before .before .before .before .before .before in
     rw (within-at (c .before), lt-leb 8200 (length (start .args .scratch .now)) (c .if1 .taken))
-
-add-t18 : tie.Need-add-t18
-add-t18 c = search needs
 
 returns-2 : tie.Need-returns-2
 unfolding sizedVerdict
@@ -54,12 +42,6 @@ returns-3 c =
     let start = c .before .before .before .before .before in
     rw (fit-refused _ _ _ _ (sym (c .before .before .new .ensures) ∙ c .enum-told .given .1) (λ z. cc))
 
-same-length : tie.Need-same-length
-same-length c = search needs
-
-same-length-2 : tie.Need-same-length-2
-same-length-2 c = search needs
-
 returns-4 : tie.Need-returns-4
 unfolding sizedVerdict
 returns-4 c =
@@ -73,14 +55,14 @@ pub judge-sized-spec : {M : Type 1} → statement M
 judge-sized-spec =
     tie.close
     (tie.spec
-    new-requires
-    enum-told
-    enum-told-2
+    (λ c κs. search needs)
+    (λ c. search needs)
+    (λ c. search needs)
     returns
-    add-t18
+    (λ c. search needs)
     returns-2
     judge-steps-requires
     returns-3
-    same-length
-    same-length-2
+    (λ c. search needs)
+    (λ c. search needs)
     returns-4)

@@ -27,30 +27,12 @@ room-at c = c .run-steps .kept .1 .1 .1 .1 .1 .0 ∙ c .before .before .before .
 ended-at : (c : tie.After-known-told2) → RunDone (c .before .before .before .before .before .before .before .before .before .before .before .before .before .before .before .before .before .before .before .before .before .before .before .before .args .prefix .now) (c .before .before .before .before .before .before .before .before .before .before .before .before .before .before .before .before .before .before .before .before .before .before .before .before .args .clauses .now) (c .before .before .before .before .before .before .before .before .before .before .before .before .before .before .before .before .before .before .before .before .before .before .before .before .args .steps .now) (c .before .before .before .before .before .before .before .before .before .before .before .before .before .before .before .before .before .before .before .before .before .before .before .before .args .inputs) (Ended (c .before .known .given .0 .0)) (c .before .before .before .before .before .before .before .run-steps .last .1 .1 .1 .1 .1 .0)
 ended-at c = rw (c .before .known .given .1) at (c .before .before .before .before .before .before .before .run-steps .ensures)
 
-clear-bytes-requires : tie.Need-clear-bytes-requires
-clear-bytes-requires c κs = search needs
-
-sub-fill-kinds : tie.Need-sub-fill-kinds
-sub-fill-kinds c = search needs
-
-part-fill-kinds-start : tie.Need-part-fill-kinds-start
-part-fill-kinds-start c = search needs
-
-part-fill-kinds-end : tie.Need-part-fill-kinds-end
-part-fill-kinds-end c = search needs
-
-fill-kinds-requires : tie.Need-fill-kinds-requires
-fill-kinds-requires c κs = search needs
-
 fill-starts-requires : tie.Need-fill-starts-requires
 fill-starts-requires c κs =
     let start = c .before .before .before .before .before .before .before .before .before .before .before in
     let prefix = start .args .prefix .now in
     let clauses = start .args .clauses .now in
     (admitted-clauses-length prefix clauses (start .pre .0), omega (arith, admitted-closed prefix clauses (start .pre .0), start .pre .1 .0, start .pre .1 .1 .1 .1))
-
-slice-relend-prefix-run-steps : tie.Need-slice-relend-prefix-run-steps
-slice-relend-prefix-run-steps c = search needs
 
 slice-aggregate-run-steps : tie.Need-slice-aggregate-run-steps
 slice-aggregate-run-steps c = sym (ready-at (c .before .before .before) .size)
@@ -75,22 +57,10 @@ run-steps-requires c κs =
       ),
     )
 
-enum-known-refusal : tie.Need-enum-known-refusal
-enum-known-refusal c = search needs
-
-enum-known-known : tie.Need-enum-known-known
-enum-known-known c = search needs
-
 conclude-run-requires : tie.Need-conclude-run-requires
 conclude-run-requires c κs =
     let done = ended-at (c .before) in
     (done .counted, done .grown)
-
-same-length : tie.Need-same-length
-same-length c = search needs
-
-same-length-2 : tie.Need-same-length-2
-same-length-2 c = search needs
 
 returns : tie.Need-returns
 returns c =
@@ -99,12 +69,6 @@ returns c =
     let e = sym (c .before .refusal .given .1) in
     let outcome = rw (room-at ran, c .before .refusal .given .1) at (ran .run-steps .ensures .outcome) in
     rw outcome
-
-same-length-3 : tie.Need-same-length-3
-same-length-3 c = search needs
-
-same-length-4 : tie.Need-same-length-4
-same-length-4 c = search needs
 
 returns-2 : tie.Need-returns-2
 returns-2 c =
@@ -117,21 +81,21 @@ pub judge-steps-spec : {M : Type 1} → statement M
 judge-steps-spec =
     tie.close
     (tie.spec
-    clear-bytes-requires
-    sub-fill-kinds
-    part-fill-kinds-start
-    part-fill-kinds-end
-    fill-kinds-requires
+    (λ c κs. search needs)
+    (λ c. search needs)
+    (λ c. search needs)
+    (λ c. search needs)
+    (λ c κs. search needs)
     fill-starts-requires
-    slice-relend-prefix-run-steps
+    (λ c. search needs)
     slice-aggregate-run-steps
     run-steps-requires
-    enum-known-refusal
-    enum-known-known
+    (λ c. search needs)
+    (λ c. search needs)
     conclude-run-requires
-    same-length
-    same-length-2
+    (λ c. search needs)
+    (λ c. search needs)
     returns
-    same-length-3
-    same-length-4
+    (λ c. search needs)
+    (λ c. search needs)
     returns-2)

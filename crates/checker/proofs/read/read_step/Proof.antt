@@ -15,48 +15,6 @@ kind-at c =
     let start = c .before .before in
     c .kind-of .ensures ∙ ap kindIs (read-back (getD (start .args .steps .now) (start .args .at) (pos 0)) (c .before .word .given))
 
-mul-word : tie.Need-mul-word
-mul-word c = search needs
-
-shared-slice-copy-out-word : tie.Need-shared-slice-copy-out-word
-shared-slice-copy-out-word c = search needs
-
-kind-of-requires : tie.Need-kind-of-requires
-kind-of-requires c κs = search needs
-
-enum-told : tie.Need-enum-told
-enum-told c = search needs
-
-add-close-of : tie.Need-add-close-of
-add-close-of c = search needs
-
-close-of-requires : tie.Need-close-of-requires
-close-of-requires c κs = search needs
-
-enum-known-next : tie.Need-enum-known-next
-enum-known-next c = search needs
-
-enum-told-2 : tie.Need-enum-told-2
-enum-told-2 c = search needs
-
-enum-told-3 : tie.Need-enum-told-3
-enum-told-3 c = search needs
-
-add-close-of-2 : tie.Need-add-close-of-2
-add-close-of-2 c = search needs
-
-close-of-requires-2 : tie.Need-close-of-requires-2
-close-of-requires-2 c κs = search needs
-
-enum-known-next-2 : tie.Need-enum-known-next-2
-enum-known-next-2 c = search needs
-
-enum-told-4 : tie.Need-enum-told-4
-enum-told-4 c = search needs
-
-enum-told-5 : tie.Need-enum-told-5
-enum-told-5 c = search needs
-
 returns : tie.Need-returns
 returns c =
     let kind = c .before .before .before .before .before .before in
@@ -99,20 +57,20 @@ pub read-step-spec : {M : Type 1} → statement M
 read-step-spec =
     tie.close
     (tie.spec
-    mul-word
-    shared-slice-copy-out-word
-    kind-of-requires
-    enum-told
-    add-close-of
-    close-of-requires
-    enum-known-next
-    enum-told-2
-    enum-told-3
-    add-close-of-2
-    close-of-requires-2
-    enum-known-next-2
-    enum-told-4
-    enum-told-5
+    (λ c. search needs)
+    (λ c. search needs)
+    (λ c κs. search needs)
+    (λ c. search needs)
+    (λ c. search needs)
+    (λ c κs. search needs)
+    (λ c. search needs)
+    (λ c. search needs)
+    (λ c. search needs)
+    (λ c. search needs)
+    (λ c κs. search needs)
+    (λ c. search needs)
+    (λ c. search needs)
+    (λ c. search needs)
     returns
     returns-2
     returns-3

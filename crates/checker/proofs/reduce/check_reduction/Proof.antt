@@ -34,27 +34,6 @@ clause-at c =
     ap₂ clauseAt (c .before .table-of .ensures) (c .start-of .ensures)
     ∙ sym (stored-by-number (start .args .inputs) (start .args .clauses .now) (start .args .steps .now) (start .args .starts .now) (c .before .before .before .number .given .0 .0 .0) (number-at (c .before .before) .0))
 
-add-i : tie.Need-add-i
-add-i c = search needs
-
-mul-i : tie.Need-mul-i
-mul-i c = search needs
-
-shared-slice-copy-out-i : tie.Need-shared-slice-copy-out-i
-shared-slice-copy-out-i c = search needs
-
-antecedent-of-requires : tie.Need-antecedent-of-requires
-antecedent-of-requires c κs = search needs
-
-enum-told : tie.Need-enum-told
-enum-told c = search needs
-
-enum-known-number : tie.Need-enum-known-number
-enum-known-number c = search needs
-
-table-of-requires : tie.Need-table-of-requires
-table-of-requires c κs = search needs
-
 start-of-requires : tie.Need-start-of-requires
 start-of-requires c κs =
     let n = number-at (c .before) in
@@ -81,9 +60,6 @@ returns c =
     let e = number-no-antecedent (start .args .inputs) (start .args .clauses .now) (start .args .steps .now) (start .args .starts .now) (start .args .known) (getD (start .args .steps .now) (start .args .at + 1) (pos 0)) (sym (c .enum-told .given .1) ∙ first-at (c .before .before)) in
     rw e (record { answer = refl; kept = refl })
 
-same-length : tie.Need-same-length
-same-length c = search needs
-
 returns-2 : tie.Need-returns-2
 returns-2 c =
     let called = c .before .before in
@@ -96,15 +72,15 @@ pub check-reduction-spec : {M : Type 1} → statement M
 check-reduction-spec =
     tie.close
     (tie.spec
-    add-i
-    mul-i
-    shared-slice-copy-out-i
-    antecedent-of-requires
-    enum-told
-    enum-known-number
-    table-of-requires
+    (λ c. search needs)
+    (λ c. search needs)
+    (λ c. search needs)
+    (λ c κs. search needs)
+    (λ c. search needs)
+    (λ c. search needs)
+    (λ c κs. search needs)
     start-of-requires
     reduce-fields-requires
     returns
-    same-length
+    (λ c. search needs)
     returns-2)

@@ -31,27 +31,6 @@ held-at c =
     let e : toZ w32 (ofZ w32 word) ≡ word = search needs in
     rw e at (c .has-word .ensures)
 
-sub-universal-of : tie.Need-sub-universal-of
-sub-universal-of c = search needs
-
-part-universal-of-start : tie.Need-part-universal-of-start
-part-universal-of-start c = search needs
-
-part-universal-of-end : tie.Need-part-universal-of-end
-part-universal-of-end c = search needs
-
-universal-of-requires : tie.Need-universal-of-requires
-universal-of-requires c κs = search needs
-
-enum-told : tie.Need-enum-told
-enum-told c = search needs
-
-enum-known-variable : tie.Need-enum-known-variable
-enum-known-variable c = search needs
-
-has-word-requires : tie.Need-has-word-requires
-has-word-requires c κs = search needs
-
 reduce-on-requires : tie.Need-reduce-on-requires
 reduce-on-requires c κs =
     let found = c .before .before .before .before .before .before in
@@ -68,9 +47,6 @@ reduce-on-requires c κs =
       ),
     )
 
-same-length : tie.Need-same-length
-same-length c = search needs
-
 returns : tie.Need-returns
 returns c =
     let called = c .before .before in
@@ -81,16 +57,10 @@ returns c =
     let fit : Within (held .before .before .variable .given .0 .0) ≡ universalOf (kindsIn (start .args .scratch .now)) (wordOf word) = sym (held .before .before .variable .given .1) ∙ fit-at found in
     rw (← fit, ← held-at held, called .before .before .if1 .taken) (called .reduce-on .ensures)
 
-same-length-2 : tie.Need-same-length-2
-same-length-2 c = search needs
-
 returns-2 : tie.Need-returns-2
 returns-2 c =
     let fit = sym (c .enum-told .given .1) ∙ fit-at (c .before .before) in
     rw (← fit) (record { answer = refl; kept = refl })
-
-same-length-3 : tie.Need-same-length-3
-same-length-3 c = search needs
 
 returns-3 : tie.Need-returns-3
 returns-3 c =
@@ -105,17 +75,17 @@ pub reduce-literal-spec : {M : Type 1} → statement M
 reduce-literal-spec =
     tie.close
     (tie.spec
-    sub-universal-of
-    part-universal-of-start
-    part-universal-of-end
-    universal-of-requires
-    enum-told
-    enum-known-variable
-    has-word-requires
+    (λ c. search needs)
+    (λ c. search needs)
+    (λ c. search needs)
+    (λ c κs. search needs)
+    (λ c. search needs)
+    (λ c. search needs)
+    (λ c κs. search needs)
     reduce-on-requires
-    same-length
+    (λ c. search needs)
     returns
-    same-length-2
+    (λ c. search needs)
     returns-2
-    same-length-3
+    (λ c. search needs)
     returns-3)

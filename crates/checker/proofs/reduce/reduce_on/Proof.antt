@@ -29,9 +29,6 @@ blocked-at c =
     (rw row at (c .row-touches .ensures))
     ∙ row-blocked (start .args .prefix .now) (start .args .clauses .now) (start .args .variable .0) (clauseAt (start .args .words .now) (start .args .from)) (start .pre .1 .1 .1)
 
-slice-relend-prefix-universal-row : tie.Need-slice-relend-prefix-universal-row
-slice-relend-prefix-universal-row c = search needs
-
 slice-aggregate-universal-row : tie.Need-slice-aggregate-universal-row
 slice-aggregate-universal-row c = sym (first-part (c .before .before .args .scratch .now) (c .before .before .pre .0))
 
@@ -40,42 +37,15 @@ universal-row-requires c κs =
     let start = c .before .before in
     (start .pre .1 .0, (start .pre .1 .1 .0, first-part (start .args .scratch .now) (start .pre .0)))
 
-sub-row-touches : tie.Need-sub-row-touches
-sub-row-touches c = search needs
-
-part-row-touches-start : tie.Need-part-row-touches-start
-part-row-touches-start c = search needs
-
-part-row-touches-end : tie.Need-part-row-touches-end
-part-row-touches-end c = search needs
-
-row-touches-requires : tie.Need-row-touches-requires
-row-touches-requires c κs = search needs
-
-same-length : tie.Need-same-length
-same-length c = search needs
-
 returns : tie.Need-returns
 returns c =
     let start = c .before .before .before .before .before .before .before .before .before in
     rw (← blocked-at (c .before), c .if1 .taken) (record { answer = refl; kept = kept-at (c .before .before .before .before .before .before) })
 
-sub-judge-reduct : tie.Need-sub-judge-reduct
-sub-judge-reduct c = search needs
-
-part-judge-reduct-start : tie.Need-part-judge-reduct-start
-part-judge-reduct-start c = search needs
-
-part-judge-reduct-end : tie.Need-part-judge-reduct-end
-part-judge-reduct-end c = search needs
-
 judge-reduct-requires : tie.Need-judge-reduct-requires
 judge-reduct-requires c κs =
     let start = c .before .before .before .before .before .before .before .before .before .before in
     (ap (take 2050) (kept-at (c .before .before .before .before .before .before .before)) ∙ start .pre .0 .marks, start .pre .1 .1 .1)
-
-same-length-2 : tie.Need-same-length-2
-same-length-2 c = search needs
 
 returns-2 : tie.Need-returns-2
 returns-2 c =
@@ -91,18 +61,18 @@ pub reduce-on-spec : {M : Type 1} → statement M
 reduce-on-spec =
     tie.close
     (tie.spec
-    slice-relend-prefix-universal-row
+    (λ c. search needs)
     slice-aggregate-universal-row
     universal-row-requires
-    sub-row-touches
-    part-row-touches-start
-    part-row-touches-end
-    row-touches-requires
-    same-length
+    (λ c. search needs)
+    (λ c. search needs)
+    (λ c. search needs)
+    (λ c κs. search needs)
+    (λ c. search needs)
     returns
-    sub-judge-reduct
-    part-judge-reduct-start
-    part-judge-reduct-end
+    (λ c. search needs)
+    (λ c. search needs)
+    (λ c. search needs)
     judge-reduct-requires
-    same-length-2
+    (λ c. search needs)
     returns-2)

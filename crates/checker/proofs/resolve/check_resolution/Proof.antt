@@ -29,42 +29,6 @@ second-at c =
     let e : toZ w32 (ofZ w32 word) ≡ word = read-back word (c .before .j .given) in
     rw e at (c .antecedent-of2 .ensures)
 
-add-i : tie.Need-add-i
-add-i c = search needs
-
-mul-i : tie.Need-mul-i
-mul-i c = search needs
-
-shared-slice-copy-out-i : tie.Need-shared-slice-copy-out-i
-shared-slice-copy-out-i c = search needs
-
-antecedent-of-requires : tie.Need-antecedent-of-requires
-antecedent-of-requires c κs = search needs
-
-enum-told : tie.Need-enum-told
-enum-told c = search needs
-
-enum-known-left : tie.Need-enum-known-left
-enum-known-left c = search needs
-
-add-j : tie.Need-add-j
-add-j c = search needs
-
-mul-j : tie.Need-mul-j
-mul-j c = search needs
-
-shared-slice-copy-out-j : tie.Need-shared-slice-copy-out-j
-shared-slice-copy-out-j c = search needs
-
-antecedent-of-requires-2 : tie.Need-antecedent-of-requires-2
-antecedent-of-requires-2 c κs = search needs
-
-enum-told-2 : tie.Need-enum-told-2
-enum-told-2 c = search needs
-
-enum-known-right : tie.Need-enum-known-right
-enum-known-right c = search needs
-
 -- the numbers are in range
 first-number : (c : tie.After-known-told) → (1 ≤ c .before .left .given .0 .0 .0) × (c .before .left .given .0 .0 .0 ≤ c .before .before .before .before .before .before .before .args .known)
 first-number c =
@@ -118,9 +82,6 @@ returns-2 c =
     let e = number-no-antecedent (start .args .inputs) (start .args .clauses .now) (start .args .steps .now) (start .args .starts .now) (start .args .known) (getD (start .args .steps .now) (start .args .at + 2) (pos 0)) (sym (c .enum-told2 .given .1) ∙ second-at second) in
     rw (d, e) (record { answer = refl; kept = refl })
 
-same-length : tie.Need-same-length
-same-length c = search needs
-
 returns-3 : tie.Need-returns-3
 returns-3 c =
     let called = c .before .before in
@@ -135,20 +96,20 @@ pub check-resolution-spec : {M : Type 1} → statement M
 check-resolution-spec =
     tie.close
     (tie.spec
-    add-i
-    mul-i
-    shared-slice-copy-out-i
-    antecedent-of-requires
-    enum-told
-    enum-known-left
-    add-j
-    mul-j
-    shared-slice-copy-out-j
-    antecedent-of-requires-2
-    enum-told-2
-    enum-known-right
+    (λ c. search needs)
+    (λ c. search needs)
+    (λ c. search needs)
+    (λ c κs. search needs)
+    (λ c. search needs)
+    (λ c. search needs)
+    (λ c. search needs)
+    (λ c. search needs)
+    (λ c. search needs)
+    (λ c κs. search needs)
+    (λ c. search needs)
+    (λ c. search needs)
     resolve-fields-requires
     returns
     returns-2
-    same-length
+    (λ c. search needs)
     returns-3)

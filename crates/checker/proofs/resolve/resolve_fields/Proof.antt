@@ -24,61 +24,16 @@ fit-at c =
     let e : toZ w32 (ofZ w32 word) ≡ word = read-back word (c .before .before .before .word .given) in
     rw e at (c .existential-of .ensures)
 
-add-word : tie.Need-add-word
-add-word c = search needs
-
-mul-word : tie.Need-mul-word
-mul-word c = search needs
-
-shared-slice-copy-out-word : tie.Need-shared-slice-copy-out-word
-shared-slice-copy-out-word c = search needs
-
-sub-existential-of : tie.Need-sub-existential-of
-sub-existential-of c = search needs
-
-part-existential-of-start : tie.Need-part-existential-of-start
-part-existential-of-start c = search needs
-
-part-existential-of-end : tie.Need-part-existential-of-end
-part-existential-of-end c = search needs
-
-existential-of-requires : tie.Need-existential-of-requires
-existential-of-requires c κs = search needs
-
-enum-told : tie.Need-enum-told
-enum-told c = search needs
-
-enum-known-pivot : tie.Need-enum-known-pivot
-enum-known-pivot c = search needs
-
-add-resolve-numbered : tie.Need-add-resolve-numbered
-add-resolve-numbered c = search needs
-
-sub-resolve-numbered : tie.Need-sub-resolve-numbered
-sub-resolve-numbered c = search needs
-
-part-resolve-numbered-start : tie.Need-part-resolve-numbered-start
-part-resolve-numbered-start c = search needs
-
-part-resolve-numbered-end : tie.Need-part-resolve-numbered-end
-part-resolve-numbered-end c = search needs
-
 resolve-numbered-requires : tie.Need-resolve-numbered-requires
 resolve-numbered-requires c κs =
     let start = c .before .before .before .before .before .before .before .before .before .before in
     let fit = sym (c .before .before .pivot .given .1) ∙ fit-at (c .before .before .before .before) in
     (start .pre .0 .marks, (existential-bound _ _ (c .before .before .pivot .given .0 .0) fit, start .pre .1 .1))
 
-same-length : tie.Need-same-length
-same-length c = search needs
-
 returns : tie.Need-returns
 returns c =
     let fit = sym (c .enum-told .given .1) ∙ fit-at (c .before .before) in
     rw (← fit) (record { answer = refl; kept = refl })
-
-same-length-2 : tie.Need-same-length-2
-same-length-2 c = search needs
 
 returns-2 : tie.Need-returns-2
 returns-2 c =
@@ -97,21 +52,21 @@ pub resolve-fields-spec : {M : Type 1} → statement M
 resolve-fields-spec =
     tie.close
     (tie.spec
-    add-word
-    mul-word
-    shared-slice-copy-out-word
-    sub-existential-of
-    part-existential-of-start
-    part-existential-of-end
-    existential-of-requires
-    enum-told
-    enum-known-pivot
-    add-resolve-numbered
-    sub-resolve-numbered
-    part-resolve-numbered-start
-    part-resolve-numbered-end
+    (λ c. search needs)
+    (λ c. search needs)
+    (λ c. search needs)
+    (λ c. search needs)
+    (λ c. search needs)
+    (λ c. search needs)
+    (λ c κs. search needs)
+    (λ c. search needs)
+    (λ c. search needs)
+    (λ c. search needs)
+    (λ c. search needs)
+    (λ c. search needs)
+    (λ c. search needs)
     resolve-numbered-requires
-    same-length
+    (λ c. search needs)
     returns
-    same-length-2
+    (λ c. search needs)
     returns-2)

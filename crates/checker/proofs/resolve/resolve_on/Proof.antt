@@ -26,25 +26,13 @@ right-at c =
     let f : toZ w32 (ofZ w32 (negℤ e)) ≡ negℤ e = toZ-ofZ (opposite-word-fits (start .args .pivot .0) (start .pre .1 .0)) in
     rw (n, f) at (c .has-word2 .ensures)
 
-literal-requires : tie.Need-literal-requires
-literal-requires c κs = search needs
-
-has-word-requires : tie.Need-has-word-requires
-has-word-requires c κs = search needs
-
 negated-requires : tie.Need-negated-requires
 negated-requires c κs =
     let start = c .before .before .before .before .before in
     rw (c .before .before .before .literal .ensures) (start .pre .1 .0)
 
-has-word-requires-2 : tie.Need-has-word-requires-2
-has-word-requires-2 c κs = search needs
-
 judge-resolvent-requires : tie.Need-judge-resolvent-requires
 judge-resolvent-requires c κs = c .before .before .before .before .before .before .before .before .before .before .pre
-
-same-length : tie.Need-same-length
-same-length c = search needs
 
 returns : tie.Need-returns
 returns c =
@@ -64,12 +52,12 @@ pub resolve-on-spec : {M : Type 1} → statement M
 resolve-on-spec =
     tie.close
     (tie.spec
-    literal-requires
-    has-word-requires
+    (λ c κs. search needs)
+    (λ c κs. search needs)
     negated-requires
-    has-word-requires-2
+    (λ c κs. search needs)
     judge-resolvent-requires
-    same-length
+    (λ c. search needs)
     returns
     returns-2
     returns-3)

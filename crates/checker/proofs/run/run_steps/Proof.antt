@@ -30,9 +30,6 @@ check-step-requires c κs =
     let g = l .inv .0 in
     (g .ready, (start .pre .1 .0, (c .before .before .loop-test .taken, (omega (arith, g .fits, g .room-is), g .in-range))))
 
-enum-known-reason : tie.Need-enum-known-reason Inv-loop μ-loop
-enum-known-reason c = search needs
-
 add-t19 : tie.Need-add-t19 Inv-loop μ-loop
 add-t19 c =
     let l = c .before .before .before .before .before .before .before .before .before .loop in
@@ -55,9 +52,6 @@ returns c =
     let at = called .before .before .before .before in
     let start = at .before .before .before in
     going-refused (start .args .prefix .now) (start .args .clauses .now) (start .args .steps .now) (start .args .inputs) (length (start .args .starts .now)) (at .loop .scratch) (at .loop .starts) (at .loop .known) (at .loop .at) (at .loop .inv .0) (c .before .reason .given .0 .0) (called .before .before .before .loop-test .taken) (sym (c .before .reason .given .1) ∙ called .check-step .ensures .answer)
-
-enum-known-list : tie.Need-enum-known-list Inv-loop μ-loop
-enum-known-list c = search needs
 
 -- the step that was taken
 taken-at : (c : tie.After-known-told2 Inv-loop μ-loop) → Taken (scopeOf (c .before .before .before .before .before .before .before .before .before .before .before .before .args .prefix .now) (c .before .before .before .before .before .before .before .before .before .before .before .before .args .clauses .now)) (length (c .before .before .before .before .before .before .before .before .before .loop .starts)) (stored (c .before .before .before .before .before .before .before .before .before .before .before .before .args .inputs) (c .before .before .before .before .before .before .before .before .before .before .before .before .args .clauses .now) (c .before .before .before .before .before .before .before .before .before .before .before .before .args .steps .now) (c .before .before .before .before .before .before .before .before .before .loop .starts) (c .before .before .before .before .before .before .before .before .before .loop .known)) (c .before .before .before .before .before .before .before .before .before .before .before .before .args .steps .now) (c .before .before .before .before .before .before .before .before .before .loop .at) (c .before .list .given .0 .0) (c .before .list .given .0 .1 .0)
@@ -124,12 +118,12 @@ run-steps-spec =
     μ-loop
     loop-holds
     check-step-requires
-    enum-known-reason
+    (λ c. search needs)
     add-t19
     same-length
     same-length-2
     returns
-    enum-known-list
+    (λ c. search needs)
     cast-starts
     mul-starts
     slice-write-starts

@@ -45,15 +45,6 @@ reduced-at c =
     let kinds = ready-kinds (start .args .prefix .now) (start .args .scratch .now) (start .pre .0) in
     (rw kinds at (c .check-reduction .ensures .answer)) ∙ ap judgementOf (reduction-judged (start .args .prefix .now) (start .args .clauses .now) (start .pre .1 .0) _ _ _)
 
-read-step-requires : tie.Need-read-step-requires
-read-step-requires c κs = search needs
-
-enum-told : tie.Need-enum-told
-enum-told c = search needs
-
-enum-known-next : tie.Need-enum-known-next
-enum-known-next c = search needs
-
 returns : tie.Need-returns
 returns c =
     let read = c .before in
@@ -65,18 +56,6 @@ check-resolution-requires c κs =
     let read = c .before .before in
     let start = read .before .before .before .before .before .before in
     (ready-clean (start .args .prefix .now) (start .args .scratch .now) (start .pre .0), (resolution-at read .fields, (start .pre .1 .1 .1 .0, start .pre .1 .1 .1 .1)))
-
-enum-told-2 : tie.Need-enum-told-2
-enum-told-2 c = search needs
-
-add-t23 : tie.Need-add-t23
-add-t23 c = search needs
-
-enum-known-reason : tie.Need-enum-known-reason
-enum-known-reason c = search needs
-
-enum-known-next-2 : tie.Need-enum-known-next-2
-enum-known-next-2 c = search needs
 
 returns-2 : tie.Need-returns-2
 returns-2 c =
@@ -90,22 +69,10 @@ check-reduction-requires c κs =
     let start = read .before .before .before .before .before .before in
     (start .pre .0, (start .pre .1 .0, (reduction-at read .fields, (start .pre .1 .1 .1 .0, start .pre .1 .1 .1 .1))))
 
-enum-told-3 : tie.Need-enum-told-3
-enum-told-3 c = search needs
-
-add-t31 : tie.Need-add-t31
-add-t31 c = search needs
-
-enum-known-reason-2 : tie.Need-enum-known-reason-2
-enum-known-reason-2 c = search needs
-
 returns-3 : tie.Need-returns-3
 returns-3 c =
     let start = c .before .before .before .before .before in
     record { answer = step-broken (scopeOf (start .args .prefix .now) (start .args .clauses .now)) (length (start .args .starts .now)) (known-at start) (drop (start .args .at) (start .args .steps .now)) (start .args .at) (broken-shape (start .args .at) _ (sym (c .enum-told .given .1) ∙ c .before .before .read-step .ensures)); kept = refl }
-
-same-length : tie.Need-same-length
-same-length c = search needs
 
 returns-4 : tie.Need-returns-4
 returns-4 c =
@@ -118,9 +85,6 @@ returns-4 c =
       kept = called .check-resolution .ensures .kept;
     }
 
-same-length-2 : tie.Need-same-length-2
-same-length-2 c = search needs
-
 returns-5 : tie.Need-returns-5
 returns-5 c =
     let called = c .before .before .before .before .before in
@@ -132,9 +96,6 @@ returns-5 c =
       kept = called .check-resolution .ensures .kept;
     }
 
-same-length-3 : tie.Need-same-length-3
-same-length-3 c = search needs
-
 returns-6 : tie.Need-returns-6
 returns-6 c =
     let called = c .before .before .before .before in
@@ -145,9 +106,6 @@ returns-6 c =
       answer = rw (reduction-at read .after) (step-right (scopeOf (start .args .prefix .now) (start .args .clauses .now)) (length (start .args .starts .now)) (known-at start) (drop (start .args .at) (start .args .steps .now)) (start .args .at) (reductionAt (start .args .steps .now) (start .args .at)) (reduction-at read .was-read) (omega (arith, count-at start, called .before .before .if2 .left)) right);
       kept = called .check-reduction .ensures .kept;
     }
-
-same-length-4 : tie.Need-same-length-4
-same-length-4 c = search needs
 
 returns-7 : tie.Need-returns-7
 returns-7 c =
@@ -164,26 +122,26 @@ pub check-step-spec : {M : Type 1} → statement M
 check-step-spec =
     tie.close
     (tie.spec
-    read-step-requires
-    enum-told
-    enum-known-next
+    (λ c κs. search needs)
+    (λ c. search needs)
+    (λ c. search needs)
     returns
     check-resolution-requires
-    enum-told-2
-    add-t23
-    enum-known-reason
-    enum-known-next-2
+    (λ c. search needs)
+    (λ c. search needs)
+    (λ c. search needs)
+    (λ c. search needs)
     returns-2
     check-reduction-requires
-    enum-told-3
-    add-t31
-    enum-known-reason-2
+    (λ c. search needs)
+    (λ c. search needs)
+    (λ c. search needs)
     returns-3
-    same-length
+    (λ c. search needs)
     returns-4
-    same-length-2
+    (λ c. search needs)
     returns-5
-    same-length-3
+    (λ c. search needs)
     returns-6
-    same-length-4
+    (λ c. search needs)
     returns-7)

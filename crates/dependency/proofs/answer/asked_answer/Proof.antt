@@ -27,30 +27,12 @@ other c h = not-asked (c .before .args .prefix .now) (c .before .pre) (c .before
 asked : (c : tie.After-kind) → universalAsked (c .before .before .before .args .prefix .now) (c .before .before .before .args .variable) ≡ isUniversal (c .before .before .before .args .prefix .now) (c .kind .given .0 .0 .0)
 asked c = asked-variable (c .before .before .before .args .prefix .now) (c .before .before .before .args .variable) (c .kind .given .0 .0) (sym (told (c .before .before)) ∙ c .kind .given .1)
 
-of-requires : tie.Need-of-requires
-of-requires c κs = search needs
-
-enum-told : tie.Need-enum-told
-enum-told c = search needs
-
-enum-told-2 : tie.Need-enum-told-2
-enum-told-2 c = search needs
-
-enum-known-kind : tie.Need-enum-known-kind
-enum-known-kind c = search needs
-
 is-universal-requires : tie.Need-is-universal-requires
 is-universal-requires c κs = positive-bounded _ _ (sym (told (c .before .before .before)) ∙ c .before .kind .given .1)
-
-room-answer-requires : tie.Need-room-answer-requires
-room-answer-requires c κs = search needs
 
 returns : tie.Need-returns
 returns c =
     rw (asked (c .before .before .before .before) ∙ sym (c .before .before .is-universal .ensures) ∙ c .before .if1 .taken) (c .room-answer .ensures)
-
-enum-told-3 : tie.Need-enum-told-3
-enum-told-3 c = search needs
 
 returns-2 : tie.Need-returns-2
 returns-2 c = let e = c .enum-told .given .1 in rw (other (c .before .before) (λ v k. let z : _≡_ {A = ℕ} 0 1 = cc in absurd (omega arith)))
@@ -68,14 +50,14 @@ pub asked-answer-spec : {M : Type 1} → statement M
 asked-answer-spec =
     tie.close
     (tie.spec
-    of-requires
-    enum-told
-    enum-told-2
-    enum-known-kind
+    (λ c κs. search needs)
+    (λ c. search needs)
+    (λ c. search needs)
+    (λ c. search needs)
     is-universal-requires
-    room-answer-requires
+    (λ c κs. search needs)
     returns
-    enum-told-3
+    (λ c. search needs)
     returns-2
     returns-3
     returns-4

@@ -55,34 +55,10 @@ universal-is c =
     let a = c .before .before .before .before .before .before .args in
     rw (number-is c) (sym (asked-variable (a .prefix .now) (a .variable) (record { 0 = natAbs (a .variable) }) (word-is (c .before))) ∙ allowed (c .before) .asked)
 
-row-answer-requires : tie.Need-row-answer-requires
-row-answer-requires c κs = search needs
-
-enum-told : tie.Need-enum-told
-enum-told c = search needs
-
-variable-of-requires : tie.Need-variable-of-requires
-variable-of-requires c κs = search needs
-
 write-row-requires : tie.Need-write-row-requires
 write-row-requires c κs =
     let g = allowed (c .before .before .before) in
     (g .admitted, (universal-is (c .before .before), (g .row-room, g .scratch-room)))
-
-enum-known-answer : tie.Need-enum-known-answer
-enum-known-answer c = search needs
-
-clear-bytes-requires : tie.Need-clear-bytes-requires
-clear-bytes-requires c κs = search needs
-
-clear-bytes-requires-2 : tie.Need-clear-bytes-requires-2
-clear-bytes-requires-2 c κs = search needs
-
-same-length : tie.Need-same-length
-same-length c = search needs
-
-same-length-2 : tie.Need-same-length-2
-same-length-2 c = search needs
 
 returns : tie.Need-returns
 returns c =
@@ -94,12 +70,6 @@ returns c =
       filled = rw (e, ← number-is (c .before .before .before .before .before .before .before)) (written .write-row .ensures .row-bytes);
       cleared = written .write-row .ensures .scratch-bytes;
     }
-
-same-length-3 : tie.Need-same-length-3
-same-length-3 c = search needs
-
-same-length-4 : tie.Need-same-length-4
-same-length-4 c = search needs
 
 returns-2 : tie.Need-returns-2
 unfolding clearFrom
@@ -117,16 +87,16 @@ pub dependency-row-spec : {M : Type 1} → statement M
 dependency-row-spec =
     tie.close
     (tie.spec
-    row-answer-requires
-    enum-told
-    variable-of-requires
+    (λ c κs. search needs)
+    (λ c. search needs)
+    (λ c κs. search needs)
     write-row-requires
-    enum-known-answer
-    clear-bytes-requires
-    clear-bytes-requires-2
-    same-length
-    same-length-2
+    (λ c. search needs)
+    (λ c κs. search needs)
+    (λ c κs. search needs)
+    (λ c. search needs)
+    (λ c. search needs)
     returns
-    same-length-3
-    same-length-4
+    (λ c. search needs)
+    (λ c. search needs)
     returns-2)

@@ -35,27 +35,12 @@ told c =
 loop-holds : tie.Need-loop-holds Inv-loop μ-loop
 loop-holds c = refl
 
-mul-negates : tie.Need-mul-negates Inv-loop μ-loop
-mul-negates c = search needs
-
-shared-slice-copy-out-negates : tie.Need-shared-slice-copy-out-negates Inv-loop μ-loop
-shared-slice-copy-out-negates c = search needs
-
-negates-requires : tie.Need-negates-requires Inv-loop μ-loop
-negates-requires c κs = search needs
-
 returns : tie.Need-returns Inv-loop μ-loop
 unfolding isUniversal
 returns c =
     let l = c .before .before .before .before .loop in
     let e = rw (drop-cons (words (c .before .before .before .before)) (l .i) (pos 0) (search needs)) at (l .inv) in
     rw (sym (told (c .before)) ∙ c .if1 .taken) at e
-
-add-i : tie.Need-add-i Inv-loop μ-loop
-add-i c = search needs
-
-loop-less : tie.Need-loop-less Inv-loop μ-loop
-loop-less c = search needs
 
 loop-again : tie.Need-loop-again Inv-loop μ-loop
 unfolding isUniversal
@@ -78,11 +63,11 @@ is-universal-spec =
     Inv-loop
     μ-loop
     loop-holds
-    mul-negates
-    shared-slice-copy-out-negates
-    negates-requires
+    (λ c. search needs)
+    (λ c. search needs)
+    (λ c κs. search needs)
     returns
-    add-i
-    loop-less
+    (λ c. search needs)
+    (λ c. search needs)
     loop-again
     returns-2)

@@ -11,9 +11,6 @@ use Rattle.dependency.specs.Row.Answer.{row-part, row-cleared}
 use Rattle.dependency.proofs.answer.write_row.Statement.{statement}
 use Rattle.dependency.proofs.answer.write_row.Tie as tie
 
-slice-relend-prefix-make-row : tie.Need-slice-relend-prefix-make-row
-slice-relend-prefix-make-row c = search needs
-
 slice-aggregate-make-row : tie.Need-slice-aggregate-make-row
 slice-aggregate-make-row c = sym (length-take-le 5125 (c .before .before .before .args .scratch .now) (omega arith))
 
@@ -21,30 +18,6 @@ make-row-requires : tie.Need-make-row-requires
 make-row-requires c κs =
     let start = c .before .before .before in
     (start .pre .0, (start .pre .1 .0, length-take-le 5125 (start .args .scratch .now) (omega arith)))
-
-sub-copy-row : tie.Need-sub-copy-row
-sub-copy-row c = search needs
-
-part-copy-row-start : tie.Need-part-copy-row-start
-part-copy-row-start c = search needs
-
-part-copy-row-end : tie.Need-part-copy-row-end
-part-copy-row-end c = search needs
-
-copy-row-requires : tie.Need-copy-row-requires
-copy-row-requires c κs = search needs
-
-clear-bytes-requires : tie.Need-clear-bytes-requires
-clear-bytes-requires c κs = search needs
-
-clear-bytes-requires-2 : tie.Need-clear-bytes-requires-2
-clear-bytes-requires-2 c κs = search needs
-
-same-length : tie.Need-same-length
-same-length c = search needs
-
-same-length-2 : tie.Need-same-length-2
-same-length-2 c = search needs
 
 returns : tie.Need-returns
 unfolding clearFrom
@@ -70,15 +43,15 @@ pub write-row-spec : {M : Type 1} → statement M
 write-row-spec =
     tie.close
     (tie.spec
-    slice-relend-prefix-make-row
+    (λ c. search needs)
     slice-aggregate-make-row
     make-row-requires
-    sub-copy-row
-    part-copy-row-start
-    part-copy-row-end
-    copy-row-requires
-    clear-bytes-requires
-    clear-bytes-requires-2
-    same-length
-    same-length-2
+    (λ c. search needs)
+    (λ c. search needs)
+    (λ c. search needs)
+    (λ c κs. search needs)
+    (λ c κs. search needs)
+    (λ c κs. search needs)
+    (λ c. search needs)
+    (λ c. search needs)
     returns)

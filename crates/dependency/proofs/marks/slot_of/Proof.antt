@@ -23,26 +23,11 @@ positive-at c = positive-bounded _ _ (sym (told (c .before .before)) ∙ c .kind
 negative-at : (c : tie.After-kind2) → c .kind2 .given .0 .0 .0 ≤ variableBound
 negative-at c = negative-bounded _ _ (sym (told (c .before .before)) ∙ c .kind2 .given .1)
 
-of-requires : tie.Need-of-requires
-of-requires c κs = search needs
-
-enum-told : tie.Need-enum-told
-enum-told c = search needs
-
-enum-told-2 : tie.Need-enum-told-2
-enum-told-2 c = search needs
-
-enum-known-kind : tie.Need-enum-known-kind
-enum-known-kind c = search needs
-
 mul-result : tie.Need-mul-result
 mul-result c = omega (arith, positive-at (c .before .before))
 
 add-result : tie.Need-add-result
 add-result c = omega (arith, positive-at (c .before .before))
-
-enum-known-kind-2 : tie.Need-enum-known-kind-2
-enum-known-kind-2 c = search needs
 
 mul-result-2 : tie.Need-mul-result-2
 mul-result-2 c = omega (arith, negative-at (c .before .before))
@@ -70,13 +55,13 @@ pub slot-of-spec : {M : Type 1} → statement M
 slot-of-spec =
     tie.close
     (tie.spec
-    of-requires
-    enum-told
-    enum-told-2
-    enum-known-kind
+    (λ c κs. search needs)
+    (λ c. search needs)
+    (λ c. search needs)
+    (λ c. search needs)
     mul-result
     add-result
-    enum-known-kind-2
+    (λ c. search needs)
     mul-result-2
     add-result-2
     returns

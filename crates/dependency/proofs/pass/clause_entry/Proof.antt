@@ -45,15 +45,6 @@ step c =
 loop-holds : tie.Need-loop-holds Inv-loop μ-loop
 loop-holds c = refl
 
-mul-word : tie.Need-mul-word Inv-loop μ-loop
-mul-word c = search needs
-
-shared-slice-copy-out-word : tie.Need-shared-slice-copy-out-word Inv-loop μ-loop
-shared-slice-copy-out-word c = search needs
-
-closes-requires : tie.Need-closes-requires Inv-loop μ-loop
-closes-requires c κs = search needs
-
 returns : tie.Need-returns Inv-loop μ-loop
 unfolding clauseEntry
 returns c =
@@ -61,17 +52,8 @@ returns c =
     let l = c .before .before .before .before .loop in
     rw (first-clause-closing (c .before .before .before .before .before .before .args .clauses .now) (l .i) (pos 0) (search needs) k) at (l .inv)
 
-see-word-requires : tie.Need-see-word-requires Inv-loop μ-loop
-see-word-requires c κs = search needs
-
 returns-2 : tie.Need-returns-2 Inv-loop μ-loop
 returns-2 c = c .if2 .taken ∙ sym (clause-entry-several _ _) ∙ (rw (c .if2 .taken) at (step (c .before)))
-
-add-i : tie.Need-add-i Inv-loop μ-loop
-add-i c = search needs
-
-loop-less : tie.Need-loop-less Inv-loop μ-loop
-loop-less c = search needs
 
 loop-again : tie.Need-loop-again Inv-loop μ-loop
 loop-again c = step (c .before)
@@ -89,13 +71,13 @@ clause-entry-spec =
     Inv-loop
     μ-loop
     loop-holds
-    mul-word
-    shared-slice-copy-out-word
-    closes-requires
+    (λ c. search needs)
+    (λ c. search needs)
+    (λ c κs. search needs)
     returns
-    see-word-requires
+    (λ c κs. search needs)
     returns-2
-    add-i
-    loop-less
+    (λ c. search needs)
+    (λ c. search needs)
     loop-again
     returns-3)

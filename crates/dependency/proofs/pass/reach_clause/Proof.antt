@@ -53,21 +53,6 @@ reached c =
 loop-holds : tie.Need-loop-holds Inv-loop μ-loop
 loop-holds c = (refl, refl, search needs, refl)
 
-mul-word : tie.Need-mul-word Inv-loop μ-loop
-mul-word c = search needs
-
-shared-slice-copy-out-word : tie.Need-shared-slice-copy-out-word Inv-loop μ-loop
-shared-slice-copy-out-word c = search needs
-
-add-i : tie.Need-add-i Inv-loop μ-loop
-add-i c = search needs
-
-closes-requires : tie.Need-closes-requires Inv-loop μ-loop
-closes-requires c κs = search needs
-
-same-length : tie.Need-same-length Inv-loop μ-loop
-same-length c = search needs
-
 returns : tie.Need-returns Inv-loop μ-loop
 unfolding reachClause
 returns c =
@@ -83,9 +68,6 @@ returns c =
 reach-word-requires : tie.Need-reach-word-requires Inv-loop μ-loop
 reach-word-requires c κs = c .before .before .before .before .before .loop .inv .3 ∙ c .before .before .before .before .before .before .before .pre
 
-loop-less : tie.Need-loop-less Inv-loop μ-loop
-loop-less c = search needs
-
 loop-again : tie.Need-loop-again Inv-loop μ-loop
 unfolding reachClause
 loop-again c =
@@ -97,9 +79,6 @@ loop-again c =
       search needs,
       c .before .before .reach-word .kept .1 .1 .0 ∙ l .inv .3,
     )
-
-same-length-2 : tie.Need-same-length-2 Inv-loop μ-loop
-same-length-2 c = search needs
 
 returns-2 : tie.Need-returns-2 Inv-loop μ-loop
 unfolding reachClause
@@ -119,14 +98,14 @@ reach-clause-spec =
     Inv-loop
     μ-loop
     loop-holds
-    mul-word
-    shared-slice-copy-out-word
-    add-i
-    closes-requires
-    same-length
+    (λ c. search needs)
+    (λ c. search needs)
+    (λ c. search needs)
+    (λ c κs. search needs)
+    (λ c. search needs)
     returns
     reach-word-requires
-    loop-less
+    (λ c. search needs)
     loop-again
-    same-length-2
+    (λ c. search needs)
     returns-2)

@@ -22,45 +22,6 @@ loop-holds : tie.Need-loop-holds Inv-loop μ-loop
 unfolding rowFrom
 loop-holds c = (refl, refl, search needs, search needs)
 
-mul-at : tie.Need-mul-at Inv-loop μ-loop
-mul-at c = search needs
-
-add-depends-byte : tie.Need-add-depends-byte Inv-loop μ-loop
-add-depends-byte c = search needs
-
-slice-read-depends-byte : tie.Need-slice-read-depends-byte Inv-loop μ-loop
-slice-read-depends-byte c = search needs
-
-add-depends-byte-2 : tie.Need-add-depends-byte-2 Inv-loop μ-loop
-add-depends-byte-2 c = search needs
-
-slice-read-depends-byte-2 : tie.Need-slice-read-depends-byte-2 Inv-loop μ-loop
-slice-read-depends-byte-2 c = search needs
-
-slice-read-depends-byte-3 : tie.Need-slice-read-depends-byte-3 Inv-loop μ-loop
-slice-read-depends-byte-3 c = search needs
-
-add-depends-byte-3 : tie.Need-add-depends-byte-3 Inv-loop μ-loop
-add-depends-byte-3 c = search needs
-
-slice-read-depends-byte-4 : tie.Need-slice-read-depends-byte-4 Inv-loop μ-loop
-slice-read-depends-byte-4 c = search needs
-
-depends-byte-requires : tie.Need-depends-byte-requires Inv-loop μ-loop
-depends-byte-requires c κs = search needs
-
-add-work : tie.Need-add-work Inv-loop μ-loop
-add-work c = search needs
-
-slice-write-work : tie.Need-slice-write-work Inv-loop μ-loop
-slice-write-work c = search needs
-
-add-e : tie.Need-add-e Inv-loop μ-loop
-add-e c = search needs
-
-loop-less : tie.Need-loop-less Inv-loop μ-loop
-loop-less c = search needs
-
 loop-again : tie.Need-loop-again Inv-loop μ-loop
 unfolding rowFrom
 loop-again c =
@@ -74,9 +35,6 @@ loop-again c =
       simp length-set (l .inv .2),
       search needs,
     )
-
-same-length : tie.Need-same-length Inv-loop μ-loop
-same-length c = search needs
 
 returns : tie.Need-returns Inv-loop μ-loop
 returns c =
@@ -93,19 +51,19 @@ fill-row-spec =
     Inv-loop
     μ-loop
     loop-holds
-    mul-at
-    add-depends-byte
-    slice-read-depends-byte
-    add-depends-byte-2
-    slice-read-depends-byte-2
-    slice-read-depends-byte-3
-    add-depends-byte-3
-    slice-read-depends-byte-4
-    depends-byte-requires
-    add-work
-    slice-write-work
-    add-e
-    loop-less
+    (λ c. search needs)
+    (λ c. search needs)
+    (λ c. search needs)
+    (λ c. search needs)
+    (λ c. search needs)
+    (λ c. search needs)
+    (λ c. search needs)
+    (λ c. search needs)
+    (λ c κs. search needs)
+    (λ c. search needs)
+    (λ c. search needs)
+    (λ c. search needs)
+    (λ c. search needs)
     loop-again
-    same-length
+    (λ c. search needs)
     returns)

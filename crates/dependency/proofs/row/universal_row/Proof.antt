@@ -59,23 +59,11 @@ row-is c =
 filled-size : (c : tie.After-fill-row) → length (c .fill-row .last .0) ≡ 5125
 filled-size c = c .fill-row .kept .0 ∙ ap length (lent-twice (c .before .before .before .before .before .before .before .before .before .before .before .args .work .now) (first (c .before .before .before .before .before .before .before .before)) (second (c .before .before .before .before)) (first-size (c .before .before .before .before .before .before .before .before))) ∙ both-size (c .before .before .before .before)
 
-slice-relend-prefix-search : tie.Need-slice-relend-prefix-search
-slice-relend-prefix-search c = search needs
-
 slice-aggregate-search : tie.Need-slice-aggregate-search
 slice-aggregate-search c = sym (length-take-le 2050 (c .before .before .args .work .now) (omega arith))
 
 search-requires : tie.Need-search-requires
 search-requires c κs = (c .before .before .pre .0, (range (c .before .before), length-take-le 2050 (c .before .before .args .work .now) (omega arith)))
-
-sub-search : tie.Need-sub-search
-sub-search c = search needs
-
-part-search-start : tie.Need-part-search-start
-part-search-start c = search needs
-
-part-search-end : tie.Need-part-search-end
-part-search-end c = search needs
 
 search-requires-2 : tie.Need-search-requires-2
 search-requires-2 c κs =
@@ -89,20 +77,8 @@ search-requires-2 c κs =
       ),
     )
 
-fill-row-requires : tie.Need-fill-row-requires
-fill-row-requires c κs = search needs
-
-slice-relend-prefix-clear-bytes : tie.Need-slice-relend-prefix-clear-bytes
-slice-relend-prefix-clear-bytes c = search needs
-
 slice-aggregate-clear-bytes : tie.Need-slice-aggregate-clear-bytes
 slice-aggregate-clear-bytes c = sym (length-take-le 4100 (c .before .before .before .fill-row .last .0) (omega (arith, filled-size (c .before .before .before))))
-
-clear-bytes-requires : tie.Need-clear-bytes-requires
-clear-bytes-requires c κs = search needs
-
-same-length : tie.Need-same-length
-same-length c = search needs
 
 returns : tie.Need-returns
 returns c =
@@ -115,16 +91,16 @@ pub universal-row-spec : {M : Type 1} → statement M
 universal-row-spec =
     tie.close
     (tie.spec
-    slice-relend-prefix-search
+    (λ c. search needs)
     slice-aggregate-search
     search-requires
-    sub-search
-    part-search-start
-    part-search-end
+    (λ c. search needs)
+    (λ c. search needs)
+    (λ c. search needs)
     search-requires-2
-    fill-row-requires
-    slice-relend-prefix-clear-bytes
+    (λ c κs. search needs)
+    (λ c. search needs)
     slice-aggregate-clear-bytes
-    clear-bytes-requires
-    same-length
+    (λ c κs. search needs)
+    (λ c. search needs)
     returns)

@@ -19,20 +19,11 @@ abbrev μ-loop : tie.MeasureT-loop
 loop-holds : tie.Need-loop-holds Inv-loop μ-loop
 loop-holds c = (sym (ones-end (c .args .marks .now)), search needs)
 
-sub-i : tie.Need-sub-i Inv-loop μ-loop
-sub-i c = search needs
-
-shared-slice-read-if1 : tie.Need-shared-slice-read-if1 Inv-loop μ-loop
-shared-slice-read-if1 c = search needs
-
 add-n : tie.Need-add-n Inv-loop μ-loop
 add-n c =
     let l = c .before .before .before .loop in
     let m = c .before .before .before .before .args .marks .now in
     omega (arith, ones-length (drop (l .i) m), length-drop (l .i) m)
-
-loop-less : tie.Need-loop-less Inv-loop μ-loop
-loop-less c = search needs
 
 loop-again : tie.Need-loop-again Inv-loop μ-loop
 loop-again c =
@@ -41,9 +32,6 @@ loop-again c =
     let e = ones-before m (l .i - 1) (l .i) (search needs) (search needs) in
     let k = rw (eq-eqb (getD m (l .i - 1) 0) 1 (c .if1 .taken)) at e in
     (omega arith, search needs)
-
-loop-less-2 : tie.Need-loop-less-2 Inv-loop μ-loop
-loop-less-2 c = search needs
 
 loop-again-2 : tie.Need-loop-again-2 Inv-loop μ-loop
 loop-again-2 c =
@@ -66,11 +54,11 @@ count-open-spec =
     Inv-loop
     μ-loop
     loop-holds
-    sub-i
-    shared-slice-read-if1
+    (λ c. search needs)
+    (λ c. search needs)
     add-n
-    loop-less
+    (λ c. search needs)
     loop-again
-    loop-less-2
+    (λ c. search needs)
     loop-again-2
     returns)

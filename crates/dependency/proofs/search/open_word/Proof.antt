@@ -21,18 +21,6 @@ told c = let e : toZ w32 (ofZ w32 (c .before .before .args .word)) ≡ c .before
 positive-at : (c : tie.After-kind) → c .kind .given .0 .0 .0 ≤ variableBound
 positive-at c = positive-bounded _ _ (sym (told (c .before .before)) ∙ c .kind .given .1)
 
-of-requires : tie.Need-of-requires
-of-requires c κs = search needs
-
-enum-told : tie.Need-enum-told
-enum-told c = search needs
-
-enum-told-2 : tie.Need-enum-told-2
-enum-told-2 c = search needs
-
-enum-known-kind : tie.Need-enum-known-kind
-enum-known-kind c = search needs
-
 mul-n : tie.Need-mul-n
 mul-n c = omega (arith, positive-at (c .before .before))
 
@@ -44,9 +32,6 @@ add-marks c = omega (arith, positive-at (c .before .before))
 
 slice-write-marks-2 : tie.Need-slice-write-marks-2
 slice-write-marks-2 c = simp length-set (omega (arith, positive-at (c .before .before)))
-
-enum-told-3 : tie.Need-enum-told-3
-enum-told-3 c = search needs
 
 returns : tie.Need-returns
 unfolding openWord
@@ -71,15 +56,15 @@ pub open-word-spec : {M : Type 1} → statement M
 open-word-spec =
     tie.close
     (tie.spec
-    of-requires
-    enum-told
-    enum-told-2
-    enum-known-kind
+    (λ c κs. search needs)
+    (λ c. search needs)
+    (λ c. search needs)
+    (λ c. search needs)
     mul-n
     slice-write-marks
     add-marks
     slice-write-marks-2
-    enum-told-3
+    (λ c. search needs)
     returns
     returns-2
     same-length

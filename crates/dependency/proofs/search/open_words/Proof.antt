@@ -37,20 +37,8 @@ opened c =
 loop-holds : tie.Need-loop-holds Inv-loop μ-loop
 loop-holds c = (refl, refl)
 
-mul-open-word : tie.Need-mul-open-word Inv-loop μ-loop
-mul-open-word c = search needs
-
-shared-slice-copy-out-open-word : tie.Need-shared-slice-copy-out-open-word Inv-loop μ-loop
-shared-slice-copy-out-open-word c = search needs
-
 open-word-requires : tie.Need-open-word-requires Inv-loop μ-loop
 open-word-requires c κs = c .before .before .before .loop .inv .1 ∙ c .before .before .before .before .before .pre
-
-add-i : tie.Need-add-i Inv-loop μ-loop
-add-i c = search needs
-
-loop-less : tie.Need-loop-less Inv-loop μ-loop
-loop-less c = search needs
 
 loop-again : tie.Need-loop-again Inv-loop μ-loop
 unfolding openWords
@@ -60,9 +48,6 @@ loop-again c =
       rw (opened (c .before .before), add-one) (rw (drop-cons ws (l .i) (pos 0) (search needs)) at (l .inv .0)),
       c .before .before .open-word .kept .1 .0 ∙ l .inv .1,
     )
-
-same-length : tie.Need-same-length Inv-loop μ-loop
-same-length c = search needs
 
 returns : tie.Need-returns Inv-loop μ-loop
 unfolding openWords
@@ -78,11 +63,11 @@ open-words-spec =
     Inv-loop
     μ-loop
     loop-holds
-    mul-open-word
-    shared-slice-copy-out-open-word
+    (λ c. search needs)
+    (λ c. search needs)
     open-word-requires
-    add-i
-    loop-less
+    (λ c. search needs)
+    (λ c. search needs)
     loop-again
-    same-length
+    (λ c. search needs)
     returns)

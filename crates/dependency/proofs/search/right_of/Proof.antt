@@ -33,18 +33,6 @@ told c = let e : toZ w32 (ofZ w32 (word-at (c .before))) ≡ word-at (c .before)
 loop-holds : tie.Need-loop-holds Inv-loop μ-loop
 loop-holds c = refl
 
-mul-word : tie.Need-mul-word Inv-loop μ-loop
-mul-word c = search needs
-
-shared-slice-copy-out-word : tie.Need-shared-slice-copy-out-word Inv-loop μ-loop
-shared-slice-copy-out-word c = search needs
-
-add-i : tie.Need-add-i Inv-loop μ-loop
-add-i c = search needs
-
-variable-of-requires : tie.Need-variable-of-requires Inv-loop μ-loop
-variable-of-requires c κs = search needs
-
 returns : tie.Need-returns Inv-loop μ-loop
 unfolding rightOf
 returns c =
@@ -53,9 +41,6 @@ returns c =
     let e = rw (drop-cons ws (l .i) (pos 0) (search needs)) at (l .inv) in
     let k = eq-eqb (variableIn (wordOf (word-at (c .before .before)))) (c .before .before .before .before .before .args .variable) (sym (told (c .before)) ∙ c .if1 .taken) in
     rw add-one (rw k at e)
-
-loop-less : tie.Need-loop-less Inv-loop μ-loop
-loop-less c = search needs
 
 loop-again : tie.Need-loop-again Inv-loop μ-loop
 unfolding rightOf
@@ -80,11 +65,11 @@ right-of-spec =
     Inv-loop
     μ-loop
     loop-holds
-    mul-word
-    shared-slice-copy-out-word
-    add-i
-    variable-of-requires
+    (λ c. search needs)
+    (λ c. search needs)
+    (λ c. search needs)
+    (λ c κs. search needs)
     returns
-    loop-less
+    (λ c. search needs)
     loop-again
     returns-2)

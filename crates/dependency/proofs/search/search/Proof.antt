@@ -31,15 +31,6 @@ opened c = rw (c .before .before .right-of .ensures, cleared (c .before .before 
 opened-size : (c : tie.After-open-words) → length (c .open-words .last .1 .1 .0) ≡ 2050
 opened-size c = c .open-words .kept .1 .1 .0 ∙ c .before .before .before .before .before .clear-bytes .kept .0 ∙ c .before .before .before .before .before .before .before .before .pre .1 .1
 
-clear-bytes-requires : tie.Need-clear-bytes-requires
-clear-bytes-requires c κs = search needs
-
-right-of-requires : tie.Need-right-of-requires
-right-of-requires c κs = search needs
-
-open-words-requires : tie.Need-open-words-requires
-open-words-requires c κs = search needs
-
 source-of-requires : tie.Need-source-of-requires
 source-of-requires c κs = c .before .before .before .before .before .before .before .before .before .before .pre .1 .0 .1
 
@@ -68,9 +59,9 @@ pub search-spec : {M : Type 1} → statement M
 search-spec =
     tie.close
     (tie.spec
-    clear-bytes-requires
-    right-of-requires
-    open-words-requires
+    (λ c κs. search needs)
+    (λ c κs. search needs)
+    (λ c κs. search needs)
     source-of-requires
     slice-write-marks
     settle-requires

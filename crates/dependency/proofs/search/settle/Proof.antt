@@ -33,18 +33,12 @@ one-more c =
     let e = c .before .before .before .before .pass .ensures in
     (e, c .count-open2 .ensures ∙ ap ones e)
 
-count-open-requires : tie.Need-count-open-requires Inv-loop μ-loop
-count-open-requires c κs = search needs
-
 loop-holds : tie.Need-loop-holds Inv-loop μ-loop
 unfolding passes
 loop-holds c = (0, refl, c .count-open .ensures, refl)
 
 pass-requires : tie.Need-pass-requires Inv-loop μ-loop
 pass-requires c κs = c .before .before .loop .inv .3 ∙ c .before .before .before .before .before .before .pre
-
-count-open-requires-2 : tie.Need-count-open-requires-2 Inv-loop μ-loop
-count-open-requires-2 c κs = search needs
 
 same-length : tie.Need-same-length Inv-loop μ-loop
 same-length c = c .before .before .before .before .before .pass .kept .1 .0 ∙ c .before .before .before .before .before .before .before .before .loop .inv .3
@@ -90,10 +84,10 @@ settle-spec =
     (tie.spec
     Inv-loop
     μ-loop
-    count-open-requires
+    (λ c κs. search needs)
     loop-holds
     pass-requires
-    count-open-requires-2
+    (λ c κs. search needs)
     same-length
     returns
     loop-less

@@ -27,12 +27,6 @@ abbrev μ-loop : tie.MeasureT-loop
 loop-holds : tie.Need-loop-holds Inv-loop μ-loop
 loop-holds c = refl
 
-mul-word : tie.Need-mul-word Inv-loop μ-loop
-mul-word c = search needs
-
-shared-slice-copy-out-word : tie.Need-shared-slice-copy-out-word Inv-loop μ-loop
-shared-slice-copy-out-word c = search needs
-
 returns : tie.Need-returns Inv-loop μ-loop
 returns c =
     let l = c .before .before .before .loop in
@@ -61,9 +55,6 @@ tested c b t =
     ∙ sym (satisfied-at-word τ ws (l .i) (search needs) (λ k. c .before .if1 .left (ap (ofZ w32) k)))
     ∙ l .inv
 
-literal-true-requires : tie.Need-literal-true-requires Inv-loop μ-loop
-literal-true-requires c κs = search needs
-
 returns-2 : tie.Need-returns-2 Inv-loop μ-loop
 returns-2 c = tested (c .before) true (c .if2 .taken)
 
@@ -88,10 +79,10 @@ clause-satisfied-spec =
     Inv-loop
     μ-loop
     loop-holds
-    mul-word
-    shared-slice-copy-out-word
+    (λ c. search needs)
+    (λ c. search needs)
     returns
-    literal-true-requires
+    (λ c κs. search needs)
     returns-2
     add-i
     loop-less

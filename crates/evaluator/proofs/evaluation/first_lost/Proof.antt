@@ -8,19 +8,10 @@ use Rattle.evaluator.proofs.Position.{due-universal, due-existential}
 use Rattle.evaluator.proofs.evaluation.first_lost.Statement.{statement}
 use Rattle.evaluator.proofs.evaluation.first_lost.Tie as tie
 
-universal-due-requires : tie.Need-universal-due-requires
-universal-due-requires c κs = search needs
-
-slice-aggregate-universal-turn : tie.Need-slice-aggregate-universal-turn
-slice-aggregate-universal-turn c = search needs
-
 universal-turn-requires : tie.Need-universal-turn-requires
 universal-turn-requires c κs =
     let s = c .before .before .before in
     due-universal 1025 (s .args .prefix .now) (s .pre) (sym (c .before .before .universal-due .ensures) ∙ c .before .if1 .taken)
-
-slice-aggregate-existential-turn : tie.Need-slice-aggregate-existential-turn
-slice-aggregate-existential-turn c = search needs
 
 existential-turn-requires : tie.Need-existential-turn-requires
 existential-turn-requires c κs =
@@ -43,10 +34,10 @@ pub first-lost-spec : {M : Type 1} → statement M
 first-lost-spec =
     tie.close
     (tie.spec
-    universal-due-requires
-    slice-aggregate-universal-turn
+    (λ c κs. search needs)
+    (λ c. search needs)
     universal-turn-requires
-    slice-aggregate-existential-turn
+    (λ c. search needs)
     existential-turn-requires
     returns
     returns-2)

@@ -22,12 +22,6 @@ abbrev μ-loop : tie.MeasureT-loop
 loop-holds : tie.Need-loop-holds Inv-loop μ-loop
 loop-holds c = refl
 
-clause-satisfied-requires : tie.Need-clause-satisfied-requires Inv-loop μ-loop
-clause-satisfied-requires c κs = search needs
-
-next-clause-requires : tie.Need-next-clause-requires Inv-loop μ-loop
-next-clause-requires c κs = search needs
-
 -- what the test of the clause at the place, answered b, says of the matrix
 tested :
     (c : tie.After-clause-satisfied Inv-loop μ-loop) (b : Bool)
@@ -67,8 +61,8 @@ matrix-falsified-spec =
     Inv-loop
     μ-loop
     loop-holds
-    clause-satisfied-requires
-    next-clause-requires
+    (λ c κs. search needs)
+    (λ c κs. search needs)
     loop-less
     loop-again
     returns

@@ -22,12 +22,6 @@ abbrev μ-loop : tie.MeasureT-loop
 loop-holds : tie.Need-loop-holds Inv-loop μ-loop
 loop-holds c = (refl, omega arith)
 
-mul-word : tie.Need-mul-word Inv-loop μ-loop
-mul-word c = search needs
-
-shared-slice-copy-out-word : tie.Need-shared-slice-copy-out-word Inv-loop μ-loop
-shared-slice-copy-out-word c = search needs
-
 add-i : tie.Need-add-i Inv-loop μ-loop
 add-i c = omega arith
 
@@ -59,8 +53,8 @@ next-clause-spec =
     Inv-loop
     μ-loop
     loop-holds
-    mul-word
-    shared-slice-copy-out-word
+    (λ c. search needs)
+    (λ c. search needs)
     add-i
     returns
     loop-less

@@ -7,26 +7,11 @@ use borrow.Author.Needs.{needs}
 use Rattle.formula.proofs.clauses.clause_token.Statement.{statement}
 use Rattle.formula.proofs.clauses.clause_token.Tie as tie
 
-enum-known-token : tie.Need-enum-known-token
-enum-known-token c = search needs
-
-close-clause-requires : tie.Need-close-clause-requires
-close-clause-requires c κs = search needs
-
 put-literal-requires : tie.Need-put-literal-requires
 put-literal-requires c κs = (search needs, search needs, search needs)
 
-enum-known-token-2 : tie.Need-enum-known-token-2
-enum-known-token-2 c = search needs
-
 put-literal-requires-2 : tie.Need-put-literal-requires-2
 put-literal-requires-2 c κs = (search needs, search needs, search needs)
-
-enum-told : tie.Need-enum-told
-enum-told c = search needs
-
-same-length : tie.Need-same-length
-same-length c = search needs
 
 returns : tie.Need-returns
 returns c =
@@ -38,9 +23,6 @@ returns c =
       stores = closing-stores (args .place) (args .used) (args .clauses .now) _ (args .marks .now) _ (pre .2) post;
     })
 
-same-length-2 : tie.Need-same-length-2
-same-length-2 c = search needs
-
 returns-2 : tie.Need-returns-2
 returns-2 c =
     let args = c .before .before .before .before .before .before .before .before .args in
@@ -51,9 +33,6 @@ returns-2 c =
       states = λ rp count prefix M. literal-states (args .place) (args .variables) (args .used) (args .closed) (args .clauses .now) (args .marks .now) rp count prefix (pre .0) (pre .3) M (Natural (n .0 .0)) true (n .0 .0) _ _ _ (natural-literal rp (args .place) (args .variables) count (args .used) (args .clauses .now) prefix (n .0 .0) (c .before .before .before .before .if1 .left)) post;
       stores = literal-stores (n .0 .0) (args .place) (args .variables) true (args .used) (args .closed) (args .clauses .now) (args .marks .now) _ _ _ (pre .2) post;
     })
-
-same-length-3 : tie.Need-same-length-3
-same-length-3 c = search needs
 
 returns-3 : tie.Need-returns-3
 returns-3 c =
@@ -73,16 +52,16 @@ pub clause-token-spec : {M : Type 1} → statement M
 clause-token-spec =
     tie.close
     (tie.spec
-    enum-known-token
-    close-clause-requires
+    (λ c. search needs)
+    (λ c κs. search needs)
     put-literal-requires
-    enum-known-token-2
+    (λ c. search needs)
     put-literal-requires-2
-    enum-told
-    same-length
+    (λ c. search needs)
+    (λ c. search needs)
     returns
-    same-length-2
+    (λ c. search needs)
     returns-2
-    same-length-3
+    (λ c. search needs)
     returns-3
     returns-4)

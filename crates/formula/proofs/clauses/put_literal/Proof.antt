@@ -26,24 +26,6 @@ fine-at c =
 small-at : (c : tie.After-enum-told2) → c .before .before .before .before .before .args .n ≤ variableBound
 small-at c = omega (arith, fine-at c .inRange, c .before .before .before .before .before .pre .0)
 
-mark-of-requires : tie.Need-mark-of-requires
-mark-of-requires c κs = search needs
-
-add-judge-literal : tie.Need-add-judge-literal
-add-judge-literal c = search needs
-
-judge-literal-requires : tie.Need-judge-literal-requires
-judge-literal-requires c κs = search needs
-
-enum-known-r : tie.Need-enum-known-r
-enum-known-r c = search needs
-
-enum-told : tie.Need-enum-told
-enum-told c = search needs
-
-enum-told-2 : tie.Need-enum-told-2
-enum-told-2 c = search needs
-
 signed-word-requires : tie.Need-signed-word-requires
 signed-word-requires c κs = small-at c
 
@@ -52,9 +34,6 @@ mul-t19 c = omega (arith, fine-at (c .before) .fits)
 
 slice-set-from-clauses : tie.Need-slice-set-from-clauses
 slice-set-from-clauses c = omega (arith, fine-at (c .before) .fits)
-
-add-marks : tie.Need-add-marks
-add-marks c = search needs
 
 mul-marks : tie.Need-mul-marks
 mul-marks c = omega (arith, small-at (c .before))
@@ -68,9 +47,6 @@ returns c = record { answers = sym (c .before .r .given .1) ∙ judged-at (c .be
 returns-2 : tie.Need-returns-2
 returns-2 c = record { answers = sym (c .enum-told .given .1) ∙ judged-at (c .before .before); stores = tt }
 
-same-length : tie.Need-same-length
-same-length c = search needs
-
 returns-3 : tie.Need-returns-3
 returns-3 c =
     let args = c .before .before .before .before .before .before .args in
@@ -83,19 +59,19 @@ pub put-literal-spec : {M : Type 1} → statement M
 put-literal-spec =
     tie.close
     (tie.spec
-    mark-of-requires
-    add-judge-literal
-    judge-literal-requires
-    enum-known-r
-    enum-told
-    enum-told-2
+    (λ c κs. search needs)
+    (λ c. search needs)
+    (λ c κs. search needs)
+    (λ c. search needs)
+    (λ c. search needs)
+    (λ c. search needs)
     signed-word-requires
     mul-t19
     slice-set-from-clauses
-    add-marks
+    (λ c. search needs)
     mul-marks
     element-write-marks
     returns
     returns-2
-    same-length
+    (λ c. search needs)
     returns-3)

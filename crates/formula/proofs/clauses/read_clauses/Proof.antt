@@ -21,29 +21,11 @@ loop-holds c =
     let args = c .before .args in
     clauses-begin (args .text .now) (args .from) (args .variables) (args .count) (args .clauses .now) (args .marks .now) (c .before .pre .2)
 
-next-token-requires : tie.Need-next-token-requires Inv-loop μ-loop
-next-token-requires c κs = search needs
-
-enum-told : tie.Need-enum-told Inv-loop μ-loop
-enum-told c = search needs
-
-clauses-end-requires : tie.Need-clauses-end-requires Inv-loop μ-loop
-clauses-end-requires c κs = search needs
-
-same-length : tie.Need-same-length Inv-loop μ-loop
-same-length c = search needs
-
 returns : tie.Need-returns Inv-loop μ-loop
 returns c =
     let l = c .before .before .before .before .loop in
     let args = c .before .before .before .before .before .before .args in
     rw (c .clauses-end .ensures) (clauses-end (args .text .now) (args .from) (args .variables) (args .count) (args .clauses .now) (l .clauses) (args .marks .now) (l .marks) (l .at) (l .used) (l .closed) (l .start) (l .inv) (sym (c .before .before .before .next-token .ensures) ∙ c .before .enum-told .given .1))
-
-enum-known-token : tie.Need-enum-known-token Inv-loop μ-loop
-enum-known-token c = search needs
-
-same-length-2 : tie.Need-same-length-2 Inv-loop μ-loop
-same-length-2 c = search needs
 
 returns-2 : tie.Need-returns-2 Inv-loop μ-loop
 returns-2 c =
@@ -58,12 +40,6 @@ clause-token-requires c κs =
     let l = c .before .before .before .before .before .before .before .loop in
     (search needs, search needs, l .inv .size, l .inv .room)
 
-enum-known-r : tie.Need-enum-known-r Inv-loop μ-loop
-enum-known-r c = search needs
-
-same-length-3 : tie.Need-same-length-3 Inv-loop μ-loop
-same-length-3 c = search needs
-
 returns-3 : tie.Need-returns-3 Inv-loop μ-loop
 returns-3 c =
     let l = c .before .before .before .before .before .before .before .before .before .before .before .before .loop in
@@ -72,12 +48,6 @@ returns-3 c =
     let e = sym (c .before .before .before .before .before .before .before .before .before .before .before .next-token .ensures) ∙ g .1 in
     let post = rw (c .before .r .given .1) at (c .before .before .before .before .clause-token .ensures) in
     clauses-refuse (args .text .now) (args .from) (args .variables) (args .count) (args .clauses .now) (l .clauses) (args .marks .now) (l .marks) (l .at) (l .used) (l .closed) (l .start) (l .inv) (g .0 .0) (g .0 .1 .0) (g .0 .1 .1 .0) (c .before .r .given .0 .0) _ _ e (c .before .before .before .before .before .before .before .if1 .left) post
-
-enum-told-2 : tie.Need-enum-told-2 Inv-loop μ-loop
-enum-told-2 c = search needs
-
-add-used : tie.Need-add-used Inv-loop μ-loop
-add-used c = search needs
 
 loop-less : tie.Need-loop-less Inv-loop μ-loop
 loop-less c =
@@ -96,15 +66,6 @@ loop-again c =
     let e = sym (c .before .before .before .before .before .before .before .before .before .before .next-token .ensures) ∙ g .1 in
     let post = rw (c .enum-told2 .given .1) at (c .before .before .before .clause-token .ensures) in
     clauses-literal (args .text .now) (args .from) (args .variables) (args .count) (args .clauses .now) (l .clauses) (args .marks .now) (l .marks) (l .at) (l .used) (l .closed) (l .start) (l .inv) (g .0 .0) (g .0 .1 .0) (g .0 .1 .1 .0) _ _ e (c .before .before .before .before .before .before .if1 .left) (search needs) post
-
-enum-told-3 : tie.Need-enum-told-3 Inv-loop μ-loop
-enum-told-3 c = search needs
-
-add-used-2 : tie.Need-add-used-2 Inv-loop μ-loop
-add-used-2 c = search needs
-
-add-closed : tie.Need-add-closed Inv-loop μ-loop
-add-closed c = search needs
 
 loop-less-2 : tie.Need-loop-less-2 Inv-loop μ-loop
 loop-less-2 c =
@@ -131,24 +92,24 @@ read-clauses-spec =
     Inv-loop
     μ-loop
     loop-holds
-    next-token-requires
-    enum-told
-    clauses-end-requires
-    same-length
+    (λ c κs. search needs)
+    (λ c. search needs)
+    (λ c κs. search needs)
+    (λ c. search needs)
     returns
-    enum-known-token
-    same-length-2
+    (λ c. search needs)
+    (λ c. search needs)
     returns-2
     clause-token-requires
-    enum-known-r
-    same-length-3
+    (λ c. search needs)
+    (λ c. search needs)
     returns-3
-    enum-told-2
-    add-used
+    (λ c. search needs)
+    (λ c. search needs)
     loop-less
     loop-again
-    enum-told-3
-    add-used-2
-    add-closed
+    (λ c. search needs)
+    (λ c. search needs)
+    (λ c. search needs)
     loop-less-2
     loop-again-2)

@@ -19,20 +19,11 @@ abbrev μ-loop : tie.MeasureT-loop
 loop-holds : tie.Need-loop-holds Inv-loop μ-loop
 loop-holds c = (remains-all _ _ _, omega arith)
 
-shared-slice-read-put : tie.Need-shared-slice-read-put Inv-loop μ-loop
-shared-slice-read-put c = search needs
-
 put-requires : tie.Need-put-requires Inv-loop μ-loop
 put-requires c κs =
     let l = c .before .before .before .loop in
     let bytes = c .before .before .before .before .before .before .args .bytes .now in
     omega (arith, rw (drop-cons bytes (l .i) 0 (c .before .before .loop-test .taken)) at (l .inv .0 .reached), c .before .before .before .before .before .before .pre)
-
-add-i : tie.Need-add-i Inv-loop μ-loop
-add-i c = search needs
-
-loop-less : tie.Need-loop-less Inv-loop μ-loop
-loop-less c = search needs
 
 loop-again : tie.Need-loop-again Inv-loop μ-loop
 loop-again c =
@@ -57,10 +48,10 @@ write-bytes-spec =
     Inv-loop
     μ-loop
     loop-holds
-    shared-slice-read-put
+    (λ c. search needs)
     put-requires
-    add-i
-    loop-less
+    (λ c. search needs)
+    (λ c. search needs)
     loop-again
     same-length
     returns)

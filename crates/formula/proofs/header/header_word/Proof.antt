@@ -6,24 +6,6 @@ use borrow.Author.Needs.{needs}
 use Rattle.formula.proofs.header.header_word.Statement.{statement}
 use Rattle.formula.proofs.header.header_word.Tie as tie
 
-next-token-requires : tie.Need-next-token-requires
-next-token-requires c κs = search needs
-
-enum-told : tie.Need-enum-told
-enum-told c = search needs
-
-enum-known-token : tie.Need-enum-known-token
-enum-known-token c = search needs
-
-enum-known-token-2 : tie.Need-enum-known-token-2
-enum-known-token-2 c = search needs
-
-enum-told-2 : tie.Need-enum-told-2
-enum-told-2 c = search needs
-
-enum-told-3 : tie.Need-enum-told-3
-enum-told-3 c = search needs
-
 returns : tie.Need-returns
 unfolding wordFound
 returns c = rw (sym (c .before .before .next-token .ensures) ∙ c .enum-told .given .1)
@@ -48,12 +30,12 @@ pub header-word-spec : {M : Type 1} → statement M
 header-word-spec =
     tie.close
     (tie.spec
-    next-token-requires
-    enum-told
-    enum-known-token
-    enum-known-token-2
-    enum-told-2
-    enum-told-3
+    (λ c κs. search needs)
+    (λ c. search needs)
+    (λ c. search needs)
+    (λ c. search needs)
+    (λ c. search needs)
+    (λ c. search needs)
     returns
     returns-2
     returns-3

@@ -5,30 +5,6 @@ use borrow.Author.Needs.{needs}
 use Rattle.formula.proofs.header.read_header.Statement.{statement}
 use Rattle.formula.proofs.header.read_header.Tie as tie
 
-first-token-requires : tie.Need-first-token-requires
-first-token-requires c κs = search needs
-
-header-word-requires : tie.Need-header-word-requires
-header-word-requires c κs = search needs
-
-enum-known-r : tie.Need-enum-known-r
-enum-known-r c = search needs
-
-enum-known-at : tie.Need-enum-known-at
-enum-known-at c = search needs
-
-header-word-requires-2 : tie.Need-header-word-requires-2
-header-word-requires-2 c κs = search needs
-
-enum-known-r-2 : tie.Need-enum-known-r-2
-enum-known-r-2 c = search needs
-
-enum-known-next : tie.Need-enum-known-next
-enum-known-next c = search needs
-
-header-numbers-requires : tie.Need-header-numbers-requires
-header-numbers-requires c κs = search needs
-
 returns : tie.Need-returns
 returns c =
     let text = c .before .before .before .before .before .before .args .text .now in
@@ -51,14 +27,14 @@ pub read-header-spec : {M : Type 1} → statement M
 read-header-spec =
     tie.close
     (tie.spec
-    first-token-requires
-    header-word-requires
-    enum-known-r
-    enum-known-at
-    header-word-requires-2
-    enum-known-r-2
-    enum-known-next
-    header-numbers-requires
+    (λ c κs. search needs)
+    (λ c κs. search needs)
+    (λ c. search needs)
+    (λ c. search needs)
+    (λ c κs. search needs)
+    (λ c. search needs)
+    (λ c. search needs)
+    (λ c κs. search needs)
     returns
     returns-2
     returns-3)

@@ -7,24 +7,6 @@ use borrow.Author.Needs.{needs}
 use Rattle.formula.proofs.read.fill.Statement.{statement}
 use Rattle.formula.proofs.read.fill.Tie as tie
 
-new-requires : tie.Need-new-requires
-new-requires c κs = search needs
-
-enum-told : tie.Need-enum-told
-enum-told c = search needs
-
-enum-told-2 : tie.Need-enum-told-2
-enum-told-2 c = search needs
-
-read-header-requires : tie.Need-read-header-requires
-read-header-requires c κs = search needs
-
-enum-known-r : tie.Need-enum-known-r
-enum-known-r c = search needs
-
-enum-known-variables : tie.Need-enum-known-variables
-enum-known-variables c = search needs
-
 fill-tables-requires : tie.Need-fill-tables-requires
 fill-tables-requires c κs =
     let post = rw (c .before .before .before .variables .given .1) at (c .before .before .before .before .before .read-header .ensures) in
@@ -42,12 +24,6 @@ returns-2 c =
     let post = rw (c .before .r .given .1) at (c .before .before .before .read-header .ensures) in
     reading-from (args .text .now) _ _ short ∙ post _ _
 
-same-length : tie.Need-same-length
-same-length c = search needs
-
-same-length-2 : tie.Need-same-length-2
-same-length-2 c = search needs
-
 returns-3 : tie.Need-returns-3
 returns-3 c =
     let args = c .before .before .before .before .before .before .before .before .before .before .before .before .before .args in
@@ -59,15 +35,15 @@ pub fill-spec : {M : Type 1} → statement M
 fill-spec =
     tie.close
     (tie.spec
-    new-requires
-    enum-told
-    enum-told-2
-    read-header-requires
-    enum-known-r
-    enum-known-variables
+    (λ c κs. search needs)
+    (λ c. search needs)
+    (λ c. search needs)
+    (λ c κs. search needs)
+    (λ c. search needs)
+    (λ c. search needs)
     fill-tables-requires
     returns
     returns-2
-    same-length
-    same-length-2
+    (λ c. search needs)
+    (λ c. search needs)
     returns-3)

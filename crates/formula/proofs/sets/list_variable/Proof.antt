@@ -14,12 +14,6 @@ returns : tie.Need-returns
 unfolding variableRefusal
 returns c = record { answers = simp (lt-ltb _ _ (c .if1 .taken)); stores = tt }
 
-mul-if2 : tie.Need-mul-if2
-mul-if2 c = search needs
-
-element-copy-out-if2 : tie.Need-element-copy-out-if2
-element-copy-out-if2 c = search needs
-
 returns-2 : tie.Need-returns-2
 unfolding variableRefusal
 returns-2 c = record { answers = simp (le-ltb _ _ (c .before .before .if1 .left), lt-ltb _ _ (c .if2 .taken)); stores = tt }
@@ -27,24 +21,6 @@ returns-2 c = record { answers = simp (le-ltb _ _ (c .before .before .if1 .left)
 returns-3 : tie.Need-returns-3
 unfolding variableRefusal
 returns-3 c = record { answers = simp (le-ltb _ _ (c .before .before .before .if1 .left), le-ltb _ _ (c .before .if2 .left), le-leb _ _ (c .if3 .taken)); stores = tt }
-
-signed-word-requires : tie.Need-signed-word-requires
-signed-word-requires c κs = search needs
-
-mul-t14 : tie.Need-mul-t14
-mul-t14 c = search needs
-
-slice-set-from-prefix : tie.Need-slice-set-from-prefix
-slice-set-from-prefix c = search needs
-
-mul-marks : tie.Need-mul-marks
-mul-marks c = search needs
-
-element-write-marks : tie.Need-element-write-marks
-element-write-marks c = search needs
-
-same-length : tie.Need-same-length
-same-length c = search needs
 
 returns-4 : tie.Need-returns-4
 unfolding variableRefusal
@@ -61,14 +37,14 @@ list-variable-spec =
     tie.close
     (tie.spec
     returns
-    mul-if2
-    element-copy-out-if2
+    (λ c. search needs)
+    (λ c. search needs)
     returns-2
     returns-3
-    signed-word-requires
-    mul-t14
-    slice-set-from-prefix
-    mul-marks
-    element-write-marks
-    same-length
+    (λ c κs. search needs)
+    (λ c. search needs)
+    (λ c. search needs)
+    (λ c. search needs)
+    (λ c. search needs)
+    (λ c. search needs)
     returns-4)

@@ -21,34 +21,16 @@ loop-holds c =
     let args = c .before .args in
     set-begins (args .text .now) (args .from) (args .variables) (args .positive) (args .used) (args .prefix .now) (args .marks .now) (c .before .pre .1) (c .before .pre .2)
 
-next-token-requires : tie.Need-next-token-requires Inv-loop μ-loop
-next-token-requires c κs = search needs
-
-enum-told : tie.Need-enum-told Inv-loop μ-loop
-enum-told c = search needs
-
-same-length : tie.Need-same-length Inv-loop μ-loop
-same-length c = search needs
-
 returns : tie.Need-returns Inv-loop μ-loop
 returns c =
     let l = c .before .before .before .loop in
     let args = c .before .before .before .before .before .args in
     set-ends (args .text .now) (args .from) (args .variables) (args .positive) (args .used) (args .prefix .now) (l .prefix) (l .marks) (l .at) (l .n) (l .inv) (sym (c .before .before .next-token .ensures) ∙ c .enum-told .given .1) [] []
 
-enum-known-token : tie.Need-enum-known-token Inv-loop μ-loop
-enum-known-token c = search needs
-
 set-token-requires : tie.Need-set-token-requires Inv-loop μ-loop
 set-token-requires c κs =
     let l = c .before .before .before .before .before .before .loop in
     (search needs, l .inv .room, l .inv .listed)
-
-enum-known-r : tie.Need-enum-known-r Inv-loop μ-loop
-enum-known-r c = search needs
-
-same-length-2 : tie.Need-same-length-2 Inv-loop μ-loop
-same-length-2 c = search needs
 
 returns-2 : tie.Need-returns-2 Inv-loop μ-loop
 returns-2 c =
@@ -59,12 +41,6 @@ returns-2 c =
     let post = rw (c .before .r .given .1) at (c .before .before .before .before .set-token .ensures) in
     set-refuses (args .text .now) (args .from) (args .variables) (args .positive) (args .used) (args .prefix .now) (l .prefix) (l .marks) (l .at) (l .n) (l .inv) (g .0 .0) (g .0 .1 .0) (g .0 .1 .1 .0) (c .before .r .given .0 .0) _ _ e post
 
-enum-told-2 : tie.Need-enum-told-2 Inv-loop μ-loop
-enum-told-2 c = search needs
-
-same-length-3 : tie.Need-same-length-3 Inv-loop μ-loop
-same-length-3 c = search needs
-
 returns-3 : tie.Need-returns-3 Inv-loop μ-loop
 returns-3 c =
     let l = c .before .before .before .before .before .before .before .before .before .before .loop in
@@ -73,12 +49,6 @@ returns-3 c =
     let e = sym (c .before .before .before .before .before .before .before .before .before .next-token .ensures) ∙ g .1 in
     let post = rw (c .enum-told2 .given .1) at (c .before .before .before .set-token .ensures) in
     set-closes (args .text .now) (args .from) (args .variables) (args .positive) (args .used) (args .prefix .now) (l .prefix) (l .marks) (l .at) (l .n) (l .inv) (g .0 .0) (g .0 .1 .0) (g .0 .1 .1 .0) _ _ e post
-
-enum-told-3 : tie.Need-enum-told-3 Inv-loop μ-loop
-enum-told-3 c = search needs
-
-add-n : tie.Need-add-n Inv-loop μ-loop
-add-n c = search needs
 
 loop-less : tie.Need-loop-less Inv-loop μ-loop
 loop-less c =
@@ -105,19 +75,19 @@ read-set-spec =
     Inv-loop
     μ-loop
     loop-holds
-    next-token-requires
-    enum-told
-    same-length
+    (λ c κs. search needs)
+    (λ c. search needs)
+    (λ c. search needs)
     returns
-    enum-known-token
+    (λ c. search needs)
     set-token-requires
-    enum-known-r
-    same-length-2
+    (λ c. search needs)
+    (λ c. search needs)
     returns-2
-    enum-told-2
-    same-length-3
+    (λ c. search needs)
+    (λ c. search needs)
     returns-3
-    enum-told-3
-    add-n
+    (λ c. search needs)
+    (λ c. search needs)
     loop-less
     loop-again)

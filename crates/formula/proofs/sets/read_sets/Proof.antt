@@ -19,37 +19,16 @@ abbrev μ-loop : tie.MeasureT-loop
 loop-holds : tie.Need-loop-holds Inv-loop μ-loop
 loop-holds c = record { room = omega arith; same = refl; listed = c .before .pre .1; reads = λ n rc. refl }
 
-next-token-requires : tie.Need-next-token-requires Inv-loop μ-loop
-next-token-requires c κs = search needs
-
-enum-told : tie.Need-enum-told Inv-loop μ-loop
-enum-told c = search needs
-
-same-length : tie.Need-same-length Inv-loop μ-loop
-same-length c = search needs
-
 returns : tie.Need-returns Inv-loop μ-loop
 returns c =
     let l = c .before .before .before .loop in
     let args = c .before .before .before .before .before .args in
     sets-end (args .text .now) (args .from) (args .variables) (args .prefix .now) (l .prefix) (l .marks) (l .at) (l .used) (l .inv) (sym (c .before .before .next-token .ensures) ∙ c .enum-told .given .1)
 
-enum-known-token : tie.Need-enum-known-token Inv-loop μ-loop
-enum-known-token c = search needs
-
-enum-known-token-2 : tie.Need-enum-known-token-2 Inv-loop μ-loop
-enum-known-token-2 c = search needs
-
 read-set-requires : tie.Need-read-set-requires Inv-loop μ-loop
 read-set-requires c κs =
     let l = c .before .before .before .before .before .before .before .before .before .before .loop in
     (search needs, l .inv .room, l .inv .listed)
-
-enum-known-r : tie.Need-enum-known-r Inv-loop μ-loop
-enum-known-r c = search needs
-
-same-length-2 : tie.Need-same-length-2 Inv-loop μ-loop
-same-length-2 c = search needs
 
 returns-2 : tie.Need-returns-2 Inv-loop μ-loop
 returns-2 c =
@@ -59,9 +38,6 @@ returns-2 c =
     let e = rw (c .before .before .before .before .before .before .before .before .before .token2 .given .1) at (sym (c .before .before .before .before .before .before .before .before .before .before .before .before .before .before .next-token .ensures) ∙ g .1) in
     let post = rw (c .before .r .given .1) at (c .before .before .before .before .read-set .ensures) in
     sets-refuse (args .text .now) (args .from) (args .variables) (args .prefix .now) (l .prefix) (l .marks) (l .at) (l .used) (l .inv) (c .before .before .before .before .before .before .before .before .before .token2 .given .0 .0) (g .0 .1 .0) (g .0 .1 .1 .0) (c .before .r .given .0 .0) e (c .before .before .before .before .before .before .before .if1 .taken) post [] []
-
-enum-known-n : tie.Need-enum-known-n Inv-loop μ-loop
-enum-known-n c = search needs
 
 loop-less : tie.Need-loop-less Inv-loop μ-loop
 loop-less c =
@@ -81,9 +57,6 @@ loop-again c =
     let post = rw (c .before .n .given .1) at (c .before .before .before .before .read-set .ensures) in
     sets-on (args .text .now) (args .from) (args .variables) (args .prefix .now) (l .prefix) (l .marks) (l .at) (l .used) (l .inv) (c .before .before .before .before .before .before .before .before .before .token2 .given .0 .0) (g .0 .1 .0) (g .0 .1 .1 .0) _ _ _ _ e (c .before .before .before .before .before .before .before .if1 .taken) (search needs) post
 
-same-length-3 : tie.Need-same-length-3 Inv-loop μ-loop
-same-length-3 c = search needs
-
 returns-3 : tie.Need-returns-3 Inv-loop μ-loop
 returns-3 c =
     let l = c .before .before .before .before .before .before .before .before .loop in
@@ -92,12 +65,6 @@ returns-3 c =
     let e = rw (c .before .before .token2 .given .1) at (sym (c .before .before .before .before .before .before .before .next-token .ensures) ∙ g .1) in
     sets-word (args .text .now) (args .from) (args .variables) (args .prefix .now) (l .prefix) (l .marks) (l .at) (l .used) (l .inv) (c .before .before .token2 .given .0 .0) (g .0 .1 .0) (g .0 .1 .1 .0) e (c .if1 .left)
 
-enum-told-2 : tie.Need-enum-told-2 Inv-loop μ-loop
-enum-told-2 c = search needs
-
-same-length-4 : tie.Need-same-length-4 Inv-loop μ-loop
-same-length-4 c = search needs
-
 returns-4 : tie.Need-returns-4 Inv-loop μ-loop
 returns-4 c =
     let l = c .before .before .before .before .before .before .loop in
@@ -105,12 +72,6 @@ returns-4 c =
     let g = c .before .before .before .token .given in
     let e = rw (c .enum-told2 .given .1) at (sym (c .before .before .before .before .before .next-token .ensures) ∙ g .1) in
     sets-natural (args .text .now) (args .from) (args .variables) (args .prefix .now) (l .prefix) (l .marks) (l .at) (l .used) (l .inv) _ (g .0 .1 .0) (g .0 .1 .1 .0) e
-
-enum-told-3 : tie.Need-enum-told-3 Inv-loop μ-loop
-enum-told-3 c = search needs
-
-same-length-5 : tie.Need-same-length-5 Inv-loop μ-loop
-same-length-5 c = search needs
 
 returns-5 : tie.Need-returns-5 Inv-loop μ-loop
 returns-5 c =
@@ -127,24 +88,24 @@ read-sets-spec =
     Inv-loop
     μ-loop
     loop-holds
-    next-token-requires
-    enum-told
-    same-length
+    (λ c κs. search needs)
+    (λ c. search needs)
+    (λ c. search needs)
     returns
-    enum-known-token
-    enum-known-token-2
+    (λ c. search needs)
+    (λ c. search needs)
     read-set-requires
-    enum-known-r
-    same-length-2
+    (λ c. search needs)
+    (λ c. search needs)
     returns-2
-    enum-known-n
+    (λ c. search needs)
     loop-less
     loop-again
-    same-length-3
+    (λ c. search needs)
     returns-3
-    enum-told-2
-    same-length-4
+    (λ c. search needs)
+    (λ c. search needs)
     returns-4
-    enum-told-3
-    same-length-5
+    (λ c. search needs)
+    (λ c. search needs)
     returns-5)

@@ -5,23 +5,8 @@ use borrow.Author.Needs.{needs}
 use Rattle.formula.proofs.sets.set_token.Statement.{statement}
 use Rattle.formula.proofs.sets.set_token.Tie as tie
 
-enum-known-token : tie.Need-enum-known-token
-enum-known-token c = search needs
-
 list-variable-requires : tie.Need-list-variable-requires
 list-variable-requires c κs = (search needs, c .before .before .before .before .before .before .pre .2 .size)
-
-close-set-requires : tie.Need-close-set-requires
-close-set-requires c κs = search needs
-
-enum-told : tie.Need-enum-told
-enum-told c = search needs
-
-enum-told-2 : tie.Need-enum-told-2
-enum-told-2 c = search needs
-
-same-length : tie.Need-same-length
-same-length c = search needs
 
 returns : tie.Need-returns
 returns c =
@@ -45,12 +30,12 @@ pub set-token-spec : {M : Type 1} → statement M
 set-token-spec =
     tie.close
     (tie.spec
-    enum-known-token
+    (λ c. search needs)
     list-variable-requires
-    close-set-requires
-    enum-told
-    enum-told-2
-    same-length
+    (λ c κs. search needs)
+    (λ c. search needs)
+    (λ c. search needs)
+    (λ c. search needs)
     returns
     returns-2
     returns-3

@@ -15,18 +15,6 @@ use borrow.Author.Needs.{needs}
 use Rattle.formula.proofs.tables.check_clause.Statement.{statement}
 use Rattle.formula.proofs.tables.check_clause.Tie as tie
 
-literals-end-requires : tie.Need-literals-end-requires
-literals-end-requires c κs = search needs
-
-mul-find-clash : tie.Need-mul-find-clash
-mul-find-clash c = search needs
-
-sub-find-clash : tie.Need-sub-find-clash
-sub-find-clash c = search needs
-
-part-find-clash-start : tie.Need-part-find-clash-start
-part-find-clash-start c = search needs
-
 -- the run from the clause's place, and its length from there on
 abbrev run : (c : tie.After-literals-end) → ℕ
 run c = plainRun (marked (c .before .before .args .listed .now)) (drop (c .before .before .args .from) (c .before .before .args .clauses .now))
@@ -55,12 +43,6 @@ clash-at :
     → c .find-clash .result ≡ clashFree [] (take (run (c .before .before)) (drop (c .before .before .before .before .args .from) (c .before .before .before .before .args .clauses .now)))
 clash-at c = rw (run-length (c .before .before)) at (c .find-clash .ensures)
 
-sub-if1 : tie.Need-sub-if1
-sub-if1 c = search needs
-
-add-t14 : tie.Need-add-t14
-add-t14 c = search needs
-
 returns : tie.Need-returns
 returns c =
     let k = c .before in
@@ -86,18 +68,6 @@ magnitude-at c =
     let w = getD (f .before .before .args .clauses .now) (f .literals-end .result) (pos 0) in
     let e : toZ w32 (ofZ w32 w) ≡ w = search needs in
     rw (f .literals-end .ensures) at (rw e at (c .magnitude .ensures))
-
-mul-magnitude : tie.Need-mul-magnitude
-mul-magnitude c = search needs
-
-shared-slice-copy-out-magnitude : tie.Need-shared-slice-copy-out-magnitude
-shared-slice-copy-out-magnitude c = search needs
-
-magnitude-requires : tie.Need-magnitude-requires
-magnitude-requires c κs = search needs
-
-add-t20 : tie.Need-add-t20
-add-t20 c = search needs
 
 returns-3 : tie.Need-returns-3
 returns-3 c =
@@ -141,20 +111,20 @@ pub check-clause-spec : {M : Type 1} → statement M
 check-clause-spec =
     tie.close
     (tie.spec
-    literals-end-requires
-    mul-find-clash
-    sub-find-clash
-    part-find-clash-start
+    (λ c κs. search needs)
+    (λ c. search needs)
+    (λ c. search needs)
+    (λ c. search needs)
     part-find-clash-end
     find-clash-requires
-    sub-if1
-    add-t14
+    (λ c. search needs)
+    (λ c. search needs)
     returns
     returns-2
-    mul-magnitude
-    shared-slice-copy-out-magnitude
-    magnitude-requires
-    add-t20
+    (λ c. search needs)
+    (λ c. search needs)
+    (λ c κs. search needs)
+    (λ c. search needs)
     returns-3
     returns-4
     returns-5)

@@ -19,12 +19,6 @@ abbrev μ-loop : tie.MeasureT-loop
 loop-holds : tie.Need-loop-holds Inv-loop μ-loop
 loop-holds c = (refl, omega arith)
 
-check-clause-requires : tie.Need-check-clause-requires Inv-loop μ-loop
-check-clause-requires c κs = search needs
-
-enum-known-next : tie.Need-enum-known-next Inv-loop μ-loop
-enum-known-next c = search needs
-
 loop-less : tie.Need-loop-less Inv-loop μ-loop
 loop-less c =
     let o = c .before .before .before .check-clause .ensures .onward (c .before .next .given .0 .0) (c .before .next .given .1) in
@@ -38,9 +32,6 @@ loop-again c =
     let e = c .before .next .given .1 in
     let o = k .ensures .onward (c .before .next .given .0 .0) e in
     (l .inv .0 ∙ k .ensures .same ∙ ap (afterClause (marked (a .listed .now)) (a .clauses .now)) e, o .1)
-
-enum-known-r : tie.Need-enum-known-r Inv-loop μ-loop
-enum-known-r c = search needs
 
 returns : tie.Need-returns Inv-loop μ-loop
 returns c =
@@ -64,10 +55,10 @@ check-clauses-spec =
     Inv-loop
     μ-loop
     loop-holds
-    check-clause-requires
-    enum-known-next
+    (λ c κs. search needs)
+    (λ c. search needs)
     loop-less
     loop-again
-    enum-known-r
+    (λ c. search needs)
     returns
     returns-2)

@@ -48,18 +48,6 @@ magnitude-at c =
 refused : {r : Refusal} {A : Type 0} → Check.Refused r ≡ Check.Passed → A
 refused e = let z : _≡_ {A = ℕ} 0 1 = cc in absurd (omega arith)
 
-mul-magnitude : tie.Need-mul-magnitude Inv-loop μ-loop
-mul-magnitude c = search needs
-
-shared-slice-copy-out-magnitude : tie.Need-shared-slice-copy-out-magnitude Inv-loop μ-loop
-shared-slice-copy-out-magnitude c = search needs
-
-magnitude-requires : tie.Need-magnitude-requires Inv-loop μ-loop
-magnitude-requires c κs = search needs
-
-same-length : tie.Need-same-length Inv-loop μ-loop
-same-length c = search needs
-
 returns : tie.Need-returns Inv-loop μ-loop
 returns c =
     let m = c .before in
@@ -68,9 +56,6 @@ returns c =
     let w = getD ws (l .i) (pos 0) in
     let z : w ≡ pos 0 = magnitude-zero w (rw (magnitude-at m) at (c .if1 .taken)) in
     (sym (ap checkOf (l .inv .0 ∙ prefix-at-zero ws (l .i) (search needs) (variablesBefore ws (l .i)) z)), λ e. refused e)
-
-same-length-2 : tie.Need-same-length-2 Inv-loop μ-loop
-same-length-2 c = search needs
 
 returns-2 : tie.Need-returns-2 Inv-loop μ-loop
 returns-2 c =
@@ -91,12 +76,6 @@ variable-at c =
     let w = getD (m .before .before .before .before .before .args .prefix .now) (m .before .before .before .loop .i) (pos 0) in
     magnitude-at m ∙ magnitude-signed w (rw (magnitude-at m) at (c .before .if1 .left)) (rw (magnitude-at m) at (c .if2 .left))
 
-slice-read-if3 : tie.Need-slice-read-if3 Inv-loop μ-loop
-slice-read-if3 c = search needs
-
-same-length-3 : tie.Need-same-length-3 Inv-loop μ-loop
-same-length-3 c = search needs
-
 returns-3 : tie.Need-returns-3 Inv-loop μ-loop
 unfolding marked
 returns-3 c =
@@ -112,15 +91,6 @@ returns-3 c =
       λ e. refused e,
     )
 
-slice-write-listed : tie.Need-slice-write-listed Inv-loop μ-loop
-slice-write-listed c = search needs
-
-add-i : tie.Need-add-i Inv-loop μ-loop
-add-i c = search needs
-
-loop-less : tie.Need-loop-less Inv-loop μ-loop
-loop-less c = search needs
-
 loop-again : tie.Need-loop-again Inv-loop μ-loop
 unfolding marked variablesBefore
 loop-again c =
@@ -135,9 +105,6 @@ loop-again c =
     let step = prefix-at-fresh ws (l .i) (search needs) (variablesBefore ws (l .i)) (rw v at (t .before .if1 .left)) (rw v at (t .if2 .left)) fresh in
     let room : natAbs w < length (l .listed) = rw (← v) (search needs) in
     (l .inv .0 ∙ rw add-one (rw add-one at step), rw (add-one, v) (marks-add (l .listed) (variablesBefore ws (l .i)) (natAbs w) room (l .inv .1)), simp length-set (l .inv .2), search needs)
-
-same-length-4 : tie.Need-same-length-4 Inv-loop μ-loop
-same-length-4 c = search needs
 
 returns-4 : tie.Need-returns-4 Inv-loop μ-loop
 unfolding prefixRefusal
@@ -156,19 +123,19 @@ check-prefix-spec =
     Inv-loop
     μ-loop
     loop-holds
-    mul-magnitude
-    shared-slice-copy-out-magnitude
-    magnitude-requires
-    same-length
+    (λ c. search needs)
+    (λ c. search needs)
+    (λ c κs. search needs)
+    (λ c. search needs)
     returns
-    same-length-2
+    (λ c. search needs)
     returns-2
-    slice-read-if3
-    same-length-3
+    (λ c. search needs)
+    (λ c. search needs)
     returns-3
-    slice-write-listed
-    add-i
-    loop-less
+    (λ c. search needs)
+    (λ c. search needs)
+    (λ c. search needs)
     loop-again
-    same-length-4
+    (λ c. search needs)
     returns-4)

@@ -8,23 +8,8 @@ use borrow.Author.Needs.{needs}
 use Rattle.formula.proofs.tables.check_words.Statement.{statement}
 use Rattle.formula.proofs.tables.check_words.Tie as tie
 
-slice-aggregate-check-prefix : tie.Need-slice-aggregate-check-prefix
-slice-aggregate-check-prefix c = search needs
-
 check-prefix-requires : tie.Need-check-prefix-requires
 check-prefix-requires c κs = (refl, marks-none 1025)
-
-enum-known-r : tie.Need-enum-known-r
-enum-known-r c = search needs
-
-enum-told : tie.Need-enum-told
-enum-told c = search needs
-
-slice-aggregate-check-clauses : tie.Need-slice-aggregate-check-clauses
-slice-aggregate-check-clauses c = search needs
-
-check-clauses-requires : tie.Need-check-clauses-requires
-check-clauses-requires c κs = search needs
 
 returns : tie.Need-returns
 unfolding wordsRefusal
@@ -52,11 +37,11 @@ pub check-words-spec : {M : Type 1} → statement M
 check-words-spec =
     tie.close
     (tie.spec
-    slice-aggregate-check-prefix
+    (λ c. search needs)
     check-prefix-requires
-    enum-known-r
-    enum-told
-    slice-aggregate-check-clauses
-    check-clauses-requires
+    (λ c. search needs)
+    (λ c. search needs)
+    (λ c. search needs)
+    (λ c κs. search needs)
     returns
     returns-2)

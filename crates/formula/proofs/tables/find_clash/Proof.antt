@@ -42,21 +42,6 @@ search-holds : tie.Need-search-holds Inv-loop μ-loop Inv-search μ-search
 unfolding variablesBefore
 search-holds c = (sym (zero-add _), omega arith)
 
-mul-new : tie.Need-mul-new Inv-loop μ-loop Inv-search μ-search
-mul-new c = search needs
-
-shared-slice-copy-out-new : tie.Need-shared-slice-copy-out-new Inv-loop μ-loop Inv-search μ-search
-shared-slice-copy-out-new c = search needs
-
-new-requires : tie.Need-new-requires Inv-loop μ-loop Inv-search μ-search
-new-requires c κs = search needs
-
-enum-known-literal : tie.Need-enum-known-literal Inv-loop μ-loop Inv-search μ-search
-enum-known-literal c = search needs
-
-enum-told : tie.Need-enum-told Inv-loop μ-loop Inv-search μ-search
-enum-told c = search needs
-
 -- every word of the clause is in range
 range-at : (c : tie.In-search Inv-loop μ-loop Inv-search μ-search) → inRange (natAbs (getD (c .before .before .args .clause .now) (c .before .search .i) (pos 0))) variableBound ≡ true
 range-at c =
@@ -115,24 +100,6 @@ loop-holds : tie.Need-loop-holds Inv-loop μ-loop Inv-search μ-search
 unfolding variablesBefore isIn
 loop-holds c = (refl, omega arith)
 
-mul-if1 : tie.Need-mul-if1 Inv-loop μ-loop Inv-search μ-search
-mul-if1 c = search needs
-
-shared-slice-copy-out-if1 : tie.Need-shared-slice-copy-out-if1 Inv-loop μ-loop Inv-search μ-search
-shared-slice-copy-out-if1 c = search needs
-
-mul-if2 : tie.Need-mul-if2 Inv-loop μ-loop Inv-search μ-search
-mul-if2 c = search needs
-
-shared-slice-copy-out-if2 : tie.Need-shared-slice-copy-out-if2 Inv-loop μ-loop Inv-search μ-search
-shared-slice-copy-out-if2 c = search needs
-
-add-j : tie.Need-add-j Inv-loop μ-loop Inv-search μ-search
-add-j c = search needs
-
-loop-less : tie.Need-loop-less Inv-loop μ-loop Inv-search μ-search
-loop-less c = search needs
-
 loop-again : tie.Need-loop-again Inv-loop μ-loop Inv-search μ-search
 loop-again c =
     let n = c .before .before .before .before .before .before .before .before .before .before in
@@ -146,12 +113,6 @@ loop-again c =
     (λ e. c .before .before .before .before .if1 .left (rw (literal-at (n .before)) (ap (ofZ w32) e)))
     (λ e. c .if2 .left (rw (opposite-at n) (ap (ofZ w32) e))) in
     rw add-one (before-fresh (natAbs w) ws (k .j) differ (k .inv .0), search needs)
-
-add-i : tie.Need-add-i Inv-loop μ-loop Inv-search μ-search
-add-i c = search needs
-
-search-less : tie.Need-search-less Inv-loop μ-loop Inv-search μ-search
-search-less c = search needs
 
 search-again : tie.Need-search-again Inv-loop μ-loop Inv-search μ-search
 unfolding variablesBefore
@@ -204,23 +165,23 @@ find-clash-spec =
     Inv-search
     μ-search
     search-holds
-    mul-new
-    shared-slice-copy-out-new
-    new-requires
-    enum-known-literal
-    enum-told
+    (λ c. search needs)
+    (λ c. search needs)
+    (λ c κs. search needs)
+    (λ c. search needs)
+    (λ c. search needs)
     returns
     negated-requires
     loop-holds
-    mul-if1
-    shared-slice-copy-out-if1
-    mul-if2
-    shared-slice-copy-out-if2
-    add-j
-    loop-less
+    (λ c. search needs)
+    (λ c. search needs)
+    (λ c. search needs)
+    (λ c. search needs)
+    (λ c. search needs)
+    (λ c. search needs)
     loop-again
-    add-i
-    search-less
+    (λ c. search needs)
+    (λ c. search needs)
     search-again
     returns-2
     returns-3

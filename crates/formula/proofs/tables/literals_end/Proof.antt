@@ -43,15 +43,6 @@ run-ends :
     ≡ c .before .before .before .args .from + plainRun (marked (c .before .before .before .args .listed .now)) (drop (c .before .before .before .args .from) (c .before .before .before .args .clauses .now))
 run-ends c e = omega (arith, c .before .loop .inv .0)
 
-mul-magnitude : tie.Need-mul-magnitude Inv-loop μ-loop
-mul-magnitude c = search needs
-
-shared-slice-copy-out-magnitude : tie.Need-shared-slice-copy-out-magnitude Inv-loop μ-loop
-shared-slice-copy-out-magnitude c = search needs
-
-magnitude-requires : tie.Need-magnitude-requires Inv-loop μ-loop
-magnitude-requires c κs = search needs
-
 returns : tie.Need-returns Inv-loop μ-loop
 returns c =
     let m = c .before in
@@ -80,9 +71,6 @@ variable-at c =
     let w = getD (m .before .before .before .before .before .args .clauses .now) (m .before .before .before .loop .i) (pos 0) in
     magnitude-at m ∙ magnitude-signed w (rw (magnitude-at m) at (c .before .if1 .left)) (rw (magnitude-at m) at (c .if2 .left))
 
-shared-slice-read-if3 : tie.Need-shared-slice-read-if3 Inv-loop μ-loop
-shared-slice-read-if3 c = search needs
-
 returns-3 : tie.Need-returns-3 Inv-loop μ-loop
 unfolding marked
 returns-3 c =
@@ -93,12 +81,6 @@ returns-3 c =
     let w = getD (a .clauses .now) (l .i) (pos 0) in
     let n : eqb (getD (a .listed .now) (natAbs w) 0) 1 ≡ false = ne-eqb (getD (a .listed .now) (natAbs w) 0) 1 (rw (variable-at t) at (c .if3 .taken)) in
     run-ends (m .before .before) (plain-at-unknown (marked (a .listed .now)) (a .clauses .now) (l .i) (search needs) n)
-
-add-i : tie.Need-add-i Inv-loop μ-loop
-add-i c = search needs
-
-loop-less : tie.Need-loop-less Inv-loop μ-loop
-loop-less c = search needs
 
 loop-again : tie.Need-loop-again Inv-loop μ-loop
 unfolding marked
@@ -130,14 +112,14 @@ literals-end-spec =
     Inv-loop
     μ-loop
     loop-holds
-    mul-magnitude
-    shared-slice-copy-out-magnitude
-    magnitude-requires
+    (λ c. search needs)
+    (λ c. search needs)
+    (λ c κs. search needs)
     returns
     returns-2
-    shared-slice-read-if3
+    (λ c. search needs)
     returns-3
-    add-i
-    loop-less
+    (λ c. search needs)
+    (λ c. search needs)
     loop-again
     returns-4)

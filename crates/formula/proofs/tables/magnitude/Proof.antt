@@ -8,21 +8,6 @@ use Rattle.formula.specs.Tables.Scan.{magnitudeOf}
 use Rattle.formula.proofs.tables.magnitude.Statement.{statement}
 use Rattle.formula.proofs.tables.magnitude.Tie as tie
 
-of-requires : tie.Need-of-requires
-of-requires c κs = search needs
-
-enum-told : tie.Need-enum-told
-enum-told c = search needs
-
-enum-told-2 : tie.Need-enum-told-2
-enum-told-2 c = search needs
-
-enum-known-v : tie.Need-enum-known-v
-enum-known-v c = search needs
-
-enum-known-v-2 : tie.Need-enum-known-v-2
-enum-known-v-2 c = search needs
-
 -- the word's kind, the word read back from its bits
 kind-at : (c : tie.After-of) → c .of .result ≡ wordOf (c .before .args .word)
 kind-at c =
@@ -49,11 +34,11 @@ pub magnitude-spec : {M : Type 1} → statement M
 magnitude-spec =
     tie.close
     (tie.spec
-    of-requires
-    enum-told
-    enum-told-2
-    enum-known-v
-    enum-known-v-2
+    (λ c κs. search needs)
+    (λ c. search needs)
+    (λ c. search needs)
+    (λ c. search needs)
+    (λ c. search needs)
     returns
     returns-2
     returns-3

@@ -27,30 +27,12 @@ goes-on InLine h at later = refl
 goes-on Comment h at later = refl
 goes-on Over h at later = absurd (miss (0 ∷ 1 ∷ 2 ∷ []) 3 tt h)
 
-loop-holds : tie.Need-loop-holds Inv-loop μ-loop
-loop-holds c = search needs
-
-shared-slice-read-lead-step : tie.Need-shared-slice-read-lead-step Inv-loop μ-loop
-shared-slice-read-lead-step c = search needs
-
-lead-step-requires : tie.Need-lead-step-requires Inv-loop μ-loop
-lead-step-requires c κs = search needs
-
-enum-told : tie.Need-enum-told Inv-loop μ-loop
-enum-told c = search needs
-
 returns : tie.Need-returns Inv-loop μ-loop
 returns c =
     let l = c .before .before .before .before .before .loop in
     let step = c .before .before .lead-step in
     let text = c .before .before .before .before .before .before .before .args .text .now in
     sym (l .inv .0 ∙ lead-byte text (l .i) (l .lead) (step .result) (search needs) (step .ensures) ∙ ap (λ s. leadPlace s (l .i) (leadFrom (l .i + 1) s (drop (l .i + 1) text))) (c .enum-told .given .1))
-
-add-i : tie.Need-add-i Inv-loop μ-loop
-add-i c = search needs
-
-loop-less : tie.Need-loop-less Inv-loop μ-loop
-loop-less c = search needs
 
 loop-again : tie.Need-loop-again Inv-loop μ-loop
 loop-again c =
@@ -73,12 +55,12 @@ first-token-spec =
     (tie.spec
     Inv-loop
     μ-loop
-    loop-holds
-    shared-slice-read-lead-step
-    lead-step-requires
-    enum-told
+    (λ c. search needs)
+    (λ c. search needs)
+    (λ c κs. search needs)
+    (λ c. search needs)
     returns
-    add-i
-    loop-less
+    (λ c. search needs)
+    (λ c. search needs)
     loop-again
     returns-2)

@@ -8,33 +8,15 @@ use borrow.Author.Needs.{needs}
 use Rattle.formula.proofs.token.grow.Statement.{statement}
 use Rattle.formula.proofs.token.grow.Tie as tie
 
-enum-known-token : tie.Need-enum-known-token
-enum-known-token c = search needs
-
-is-digit-requires : tie.Need-is-digit-requires
-is-digit-requires c κs = search needs
-
 numeral-requires : tie.Need-numeral-requires
 numeral-requires c κs =
     let t = rw (c .before .is-digit .ensures) at (c .if1 .taken) in
     digit-least (c .before .before .before .before .before .args .b) (and-right (ltb 0 (c .before .before .before .token .given .0 .0)) _ t)
 
-enum-known-token-2 : tie.Need-enum-known-token-2
-enum-known-token-2 c = search needs
-
-is-digit-requires-2 : tie.Need-is-digit-requires-2
-is-digit-requires-2 c κs = search needs
-
 numeral-requires-2 : tie.Need-numeral-requires-2
 numeral-requires-2 c κs =
     let t = rw (c .before .is-digit2 .ensures) at (c .if2 .taken) in
     digit-least (c .before .before .before .before .before .args .b) t
-
-enum-known-token-3 : tie.Need-enum-known-token-3
-enum-known-token-3 c = search needs
-
-grow-word-requires : tie.Need-grow-word-requires
-grow-word-requires c κs = search needs
 
 returns : tie.Need-returns
 unfolding grow
@@ -67,14 +49,14 @@ pub grow-spec : {M : Type 1} → statement M
 grow-spec =
     tie.close
     (tie.spec
-    enum-known-token
-    is-digit-requires
+    (λ c. search needs)
+    (λ c κs. search needs)
     numeral-requires
-    enum-known-token-2
-    is-digit-requires-2
+    (λ c. search needs)
+    (λ c κs. search needs)
     numeral-requires-2
-    enum-known-token-3
-    grow-word-requires
+    (λ c. search needs)
+    (λ c κs. search needs)
     returns
     returns-2
     returns-3

@@ -19,26 +19,11 @@ abbrev μ-loop : tie.MeasureT-loop
 loop-holds : tie.Need-loop-holds Inv-loop μ-loop
 loop-holds c = refl
 
-shared-slice-read-b : tie.Need-shared-slice-read-b Inv-loop μ-loop
-shared-slice-read-b c = search needs
-
-is-blank-requires : tie.Need-is-blank-requires Inv-loop μ-loop
-is-blank-requires c κs = search needs
-
 returns : tie.Need-returns Inv-loop μ-loop
 returns c =
     let l = c .before .before .before .before .loop in
     let args = c .before .before .before .before .before .before .args in
     sym (l .inv ∙ next-byte (args .text .now) (l .i) (within (args .start) (l .token)) true (search needs) (sym (c .if1 .taken) ∙ c .before .is-blank .ensures))
-
-grow-requires : tie.Need-grow-requires Inv-loop μ-loop
-grow-requires c κs = search needs
-
-add-i : tie.Need-add-i Inv-loop μ-loop
-add-i c = search needs
-
-loop-less : tie.Need-loop-less Inv-loop μ-loop
-loop-less c = search needs
 
 loop-again : tie.Need-loop-again Inv-loop μ-loop
 loop-again c =
@@ -59,11 +44,11 @@ grow-token-spec =
     Inv-loop
     μ-loop
     loop-holds
-    shared-slice-read-b
-    is-blank-requires
+    (λ c. search needs)
+    (λ c κs. search needs)
     returns
-    grow-requires
-    add-i
-    loop-less
+    (λ c κs. search needs)
+    (λ c. search needs)
+    (λ c. search needs)
     loop-again
     returns-2)

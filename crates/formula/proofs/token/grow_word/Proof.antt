@@ -9,9 +9,6 @@ use borrow.Author.Needs.{needs}
 use Rattle.formula.proofs.token.grow_word.Statement.{statement}
 use Rattle.formula.proofs.token.grow_word.Tie as tie
 
-is-digit-requires : tie.Need-is-digit-requires
-is-digit-requires c κs = search needs
-
 numeral-requires : tie.Need-numeral-requires
 numeral-requires c κs =
     let t = rw (c .before .is-digit .ensures) at (c .if1 .taken) in
@@ -22,9 +19,6 @@ unfolding grow
 returns c =
     let t = rw (c .before .before .is-digit .ensures) at (c .before .if1 .taken) in
     simp t (ap Natural (c .numeral .ensures))
-
-is-digit-requires-2 : tie.Need-is-digit-requires-2
-is-digit-requires-2 c κs = search needs
 
 numeral-requires-2 : tie.Need-numeral-requires-2
 numeral-requires-2 c κs =
@@ -39,9 +33,6 @@ returns-2 c =
     let t = rw (c .before .before .is-digit2 .ensures) at (c .before .if2 .taken) in
     simp (n, t) (ap Negative (c .numeral2 .ensures))
 
-spell-requires : tie.Need-spell-requires
-spell-requires c κs = search needs
-
 returns-3 : tie.Need-returns-3
 unfolding grow
 returns-3 c =
@@ -53,11 +44,11 @@ pub grow-word-spec : {M : Type 1} → statement M
 grow-word-spec =
     tie.close
     (tie.spec
-    is-digit-requires
+    (λ c κs. search needs)
     numeral-requires
     returns
-    is-digit-requires-2
+    (λ c κs. search needs)
     numeral-requires-2
     returns-2
-    spell-requires
+    (λ c κs. search needs)
     returns-3)

@@ -23,27 +23,12 @@ abbrev μ-loop : tie.MeasureT-loop
 loop-holds : tie.Need-loop-holds Inv-loop μ-loop
 loop-holds c = omega arith
 
-mul-variable : tie.Need-mul-variable Inv-loop μ-loop
-mul-variable c = search needs
-
-shared-slice-copy-out-variable : tie.Need-shared-slice-copy-out-variable Inv-loop μ-loop
-shared-slice-copy-out-variable c = search needs
-
 variable-requires : tie.Need-variable-requires Inv-loop μ-loop
 variable-requires c κs =
     let s = c .before .before .before in
     let w = getD (s .args .prefix .now) (c .before .before .loop .i) (pos 0) in
     let e : toZ w32 (ofZ w32 w) ≡ w = search needs in
     rw e (s .pre .bounded (c .before .before .loop .i))
-
-larger-requires : tie.Need-larger-requires Inv-loop μ-loop
-larger-requires c κs = search needs
-
-add-i : tie.Need-add-i Inv-loop μ-loop
-add-i c = search needs
-
-loop-less : tie.Need-loop-less Inv-loop μ-loop
-loop-less c = search needs
 
 loop-again : tie.Need-loop-again Inv-loop μ-loop
 loop-again c =
@@ -67,11 +52,11 @@ largest-variable-spec =
     Inv-loop
     μ-loop
     loop-holds
-    mul-variable
-    shared-slice-copy-out-variable
+    (λ c. search needs)
+    (λ c. search needs)
     variable-requires
-    larger-requires
-    add-i
-    loop-less
+    (λ c κs. search needs)
+    (λ c. search needs)
+    (λ c. search needs)
     loop-again
     returns)

@@ -25,12 +25,6 @@ abbrev μ-loop : tie.MeasureT-loop
 loop-holds : tie.Need-loop-holds Inv-loop μ-loop
 loop-holds c = (remains-all _ _ _, omega arith)
 
-mul-write-word : tie.Need-mul-write-word Inv-loop μ-loop
-mul-write-word c = search needs
-
-shared-slice-copy-out-write-word : tie.Need-shared-slice-copy-out-write-word Inv-loop μ-loop
-shared-slice-copy-out-write-word c = search needs
-
 write-word-requires : tie.Need-write-word-requires Inv-loop μ-loop
 write-word-requires c κs =
     let s = c .before .before .before .before .before in
@@ -43,12 +37,6 @@ write-word-requires c κs =
       below-first (l .next) (wordText w) (clausesText (drop (suc (l .i)) ws))
           (rw (clauses-text-drop (l .i) ws (c .before .before .loop-test .taken)) at (below-remains (s .pre .1) (l .inv .0))),
     )
-
-add-i : tie.Need-add-i Inv-loop μ-loop
-add-i c = search needs
-
-loop-less : tie.Need-loop-less Inv-loop μ-loop
-loop-less c = search needs
 
 loop-again : tie.Need-loop-again Inv-loop μ-loop
 loop-again c =
@@ -79,11 +67,11 @@ write-clauses-spec =
     Inv-loop
     μ-loop
     loop-holds
-    mul-write-word
-    shared-slice-copy-out-write-word
+    (λ c. search needs)
+    (λ c. search needs)
     write-word-requires
-    add-i
-    loop-less
+    (λ c. search needs)
+    (λ c. search needs)
     loop-again
     same-length
     returns)

@@ -14,9 +14,6 @@ use borrow.Author.Needs.{needs}
 use Rattle.formula.proofs.write.write_entry.Statement.{statement}
 use Rattle.formula.proofs.write.write_entry.Tie as tie
 
-letter-requires : tie.Need-letter-requires
-letter-requires c κs = search needs
-
 -- the function's start, and the letter and the variable, of the word itself
 abbrev start : tie.After-letter → tie.Start
 start c = c .before .before .before
@@ -41,9 +38,6 @@ turn-line-requires c κs =
     below-first _ (lineTurn (eqb (a .last) l) (a .last) l) (decimal (natAbs (a .word)) ++ (32 ∷ []))
     (rw (entry-text (a .last) l (natAbs (a .word)) (a .word) (letter-at c) refl) at (start c .pre .1))
 
-variable-requires : tie.Need-variable-requires
-variable-requires c κs = search needs
-
 write-spaced-requires : tie.Need-write-spaced-requires
 write-spaced-requires c κs =
     let s = start (lettered c) in
@@ -51,9 +45,6 @@ write-spaced-requires c κs =
     below-rest (decimal v ++ (32 ∷ []))
     (rw (entry-text (s .args .last) (lettered c .letter .result) v (s .args .word) (letter-at (lettered c)) (variable-at c)) at (s .pre .1))
     (c .before .before .before .before .turn-line .ensures)
-
-same-length : tie.Need-same-length
-same-length c = search needs
 
 returns : tie.Need-returns
 returns c =
@@ -67,9 +58,9 @@ pub write-entry-spec : {M : Type 1} → statement M
 write-entry-spec =
     tie.close
     (tie.spec
-    letter-requires
+    (λ c κs. search needs)
     turn-line-requires
-    variable-requires
+    (λ c κs. search needs)
     write-spaced-requires
-    same-length
+    (λ c. search needs)
     returns)

@@ -7,18 +7,6 @@ use borrow.Author.Needs.{needs}
 use Rattle.formula.proofs.write.write_formula.Statement.{statement}
 use Rattle.formula.proofs.write.write_formula.Tie as tie
 
-check-tables-requires : tie.Need-check-tables-requires
-check-tables-requires c κs = search needs
-
-enum-known-refusal : tie.Need-enum-known-refusal
-enum-known-refusal c = search needs
-
-clear-bytes-requires : tie.Need-clear-bytes-requires
-clear-bytes-requires c κs = search needs
-
-enum-known-count : tie.Need-enum-known-count
-enum-known-count c = search needs
-
 -- the function's start, where the check has admitted the tables, and what its answer says of them
 abbrev start : tie.After-known-told2 → tie.Start
 start c = c .before .before .before .before .before
@@ -35,12 +23,6 @@ admitted-at c =
 write-tables-requires : tie.Need-write-tables-requires
 write-tables-requires c κs = admitted-at (c .before)
 
-finish-requires : tie.Need-finish-requires
-finish-requires c κs = search needs
-
-same-length : tie.Need-same-length
-same-length c = search needs
-
 returns : tie.Need-returns
 returns c =
     let a = c .before .before .before .before .before .before .before .before .before .args in
@@ -48,9 +30,6 @@ returns c =
     let r = refused .refusal .given .0 .0 in
     let e = answer-refused (a .prefix .now) (a .clauses .now) r (sym (refused .before .before .check-tables .ensures) ∙ refused .refusal .given .1) in
     rw (c .before .before .clear-bytes .ensures) (writes-refused (a .prefix .now) (a .clauses .now) (a .text .now) r e)
-
-same-length-2 : tie.Need-same-length-2
-same-length-2 c = search needs
 
 returns-2 : tie.Need-returns-2
 returns-2 c =
@@ -63,13 +42,13 @@ pub write-formula-spec : {M : Type 1} → statement M
 write-formula-spec =
     tie.close
     (tie.spec
-    check-tables-requires
-    enum-known-refusal
-    clear-bytes-requires
-    enum-known-count
+    (λ c κs. search needs)
+    (λ c. search needs)
+    (λ c κs. search needs)
+    (λ c. search needs)
     write-tables-requires
-    finish-requires
-    same-length
+    (λ c κs. search needs)
+    (λ c. search needs)
     returns
-    same-length-2
+    (λ c. search needs)
     returns-2)

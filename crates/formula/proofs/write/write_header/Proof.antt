@@ -7,12 +7,6 @@ use borrow.Author.Needs.{needs}
 use Rattle.formula.proofs.write.write_header.Statement.{statement}
 use Rattle.formula.proofs.write.write_header.Tie as tie
 
-slice-aggregate-write-bytes : tie.Need-slice-aggregate-write-bytes
-slice-aggregate-write-bytes c = search needs
-
-write-bytes-requires : tie.Need-write-bytes-requires
-write-bytes-requires c κs = search needs
-
 write-number-requires : tie.Need-write-number-requires
 write-number-requires c κs =
     let s = c .before .before .before .before .before .before .before in
@@ -57,9 +51,6 @@ put-requires-2 c κs =
       count .write-number2 .ensures .reached,
     )
 
-same-length : tie.Need-same-length
-same-length c = search needs
-
 returns : tie.Need-returns
 unfolding headerText
 returns c =
@@ -76,11 +67,11 @@ pub write-header-spec : {M : Type 1} → statement M
 write-header-spec =
     tie.close
     (tie.spec
-    slice-aggregate-write-bytes
-    write-bytes-requires
+    (λ c. search needs)
+    (λ c κs. search needs)
     write-number-requires
     put-requires
     write-number-requires-2
     put-requires-2
-    same-length
+    (λ c. search needs)
     returns)

@@ -26,12 +26,6 @@ abbrev μ-loop : tie.MeasureT-loop
 loop-holds : tie.Need-loop-holds Inv-loop μ-loop
 loop-holds c = (remains-all _ _ _, omega arith)
 
-mul-write-entry : tie.Need-mul-write-entry Inv-loop μ-loop
-mul-write-entry c = search needs
-
-shared-slice-copy-out-write-entry : tie.Need-shared-slice-copy-out-write-entry Inv-loop μ-loop
-shared-slice-copy-out-write-entry c = search needs
-
 write-entry-requires : tie.Need-write-entry-requires Inv-loop μ-loop
 write-entry-requires c κs =
     let s = c .before .before .before .before .before in
@@ -45,12 +39,6 @@ write-entry-requires c κs =
           (rw (prefix-text-drop (l .i) ws (c .before .before .loop-test .taken) (l .last)) at (below-remains (s .pre .1) (l .inv .0))),
     )
 
-mul-letter : tie.Need-mul-letter Inv-loop μ-loop
-mul-letter c = search needs
-
-shared-slice-copy-out-letter : tie.Need-shared-slice-copy-out-letter Inv-loop μ-loop
-shared-slice-copy-out-letter c = search needs
-
 letter-requires : tie.Need-letter-requires Inv-loop μ-loop
 letter-requires c κs =
     let s = c .before .before .before .before .before .before .before .before .before in
@@ -58,12 +46,6 @@ letter-requires c κs =
     let w = getD (s .args .prefix .now) (l .i) (pos 0) in
     let e : toZ w32 (ofZ w32 w) ≡ w = search needs in
     rw e (s .pre .0 .bounded (l .i))
-
-add-i : tie.Need-add-i Inv-loop μ-loop
-add-i c = search needs
-
-loop-less : tie.Need-loop-less Inv-loop μ-loop
-loop-less c = search needs
 
 loop-again : tie.Need-loop-again Inv-loop μ-loop
 loop-again c =
@@ -105,14 +87,14 @@ write-prefix-spec =
     Inv-loop
     μ-loop
     loop-holds
-    mul-write-entry
-    shared-slice-copy-out-write-entry
+    (λ c. search needs)
+    (λ c. search needs)
     write-entry-requires
-    mul-letter
-    shared-slice-copy-out-letter
+    (λ c. search needs)
+    (λ c. search needs)
     letter-requires
-    add-i
-    loop-less
+    (λ c. search needs)
+    (λ c. search needs)
     loop-again
     end-line-requires
     same-length

@@ -72,9 +72,6 @@ write-clauses-requires c κs =
       below-rest (clausesText q) (below-rest (prefixText 0 p ++ clausesText q) (below-at l) (header .write-header .ensures)) (lines .write-prefix .ensures),
     )
 
-same-length : tie.Need-same-length
-same-length c = search needs
-
 returns : tie.Need-returns
 returns c =
     let lines = c .before .before .before .before .before .before in
@@ -90,5 +87,5 @@ write-tables-spec =
     write-header-requires
     write-prefix-requires
     write-clauses-requires
-    same-length
+    (λ c. search needs)
     returns)

@@ -30,29 +30,11 @@ negative-text c =
     let e : toZ w32 (ofZ w32 z) ≡ z = search needs in
     shows-negative z (c .before .v2 .given .0 .0) (rw e at (sym (c .before .before .before .of .ensures) ∙ c .before .v2 .given .1)) .text-is
 
-of-requires : tie.Need-of-requires
-of-requires c κs = search needs
-
-enum-told : tie.Need-enum-told
-enum-told c = search needs
-
-slice-aggregate-write-bytes : tie.Need-slice-aggregate-write-bytes
-slice-aggregate-write-bytes c = search needs
-
 write-bytes-requires : tie.Need-write-bytes-requires
 write-bytes-requires c κs = rw (zero-text (c .before .before)) at (c .before .before .before .before .before .before .pre .1)
 
-enum-told-2 : tie.Need-enum-told-2
-enum-told-2 c = search needs
-
-enum-known-v : tie.Need-enum-known-v
-enum-known-v c = search needs
-
 write-spaced-requires : tie.Need-write-spaced-requires
 write-spaced-requires c κs = rw (positive-text (c .before)) at (c .before .before .before .before .before .before .pre .1)
-
-enum-known-v-2 : tie.Need-enum-known-v-2
-enum-known-v-2 c = search needs
 
 put-requires : tie.Need-put-requires
 put-requires c κs =
@@ -65,9 +47,6 @@ write-spaced-requires-2 c κs =
     let told = minus .before .before in
     below-rest (decimal (told .before .v2 .given .0 .0 .0) ++ (32 ∷ [])) (rw (negative-text told) at (told .before .before .before .before .before .pre .1)) (minus .put .ensures)
 
-same-length : tie.Need-same-length
-same-length c = search needs
-
 returns : tie.Need-returns
 returns c = rw (zero-text (c .before .before .before .before .before)) (c .before .before .write-bytes .ensures)
 
@@ -77,14 +56,8 @@ returns-2 c =
     let e : toZ w32 (ofZ w32 (s .args .word)) ≡ s .args .word = search needs in
     not-too-large (s .args .word) (s .pre .0) (rw e at (sym (c .before .before .of .ensures) ∙ c .enum-told2 .given .1))
 
-same-length-2 : tie.Need-same-length-2
-same-length-2 c = search needs
-
 returns-3 : tie.Need-returns-3
 returns-3 c = rw (positive-text (c .before .before .before .before)) (c .before .before .write-spaced .ensures)
-
-same-length-3 : tie.Need-same-length-3
-same-length-3 c = search needs
 
 returns-4 : tie.Need-returns-4
 returns-4 c =
@@ -95,20 +68,20 @@ pub write-word-spec : {M : Type 1} → statement M
 write-word-spec =
     tie.close
     (tie.spec
-    of-requires
-    enum-told
-    slice-aggregate-write-bytes
+    (λ c κs. search needs)
+    (λ c. search needs)
+    (λ c. search needs)
     write-bytes-requires
-    enum-told-2
-    enum-known-v
+    (λ c. search needs)
+    (λ c. search needs)
     write-spaced-requires
-    enum-known-v-2
+    (λ c. search needs)
     put-requires
     write-spaced-requires-2
-    same-length
+    (λ c. search needs)
     returns
     returns-2
-    same-length-2
+    (λ c. search needs)
     returns-3
-    same-length-3
+    (λ c. search needs)
     returns-4)

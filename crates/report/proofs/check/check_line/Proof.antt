@@ -10,45 +10,6 @@ use borrow.Author.Needs.{needs}
 use Rattle.report.proofs.check.check_line.Statement.{statement}
 use Rattle.report.proofs.check.check_line.Tie as tie
 
-files-line-requires : tie.Need-files-line-requires
-files-line-requires c κs = search needs
-
-clear-words-requires : tie.Need-clear-words-requires
-clear-words-requires c κs = search needs
-
-clear-words-requires-2 : tie.Need-clear-words-requires-2
-clear-words-requires-2 c κs = search needs
-
-clear-words-requires-3 : tie.Need-clear-words-requires-3
-clear-words-requires-3 c κs = search needs
-
-clear-bytes-requires : tie.Need-clear-bytes-requires
-clear-bytes-requires c κs = search needs
-
-clear-numbers-requires : tie.Need-clear-numbers-requires
-clear-numbers-requires c κs = search needs
-
-finish-requires : tie.Need-finish-requires
-finish-requires c κs = search needs
-
-same-length : tie.Need-same-length
-same-length c = search needs
-
-same-length-2 : tie.Need-same-length-2
-same-length-2 c = search needs
-
-same-length-3 : tie.Need-same-length-3
-same-length-3 c = search needs
-
-same-length-4 : tie.Need-same-length-4
-same-length-4 c = search needs
-
-same-length-5 : tie.Need-same-length-5
-same-length-5 c = search needs
-
-same-length-6 : tie.Need-same-length-6
-same-length-6 c = search needs
-
 returns : tie.Need-returns
 returns c =
     let done = c .before .before in
@@ -78,17 +39,17 @@ pub check-line-spec : {M : Type 1} → statement M
 check-line-spec =
     tie.close
     (tie.spec
-    files-line-requires
-    clear-words-requires
-    clear-words-requires-2
-    clear-words-requires-3
-    clear-bytes-requires
-    clear-numbers-requires
-    finish-requires
-    same-length
-    same-length-2
-    same-length-3
-    same-length-4
-    same-length-5
-    same-length-6
+    (λ c κs. search needs)
+    (λ c κs. search needs)
+    (λ c κs. search needs)
+    (λ c κs. search needs)
+    (λ c κs. search needs)
+    (λ c κs. search needs)
+    (λ c κs. search needs)
+    (λ c. search needs)
+    (λ c. search needs)
+    (λ c. search needs)
+    (λ c. search needs)
+    (λ c. search needs)
+    (λ c. search needs)
     returns)

@@ -9,18 +9,6 @@ use borrow.Author.Needs.{needs}
 use Rattle.report.proofs.check.files_line.Statement.{statement}
 use Rattle.report.proofs.check.files_line.Tie as tie
 
-settle-formula-requires : tie.Need-settle-formula-requires
-settle-formula-requires c κs = search needs
-
-enum-known-r : tie.Need-enum-known-r
-enum-known-r c = search needs
-
-refused-line-requires : tie.Need-refused-line-requires
-refused-line-requires c κs = search needs
-
-enum-known-prefix-used : tie.Need-enum-known-prefix-used
-enum-known-prefix-used c = search needs
-
 slice-reshare-prefix-proof-line : tie.Need-slice-reshare-prefix-proof-line
 slice-reshare-prefix-proof-line c = c .before .before .before .before .before .settle-formula .ensures .within _ _ _ (c .before .prefix-used .given .1) .0
 
@@ -36,15 +24,6 @@ slice-aggregate-proof-line-2 c = sym (length-take-le _ _ (c .before .before .bef
 proof-line-requires : tie.Need-proof-line-requires
 proof-line-requires c κs = c .before .before .before .before .before .before .before .before .before .before .before .settle-formula .ensures .within _ _ _ (c .before .before .before .before .before .before .before .prefix-used .given .1) .2
 
-same-length : tie.Need-same-length
-same-length c = search needs
-
-same-length-2 : tie.Need-same-length-2
-same-length-2 c = search needs
-
-same-length-3 : tie.Need-same-length-3
-same-length-3 c = search needs
-
 returns : tie.Need-returns
 returns c =
     let told = c .before .before .before .before .before in
@@ -52,24 +31,6 @@ returns c =
     stores-instead
     (refused-line _ _ _ _ (formula-settled-refused (settle .settle-formula .ensures) (told .r .given .1)))
     (c .before .before .refused-line .ensures)
-
-same-length-4 : tie.Need-same-length-4
-same-length-4 c = search needs
-
-same-length-5 : tie.Need-same-length-5
-same-length-5 c = search needs
-
-same-length-6 : tie.Need-same-length-6
-same-length-6 c = search needs
-
-same-length-7 : tie.Need-same-length-7
-same-length-7 c = search needs
-
-same-length-8 : tie.Need-same-length-8
-same-length-8 c = search needs
-
-same-length-9 : tie.Need-same-length-9
-same-length-9 c = search needs
 
 returns-2 : tie.Need-returns-2
 returns-2 c =
@@ -84,23 +45,23 @@ pub files-line-spec : {M : Type 1} → statement M
 files-line-spec =
     tie.close
     (tie.spec
-    settle-formula-requires
-    enum-known-r
-    refused-line-requires
-    enum-known-prefix-used
+    (λ c κs. search needs)
+    (λ c. search needs)
+    (λ c κs. search needs)
+    (λ c. search needs)
     slice-reshare-prefix-proof-line
     slice-aggregate-proof-line
     slice-reshare-prefix-proof-line-2
     slice-aggregate-proof-line-2
     proof-line-requires
-    same-length
-    same-length-2
-    same-length-3
+    (λ c. search needs)
+    (λ c. search needs)
+    (λ c. search needs)
     returns
-    same-length-4
-    same-length-5
-    same-length-6
-    same-length-7
-    same-length-8
-    same-length-9
+    (λ c. search needs)
+    (λ c. search needs)
+    (λ c. search needs)
+    (λ c. search needs)
+    (λ c. search needs)
+    (λ c. search needs)
     returns-2)

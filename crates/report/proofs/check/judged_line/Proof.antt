@@ -7,21 +7,6 @@ use borrow.Author.Needs.{needs}
 use Rattle.report.proofs.check.judged_line.Statement.{statement}
 use Rattle.report.proofs.check.judged_line.Tie as tie
 
-check-proof-requires : tie.Need-check-proof-requires
-check-proof-requires c κs = search needs
-
-verdict-line-requires : tie.Need-verdict-line-requires
-verdict-line-requires c κs = search needs
-
-same-length : tie.Need-same-length
-same-length c = search needs
-
-same-length-2 : tie.Need-same-length-2
-same-length-2 c = search needs
-
-same-length-3 : tie.Need-same-length-3
-same-length-3 c = search needs
-
 returns : tie.Need-returns
 returns c =
     let told = c .before .before in
@@ -33,9 +18,9 @@ pub judged-line-spec : {M : Type 1} → statement M
 judged-line-spec =
     tie.close
     (tie.spec
-    check-proof-requires
-    verdict-line-requires
-    same-length
-    same-length-2
-    same-length-3
+    (λ c κs. search needs)
+    (λ c κs. search needs)
+    (λ c. search needs)
+    (λ c. search needs)
+    (λ c. search needs)
     returns)

@@ -12,33 +12,6 @@ use borrow.Author.Needs.{needs}
 use Rattle.report.proofs.dependents.dependency_lines.Statement.{statement}
 use Rattle.report.proofs.dependents.dependency_lines.Tie as tie
 
-write-settled-requires : tie.Need-write-settled-requires
-write-settled-requires c κs = search needs
-
-clear-words-requires : tie.Need-clear-words-requires
-clear-words-requires c κs = search needs
-
-clear-words-requires-2 : tie.Need-clear-words-requires-2
-clear-words-requires-2 c κs = search needs
-
-clear-bytes-requires : tie.Need-clear-bytes-requires
-clear-bytes-requires c κs = search needs
-
-finish-requires : tie.Need-finish-requires
-finish-requires c κs = search needs
-
-same-length : tie.Need-same-length
-same-length c = search needs
-
-same-length-2 : tie.Need-same-length-2
-same-length-2 c = search needs
-
-same-length-3 : tie.Need-same-length-3
-same-length-3 c = search needs
-
-same-length-4 : tie.Need-same-length-4
-same-length-4 c = search needs
-
 returns : tie.Need-returns
 unfolding clearFrom
 returns c =
@@ -64,13 +37,13 @@ pub dependency-lines-spec : {M : Type 1} → statement M
 dependency-lines-spec =
     tie.close
     (tie.spec
-    write-settled-requires
-    clear-words-requires
-    clear-words-requires-2
-    clear-bytes-requires
-    finish-requires
-    same-length
-    same-length-2
-    same-length-3
-    same-length-4
+    (λ c κs. search needs)
+    (λ c κs. search needs)
+    (λ c κs. search needs)
+    (λ c κs. search needs)
+    (λ c κs. search needs)
+    (λ c. search needs)
+    (λ c. search needs)
+    (λ c. search needs)
+    (λ c. search needs)
     returns)

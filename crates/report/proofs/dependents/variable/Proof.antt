@@ -7,21 +7,6 @@ use Rattle.formula.specs.Written.Words.{shows-zero, shows-positive, shows-negat
 use Rattle.report.proofs.dependents.variable.Statement.{statement}
 use Rattle.report.proofs.dependents.variable.Tie as tie
 
-of-requires : tie.Need-of-requires
-of-requires c κs = search needs
-
-enum-told : tie.Need-enum-told
-enum-told c = search needs
-
-enum-told-2 : tie.Need-enum-told-2
-enum-told-2 c = search needs
-
-enum-known-v : tie.Need-enum-known-v
-enum-known-v c = search needs
-
-enum-known-v-2 : tie.Need-enum-known-v-2
-enum-known-v-2 c = search needs
-
 returns : tie.Need-returns
 returns c =
     let z = c .before .before .before .args .word in
@@ -50,11 +35,11 @@ pub variable-spec : {M : Type 1} → statement M
 variable-spec =
     tie.close
     (tie.spec
-    of-requires
-    enum-told
-    enum-told-2
-    enum-known-v
-    enum-known-v-2
+    (λ c κs. search needs)
+    (λ c. search needs)
+    (λ c. search needs)
+    (λ c. search needs)
+    (λ c. search needs)
     returns
     returns-2
     returns-3

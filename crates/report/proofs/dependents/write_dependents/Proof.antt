@@ -25,12 +25,6 @@ abbrev μ-loop : tie.MeasureT-loop
 loop-holds : tie.Need-loop-holds Inv-loop μ-loop
 loop-holds c = (remains-all _ _ _, omega arith)
 
-mul-variable : tie.Need-mul-variable Inv-loop μ-loop
-mul-variable c = search needs
-
-shared-slice-copy-out-variable : tie.Need-shared-slice-copy-out-variable Inv-loop μ-loop
-shared-slice-copy-out-variable c = search needs
-
 variable-requires : tie.Need-variable-requires Inv-loop μ-loop
 variable-requires c κs =
     let s = c .before .before .before .before .before in
@@ -63,12 +57,6 @@ write-dependent-requires c κs =
     (below-first (l .next) (markedText (getD (s .args .row .now) (natAbs w) 0) (natAbs w)) (marked (s .args .row .now) (drop (suc (l .i)) ws))
     (rw (marked-drop (l .i) ws (v .before .before .loop-test .taken) (s .args .row .now)) at (below-remains (s .pre .1 .1) (l .inv .0))))
 
-add-i : tie.Need-add-i Inv-loop μ-loop
-add-i c = search needs
-
-loop-less : tie.Need-loop-less Inv-loop μ-loop
-loop-less c = search needs
-
 loop-again : tie.Need-loop-again Inv-loop μ-loop
 loop-again c =
     let v = c .before .before .before .before .before in
@@ -97,13 +85,13 @@ write-dependents-spec =
     Inv-loop
     μ-loop
     loop-holds
-    mul-variable
-    shared-slice-copy-out-variable
+    (λ c. search needs)
+    (λ c. search needs)
     variable-requires
     shared-slice-read-write-dependent
     write-dependent-requires
-    add-i
-    loop-less
+    (λ c. search needs)
+    (λ c. search needs)
     loop-again
     same-length
     returns)

@@ -44,12 +44,6 @@ write-word-line-requires c κs =
       ),
     )
 
-add-place : tie.Need-add-place Inv-loop μ-loop
-add-place c = search needs
-
-loop-less : tie.Need-loop-less Inv-loop μ-loop
-loop-less c = search needs
-
 loop-again : tie.Need-loop-again Inv-loop μ-loop
 loop-again c =
     let wrote = c .before .before .before .before in
@@ -84,8 +78,8 @@ write-lines-spec =
     μ-loop
     loop-holds
     write-word-line-requires
-    add-place
-    loop-less
+    (λ c. search needs)
+    (λ c. search needs)
     loop-again
     same-length
     same-length-2

@@ -40,9 +40,6 @@ put-requires-2 c κs =
     let m = marked (s .args .row .now) (s .args .prefix .now) in
     below-rest (10 ∷ []) (below-rest (m ++ (10 ∷ [])) (below-rest (58 ∷ (m ++ (10 ∷ []))) (s .pre .1 .1) (number .write-number .ensures)) (colon .put .ensures)) (list .write-dependents .ensures)
 
-same-length : tie.Need-same-length
-same-length c = search needs
-
 returns : tie.Need-returns
 unfolding rowLine
 returns c =
@@ -59,5 +56,5 @@ write-row-line-spec =
     put-requires
     write-dependents-requires
     put-requires-2
-    same-length
+    (λ c. search needs)
     returns)

@@ -48,18 +48,6 @@ within-at :
     (c : tie.After-known-told2) → (c .before .prefix-used .given .0 .0 ≤ length (prefix-at (called c))) × (c .before .prefix-used .given .0 .1 .0 ≤ length (clauses-at (called c)))
 within-at c = let w = called c .settle-formula .ensures .within _ _ _ (c .before .prefix-used .given .1) in (w .0, w .1)
 
-settle-formula-requires : tie.Need-settle-formula-requires
-settle-formula-requires c κs = search needs
-
-enum-known-r : tie.Need-enum-known-r
-enum-known-r c = search needs
-
-refused-line-requires : tie.Need-refused-line-requires
-refused-line-requires c κs = search needs
-
-enum-known-prefix-used : tie.Need-enum-known-prefix-used
-enum-known-prefix-used c = search needs
-
 slice-reshare-prefix-write-tables : tie.Need-slice-reshare-prefix-write-tables
 slice-reshare-prefix-write-tables c = within-at c .0
 
@@ -77,15 +65,6 @@ write-tables-requires c κs =
     let told = c .before .before .before .before in
     settled-admitted (room-at (called told)) (start (called told) .args .formula .now) _ _ _ (settled-at told)
 
-same-length : tie.Need-same-length
-same-length c = search needs
-
-same-length-2 : tie.Need-same-length-2
-same-length-2 c = search needs
-
-same-length-3 : tie.Need-same-length-3
-same-length-3 c = search needs
-
 returns : tie.Need-returns
 returns c =
     let call = c .before .before .before .before .before .before .before .before .before in
@@ -94,18 +73,6 @@ returns c =
     (text-refused (room-at call) (start call .args .formula .now) (c .before .before .before .before .before .r .given .0 .0)
     (call .settle-formula .ensures .settles ∙ ap (λ (x : ReadAnswer). tablesRead x (prefix-at call) (clauses-at call)) (c .before .before .before .before .before .r .given .1)))
     (record { stores = stored .stores; short = omega (arith, stored .short) })
-
-same-length-4 : tie.Need-same-length-4
-same-length-4 c = search needs
-
-same-length-5 : tie.Need-same-length-5
-same-length-5 c = search needs
-
-same-length-6 : tie.Need-same-length-6
-same-length-6 c = search needs
-
-same-length-7 : tie.Need-same-length-7
-same-length-7 c = search needs
 
 returns-2 : tie.Need-returns-2
 returns-2 c =
@@ -118,21 +85,21 @@ pub write-settled-spec : {M : Type 1} → statement M
 write-settled-spec =
     tie.close
     (tie.spec
-    settle-formula-requires
-    enum-known-r
-    refused-line-requires
-    enum-known-prefix-used
+    (λ c κs. search needs)
+    (λ c. search needs)
+    (λ c κs. search needs)
+    (λ c. search needs)
     slice-reshare-prefix-write-tables
     slice-aggregate-write-tables
     slice-reshare-prefix-write-tables-2
     slice-aggregate-write-tables-2
     write-tables-requires
-    same-length
-    same-length-2
-    same-length-3
+    (λ c. search needs)
+    (λ c. search needs)
+    (λ c. search needs)
     returns
-    same-length-4
-    same-length-5
-    same-length-6
-    same-length-7
+    (λ c. search needs)
+    (λ c. search needs)
+    (λ c. search needs)
+    (λ c. search needs)
     returns-2)

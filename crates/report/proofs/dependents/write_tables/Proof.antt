@@ -8,27 +8,12 @@ use borrow.Author.Needs.{needs}
 use Rattle.report.proofs.dependents.write_tables.Statement.{statement}
 use Rattle.report.proofs.dependents.write_tables.Tie as tie
 
-refused-line-requires : tie.Need-refused-line-requires
-refused-line-requires c κs = search needs
-
-same-length : tie.Need-same-length
-same-length c = search needs
-
 returns : tie.Need-returns
 unfolding tablesText
 returns c =
     let s = c .before .before .before .before .before .before .before in
     let stored = c .before .before .refused-line .ensures in
     rw (lt-leb 8200 (length (s .args .scratch .now)) (c .before .before .before .before .if1 .taken)) (record { stores = stored .stores; short = omega (arith, stored .short) })
-
-write-lines-requires : tie.Need-write-lines-requires
-write-lines-requires c κs = search needs
-
-same-length-2 : tie.Need-same-length-2
-same-length-2 c = search needs
-
-same-length-3 : tie.Need-same-length-3
-same-length-3 c = search needs
 
 returns-2 : tie.Need-returns-2
 unfolding tablesText
@@ -42,10 +27,10 @@ pub write-tables-spec : {M : Type 1} → statement M
 write-tables-spec =
     tie.close
     (tie.spec
-    refused-line-requires
-    same-length
+    (λ c κs. search needs)
+    (λ c. search needs)
     returns
-    write-lines-requires
-    same-length-2
-    same-length-3
+    (λ c κs. search needs)
+    (λ c. search needs)
+    (λ c. search needs)
     returns-2)

@@ -33,9 +33,6 @@ line-at c =
     let s = c .before .before .before .before in
     row-line-is (formulaOf (s .args .prefix .now) (s .args .clauses .now)) (s .args .u) (s .args .prefix .now) _ (prefix-bounded (s .args .prefix .now) (s .args .clauses .now) (s .pre .0)) (row-at c)
 
-slice-relend-prefix-make-row : tie.Need-slice-relend-prefix-make-row
-slice-relend-prefix-make-row c = search needs
-
 slice-aggregate-make-row : tie.Need-slice-aggregate-make-row
 slice-aggregate-make-row c = sym (length-take-le 5125 (c .before .before .before .args .scratch .now) (omega (arith, c .before .before .before .pre .1 .1 .0)))
 
@@ -43,15 +40,6 @@ make-row-requires : tie.Need-make-row-requires
 make-row-requires c κs =
     let s = c .before .before .before in
     (s .pre .0, (s .pre .1 .0, length-take-le 5125 (s .args .scratch .now) (omega (arith, s .pre .1 .1 .0))))
-
-sub-write-row-line : tie.Need-sub-write-row-line
-sub-write-row-line c = search needs
-
-part-write-row-line-start : tie.Need-part-write-row-line-start
-part-write-row-line-start c = search needs
-
-part-write-row-line-end : tie.Need-part-write-row-line-end
-part-write-row-line-end c = search needs
 
 write-row-line-requires : tie.Need-write-row-line-requires
 write-row-line-requires c κs =
@@ -61,12 +49,6 @@ write-row-line-requires c κs =
     let q = s .args .clauses .now in
     (prefix-bounded p q (s .pre .0), (ap length (row-at made) ∙ row-length (formulaOf p q) (s .args .u), rw (line-at made) (s .pre .1 .1 .1)))
 
-same-length : tie.Need-same-length
-same-length c = search needs
-
-same-length-2 : tie.Need-same-length-2
-same-length-2 c = search needs
-
 returns : tie.Need-returns
 returns c = rw (← line-at (c .before .before .before .before .before .before .before .before)) (c .before .before .write-row-line .ensures)
 
@@ -74,13 +56,13 @@ pub write-universal-spec : {M : Type 1} → statement M
 write-universal-spec =
     tie.close
     (tie.spec
-    slice-relend-prefix-make-row
+    (λ c. search needs)
     slice-aggregate-make-row
     make-row-requires
-    sub-write-row-line
-    part-write-row-line-start
-    part-write-row-line-end
+    (λ c. search needs)
+    (λ c. search needs)
+    (λ c. search needs)
     write-row-line-requires
-    same-length
-    same-length-2
+    (λ c. search needs)
+    (λ c. search needs)
     returns)

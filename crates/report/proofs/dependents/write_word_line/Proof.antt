@@ -44,27 +44,6 @@ line-at c =
     let p = of .before .before .before .before .args .prefix .now in
     word-line-universal (formula-at of) p (word-at of) (shown c .letter-is) ∙ ap (universalLine (formula-at of) p) (shown c .variable-is)
 
-mul-of : tie.Need-mul-of
-mul-of c = search needs
-
-shared-slice-copy-out-of : tie.Need-shared-slice-copy-out-of
-shared-slice-copy-out-of c = search needs
-
-of-requires : tie.Need-of-requires
-of-requires c κs = search needs
-
-enum-told : tie.Need-enum-told
-enum-told c = search needs
-
-enum-told-2 : tie.Need-enum-told-2
-enum-told-2 c = search needs
-
-enum-told-3 : tie.Need-enum-told-3
-enum-told-3 c = search needs
-
-enum-known-u : tie.Need-enum-known-u
-enum-known-u c = search needs
-
 write-universal-requires : tie.Need-write-universal-requires
 write-universal-requires c κs =
     let told = c .before .before in
@@ -93,12 +72,6 @@ returns-3 c =
     let of = c .before .before in
     rw (word-line-existential (formula-at of) (of .before .before .before .before .args .prefix .now) (word-at of) (shows-positive (word-at of) _ (sym (of-word of) ∙ c .enum-told3 .given .1) .letter-is)) (stores-none _ _)
 
-same-length : tie.Need-same-length
-same-length c = search needs
-
-same-length-2 : tie.Need-same-length-2
-same-length-2 c = search needs
-
 returns-4 : tie.Need-returns-4
 returns-4 c = rw (line-at (c .before .before .before .before .before .before .before)) (c .before .before .before .before .write-universal .ensures)
 
@@ -106,17 +79,17 @@ pub write-word-line-spec : {M : Type 1} → statement M
 write-word-line-spec =
     tie.close
     (tie.spec
-    mul-of
-    shared-slice-copy-out-of
-    of-requires
-    enum-told
-    enum-told-2
-    enum-told-3
-    enum-known-u
+    (λ c. search needs)
+    (λ c. search needs)
+    (λ c κs. search needs)
+    (λ c. search needs)
+    (λ c. search needs)
+    (λ c. search needs)
+    (λ c. search needs)
     write-universal-requires
     returns
     returns-2
     returns-3
-    same-length
-    same-length-2
+    (λ c. search needs)
+    (λ c. search needs)
     returns-4)

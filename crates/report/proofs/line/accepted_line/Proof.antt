@@ -6,27 +6,6 @@ use borrow.Author.Needs.{needs}
 use Rattle.report.proofs.line.accepted_line.Statement.{statement}
 use Rattle.report.proofs.line.accepted_line.Tie as tie
 
-slice-aggregate-write-bytes : tie.Need-slice-aggregate-write-bytes
-slice-aggregate-write-bytes c = search needs
-
-write-bytes-requires : tie.Need-write-bytes-requires
-write-bytes-requires c κs = search needs
-
-write-spaced-requires : tie.Need-write-spaced-requires
-write-spaced-requires c κs = search needs
-
-write-spaced-requires-2 : tie.Need-write-spaced-requires-2
-write-spaced-requires-2 c κs = search needs
-
-write-spaced-requires-3 : tie.Need-write-spaced-requires-3
-write-spaced-requires-3 c κs = search needs
-
-write-last-requires : tie.Need-write-last-requires
-write-last-requires c κs = search needs
-
-same-length : tie.Need-same-length
-same-length c = search needs
-
 returns : tie.Need-returns
 unfolding acceptedLine
 returns c =
@@ -49,11 +28,11 @@ pub accepted-line-spec : {M : Type 1} → statement M
 accepted-line-spec =
     tie.close
     (tie.spec
-    slice-aggregate-write-bytes
-    write-bytes-requires
-    write-spaced-requires
-    write-spaced-requires-2
-    write-spaced-requires-3
-    write-last-requires
-    same-length
+    (λ c. search needs)
+    (λ c κs. search needs)
+    (λ c κs. search needs)
+    (λ c κs. search needs)
+    (λ c κs. search needs)
+    (λ c κs. search needs)
+    (λ c. search needs)
     returns)

@@ -5,23 +5,11 @@ use borrow.Author.Needs.{needs}
 use Rattle.report.proofs.line.finish.Statement.{statement}
 use Rattle.report.proofs.line.finish.Tie as tie
 
-clear-bytes-requires : tie.Need-clear-bytes-requires
-clear-bytes-requires c κs = search needs
-
-same-length : tie.Need-same-length
-same-length c = search needs
-
 returns : tie.Need-returns
 returns c =
     let a = c .before .before .before .before .before .before .args in
     let e = le-leb (a .used) (length (a .line .now)) (c .before .before .before .before .if1 .taken) in
     record { answers = rw e; leaves = rw e (c .before .before .clear-bytes .ensures) }
-
-clear-bytes-requires-2 : tie.Need-clear-bytes-requires-2
-clear-bytes-requires-2 c κs = search needs
-
-same-length-2 : tie.Need-same-length-2
-same-length-2 c = search needs
 
 returns-2 : tie.Need-returns-2
 returns-2 c =
@@ -33,9 +21,9 @@ pub finish-spec : {M : Type 1} → statement M
 finish-spec =
     tie.close
     (tie.spec
-    clear-bytes-requires
-    same-length
+    (λ c κs. search needs)
+    (λ c. search needs)
     returns
-    clear-bytes-requires-2
-    same-length-2
+    (λ c κs. search needs)
+    (λ c. search needs)
     returns-2)

@@ -6,33 +6,6 @@ use borrow.Author.Needs.{needs}
 use Rattle.report.proofs.line.refused_line.Statement.{statement}
 use Rattle.report.proofs.line.refused_line.Tie as tie
 
-slice-aggregate-write-bytes : tie.Need-slice-aggregate-write-bytes
-slice-aggregate-write-bytes c = search needs
-
-write-bytes-requires : tie.Need-write-bytes-requires
-write-bytes-requires c κs = search needs
-
-number-requires : tie.Need-number-requires
-number-requires c κs = search needs
-
-cast-write-spaced : tie.Need-cast-write-spaced
-cast-write-spaced c = search needs
-
-write-spaced-requires : tie.Need-write-spaced-requires
-write-spaced-requires c κs = search needs
-
-write-word-requires : tie.Need-write-word-requires
-write-word-requires c κs = search needs
-
-put-requires : tie.Need-put-requires
-put-requires c κs = search needs
-
-write-last-requires : tie.Need-write-last-requires
-write-last-requires c κs = search needs
-
-same-length : tie.Need-same-length
-same-length c = search needs
-
 returns : tie.Need-returns
 unfolding refusedLine
 returns c =
@@ -55,13 +28,13 @@ pub refused-line-spec : {M : Type 1} → statement M
 refused-line-spec =
     tie.close
     (tie.spec
-    slice-aggregate-write-bytes
-    write-bytes-requires
-    number-requires
-    cast-write-spaced
-    write-spaced-requires
-    write-word-requires
-    put-requires
-    write-last-requires
-    same-length
+    (λ c. search needs)
+    (λ c κs. search needs)
+    (λ c κs. search needs)
+    (λ c. search needs)
+    (λ c κs. search needs)
+    (λ c κs. search needs)
+    (λ c κs. search needs)
+    (λ c κs. search needs)
+    (λ c. search needs)
     returns)

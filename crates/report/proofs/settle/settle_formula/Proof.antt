@@ -5,28 +5,10 @@ use borrow.Author.Needs.{needs}
 use Rattle.report.proofs.settle.settle_formula.Statement.{statement}
 use Rattle.report.proofs.settle.settle_formula.Tie as tie
 
-new-requires : tie.Need-new-requires
-new-requires c κs = search needs
-
-enum-told : tie.Need-enum-told
-enum-told c = search needs
-
-enum-told-2 : tie.Need-enum-told-2
-enum-told-2 c = search needs
-
-read-formula-requires : tie.Need-read-formula-requires
-read-formula-requires c κs = search needs
-
 returns : tie.Need-returns
 returns c =
     let s = c .before .before .before .before in
     formula-oversized (s .args .bound) (s .args .file .now) _ _ _ _ (fit-oversized _ _ (sym (c .before .before .new .ensures) ∙ c .enum-told .given .1))
-
-same-length : tie.Need-same-length
-same-length c = search needs
-
-same-length-2 : tie.Need-same-length-2
-same-length-2 c = search needs
 
 returns-2 : tie.Need-returns-2
 returns-2 c =
@@ -39,11 +21,11 @@ pub settle-formula-spec : {M : Type 1} → statement M
 settle-formula-spec =
     tie.close
     (tie.spec
-    new-requires
-    enum-told
-    enum-told-2
-    read-formula-requires
+    (λ c κs. search needs)
+    (λ c. search needs)
+    (λ c. search needs)
+    (λ c κs. search needs)
     returns
-    same-length
-    same-length-2
+    (λ c. search needs)
+    (λ c. search needs)
     returns-2)
