@@ -1,6 +1,8 @@
--- The reasons of 01's table ("What the checker says no with"): the number and the word of each.
-use Prim.Native.Nat.{ℕ}
+-- The reasons of 01's table ("What the checker says no with"): the number and the word of each. Laws are in Refusal/Laws.antt.
+pub mod Laws
+use Prim.Native.Nat.{ℕ, _-_}
 use mathlib.Core.List.{List, [], _∷_}
+use lib.ListN.{getD}
 use Rattle.formula.specs.declared.refusal.Reason.{Reason}
 use Rattle.formula.specs.declared.refusal.Refusal.{Refusal}
 use Rattle.formula.specs.declared.refusal.Reason.the-variants.{
@@ -52,45 +54,65 @@ number Misstated = 18
 number NoConclusion = 19
 number NotUniversal = 20
 
--- The word, as bytes.
+-- A reason with the bytes of its word.
+pub record Named : Type 0 where
+  pub reason : Reason
+  pub bytes : List ℕ
+
+abbrev pub named : Reason → List ℕ → Named
+named r bytes = record { reason = r; bytes = bytes }
+
+-- 01's table in the order of the numbers.
+abbrev pub table : List Named
+table =
+    -- headless
+    named Headless (104 ∷ 101 ∷ 97 ∷ 100 ∷ 108 ∷ 101 ∷ 115 ∷ 115 ∷ [])
+    -- oversized
+    ∷ named Oversized (111 ∷ 118 ∷ 101 ∷ 114 ∷ 115 ∷ 105 ∷ 122 ∷ 101 ∷ 100 ∷ [])
+    -- no room
+    ∷ named NoRoom (110 ∷ 111 ∷ 32 ∷ 114 ∷ 111 ∷ 111 ∷ 109 ∷ [])
+    -- bad token
+    ∷ named BadToken (98 ∷ 97 ∷ 100 ∷ 32 ∷ 116 ∷ 111 ∷ 107 ∷ 101 ∷ 110 ∷ [])
+    -- out of range
+    ∷ named OutOfRange (111 ∷ 117 ∷ 116 ∷ 32 ∷ 111 ∷ 102 ∷ 32 ∷ 114 ∷ 97 ∷ 110 ∷ 103 ∷ 101 ∷ [])
+    -- bound twice
+    ∷ named BoundTwice (98 ∷ 111 ∷ 117 ∷ 110 ∷ 100 ∷ 32 ∷ 116 ∷ 119 ∷ 105 ∷ 99 ∷ 101 ∷ [])
+    -- unbound
+    ∷ named Unbound (117 ∷ 110 ∷ 98 ∷ 111 ∷ 117 ∷ 110 ∷ 100 ∷ [])
+    -- clash
+    ∷ named Clash (99 ∷ 108 ∷ 97 ∷ 115 ∷ 104 ∷ [])
+    -- unfinished
+    ∷ named Unfinished (117 ∷ 110 ∷ 102 ∷ 105 ∷ 110 ∷ 105 ∷ 115 ∷ 104 ∷ 101 ∷ 100 ∷ [])
+    -- miscount
+    ∷ named Miscount (109 ∷ 105 ∷ 115 ∷ 99 ∷ 111 ∷ 117 ∷ 110 ∷ 116 ∷ [])
+    -- no trailer
+    ∷ named NoTrailer (110 ∷ 111 ∷ 32 ∷ 116 ∷ 114 ∷ 97 ∷ 105 ∷ 108 ∷ 101 ∷ 114 ∷ [])
+    -- other formula
+    ∷ named OtherFormula (111 ∷ 116 ∷ 104 ∷ 101 ∷ 114 ∷ 32 ∷ 102 ∷ 111 ∷ 114 ∷ 109 ∷ 117 ∷ 108 ∷ 97 ∷ [])
+    -- broken step
+    ∷ named BrokenStep (98 ∷ 114 ∷ 111 ∷ 107 ∷ 101 ∷ 110 ∷ 32 ∷ 115 ∷ 116 ∷ 101 ∷ 112 ∷ [])
+    -- not earlier
+    ∷ named NotEarlier (110 ∷ 111 ∷ 116 ∷ 32 ∷ 101 ∷ 97 ∷ 114 ∷ 108 ∷ 105 ∷ 101 ∷ 114 ∷ [])
+    -- wrong pivot
+    ∷ named WrongPivot (119 ∷ 114 ∷ 111 ∷ 110 ∷ 103 ∷ 32 ∷ 112 ∷ 105 ∷ 118 ∷ 111 ∷ 116 ∷ [])
+    -- tautology
+    ∷ named Tautology (116 ∷ 97 ∷ 117 ∷ 116 ∷ 111 ∷ 108 ∷ 111 ∷ 103 ∷ 121 ∷ [])
+    -- blocked
+    ∷ named Blocked (98 ∷ 108 ∷ 111 ∷ 99 ∷ 107 ∷ 101 ∷ 100 ∷ [])
+    -- misstated
+    ∷ named Misstated (109 ∷ 105 ∷ 115 ∷ 115 ∷ 116 ∷ 97 ∷ 116 ∷ 101 ∷ 100 ∷ [])
+    -- no conclusion
+    ∷ named NoConclusion (110 ∷ 111 ∷ 32 ∷ 99 ∷ 111 ∷ 110 ∷ 99 ∷ 108 ∷ 117 ∷ 115 ∷ 105 ∷ 111 ∷ 110 ∷ [])
+    -- not universal
+    ∷ named NotUniversal (110 ∷ 111 ∷ 116 ∷ 32 ∷ 117 ∷ 110 ∷ 105 ∷ 118 ∷ 101 ∷ 114 ∷ 115 ∷ 97 ∷ 108 ∷ [])
+    ∷ []
+
+-- The reason and the word of a number; numbers count from 1.
+abbrev pub rowAt : ℕ → Named
+rowAt n = getD table (n - 1) (named Headless [])
+
+abbrev pub reasonAt : ℕ → Reason
+reasonAt n = rowAt n .reason
+
 abbrev pub word : Reason → List ℕ
--- headless
-word Headless = 104 ∷ 101 ∷ 97 ∷ 100 ∷ 108 ∷ 101 ∷ 115 ∷ 115 ∷ []
--- oversized
-word Oversized = 111 ∷ 118 ∷ 101 ∷ 114 ∷ 115 ∷ 105 ∷ 122 ∷ 101 ∷ 100 ∷ []
--- no room
-word NoRoom = 110 ∷ 111 ∷ 32 ∷ 114 ∷ 111 ∷ 111 ∷ 109 ∷ []
--- bad token
-word BadToken = 98 ∷ 97 ∷ 100 ∷ 32 ∷ 116 ∷ 111 ∷ 107 ∷ 101 ∷ 110 ∷ []
--- out of range
-word OutOfRange = 111 ∷ 117 ∷ 116 ∷ 32 ∷ 111 ∷ 102 ∷ 32 ∷ 114 ∷ 97 ∷ 110 ∷ 103 ∷ 101 ∷ []
--- bound twice
-word BoundTwice = 98 ∷ 111 ∷ 117 ∷ 110 ∷ 100 ∷ 32 ∷ 116 ∷ 119 ∷ 105 ∷ 99 ∷ 101 ∷ []
--- unbound
-word Unbound = 117 ∷ 110 ∷ 98 ∷ 111 ∷ 117 ∷ 110 ∷ 100 ∷ []
--- clash
-word Clash = 99 ∷ 108 ∷ 97 ∷ 115 ∷ 104 ∷ []
--- unfinished
-word Unfinished = 117 ∷ 110 ∷ 102 ∷ 105 ∷ 110 ∷ 105 ∷ 115 ∷ 104 ∷ 101 ∷ 100 ∷ []
--- miscount
-word Miscount = 109 ∷ 105 ∷ 115 ∷ 99 ∷ 111 ∷ 117 ∷ 110 ∷ 116 ∷ []
--- no trailer
-word NoTrailer = 110 ∷ 111 ∷ 32 ∷ 116 ∷ 114 ∷ 97 ∷ 105 ∷ 108 ∷ 101 ∷ 114 ∷ []
--- other formula
-word OtherFormula = 111 ∷ 116 ∷ 104 ∷ 101 ∷ 114 ∷ 32 ∷ 102 ∷ 111 ∷ 114 ∷ 109 ∷ 117 ∷ 108 ∷ 97 ∷ []
--- broken step
-word BrokenStep = 98 ∷ 114 ∷ 111 ∷ 107 ∷ 101 ∷ 110 ∷ 32 ∷ 115 ∷ 116 ∷ 101 ∷ 112 ∷ []
--- not earlier
-word NotEarlier = 110 ∷ 111 ∷ 116 ∷ 32 ∷ 101 ∷ 97 ∷ 114 ∷ 108 ∷ 105 ∷ 101 ∷ 114 ∷ []
--- wrong pivot
-word WrongPivot = 119 ∷ 114 ∷ 111 ∷ 110 ∷ 103 ∷ 32 ∷ 112 ∷ 105 ∷ 118 ∷ 111 ∷ 116 ∷ []
--- tautology
-word Tautology = 116 ∷ 97 ∷ 117 ∷ 116 ∷ 111 ∷ 108 ∷ 111 ∷ 103 ∷ 121 ∷ []
--- blocked
-word Blocked = 98 ∷ 108 ∷ 111 ∷ 99 ∷ 107 ∷ 101 ∷ 100 ∷ []
--- misstated
-word Misstated = 109 ∷ 105 ∷ 115 ∷ 115 ∷ 116 ∷ 97 ∷ 116 ∷ 101 ∷ 100 ∷ []
--- no conclusion
-word NoConclusion = 110 ∷ 111 ∷ 32 ∷ 99 ∷ 111 ∷ 110 ∷ 99 ∷ 108 ∷ 117 ∷ 115 ∷ 105 ∷ 111 ∷ 110 ∷ []
--- not universal
-word NotUniversal = 110 ∷ 111 ∷ 116 ∷ 32 ∷ 117 ∷ 110 ∷ 105 ∷ 118 ∷ 101 ∷ 114 ∷ 115 ∷ 97 ∷ 108 ∷ []
+word r = rowAt (number r) .bytes

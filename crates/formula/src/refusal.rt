@@ -1,6 +1,9 @@
-// Why and where the checker says no: the twenty reasons of 01, and a reason joined with its place.
+// Why and where the checker says no: the twenty reasons of 01, each with its number and its word, and a reason joined with its
+// place. A reason more is a line in the enum, in `tag`, and in the table of specs/Refusal.antt.
 ghost use mathlib.Core.Path.{_≡_};
-ghost use Rattle.formula.specs.Refusal.{number};
+ghost use Prim.Native.Nat.{_≤_};
+ghost use lib.ListN.{length};
+ghost use Rattle.formula.specs.Refusal.{refusal, number, table, reasonAt};
 
 pub enum Reason {
     Headless,
@@ -31,10 +34,18 @@ pub struct Refusal {
     pub place: usize,
 }
 
+impl Refusal {
+    // Every refusal is made here.
+    pub fn new(reason: Reason, place: usize) -> Refusal
+        ensures { λ r. ⌜ r ≡ refusal reason place ⌝ }
+    {
+        Refusal { reason, place }
+    }
+}
+
 impl Reason {
-    // 01's number.
-    pub fn number(self) -> u32
-        ensures { λ r. ⌜ r ≡ number self ⌝ }
+    fn tag(self) -> u32
+        ensures { λ r. ⌜ (self ≡ reasonAt r) × (1 ≤ r) × (r ≤ length table) ⌝ }
     {
         match self {
             Reason::Headless => 1,
@@ -58,5 +69,12 @@ impl Reason {
             Reason::NoConclusion => 19,
             Reason::NotUniversal => 20,
         }
+    }
+
+    // 01's number.
+    pub fn number(self) -> u32
+        ensures { λ r. ⌜ r ≡ number self ⌝ }
+    {
+        self.tag()
     }
 }
