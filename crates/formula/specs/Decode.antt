@@ -1,17 +1,16 @@
--- From the words of the tables to the formula they denote (01, "The game and its tables"): prefix words +v existential,
--- −v universal; clause words are literals, every clause closed by 0. Laws are in Decode/Laws.antt.
+-- From the words of the tables to the formula they denote (01, "The game and its tables"): the entries of the prefix are in
+-- Prefix.antt; clause words are literals, every clause closed by 0. Laws are in Decode/Laws.antt.
 pub mod Laws
-use Prim.Native.Nat.{zero, suc}
+pub mod Places
+use Prim.Native.Nat.{ℕ, zero, suc}
 use mathlib.Core.Path.{_≡_}
 use mathlib.Core.List.{List, [], _∷_, map, List·Memᴰ}
+use lib.ListN.{drop}
 use lib.IntN.{ℤ, pos, negsuc}
 use Rattle.qbf.specs.Literal.{Literal, literal, Clause, Matrix}
-use Rattle.qbf.specs.Formula.{Entry, entry, existential, universal, Prefix, Formula}
+use Rattle.qbf.specs.Formula.{Formula}
+pub use Rattle.formula.specs.Prefix.{entryOf, prefixOf}
 use mathlib.Core.Bool.{true, false}
-
-abbrev pub entryOf : ℤ → Entry
-entryOf (pos v) = entry v existential
-entryOf (negsuc n) = entry (suc n) universal
 
 abbrev pub literalOf : ℤ → Literal
 literalOf (pos v) = literal v true
@@ -42,15 +41,19 @@ laterWords (pos zero ∷ ws) = ws
 laterWords (pos (suc n) ∷ ws) = laterWords ws
 laterWords (negsuc n ∷ ws) = laterWords ws
 
+-- The clause whose first word stands at a place, and the words after it.
+abbrev pub clauseAt : List ℤ → ℕ → List ℤ
+clauseAt words from = firstClause (drop from words)
+
+abbrev pub wordsAfter : List ℤ → ℕ → List ℤ
+wordsAfter words from = laterWords (drop from words)
+
 -- No word of the list is 0.
 abbrev pub NoZero : List ℤ → Type 0
 NoZero ws = (w : ℤ) → List·Memᴰ w ws → w ≡ pos 0 → ⊥
 
 abbrev pub clauseOf : List ℤ → Clause
 clauseOf C = map literalOf C
-
-abbrev pub prefixOf : List ℤ → Prefix
-prefixOf ws = map entryOf ws
 
 abbrev pub matrixOf : List ℤ → Matrix
 matrixOf ws = map clauseOf (clausesOf ws)

@@ -4,6 +4,7 @@ pub mod Bounds
 pub mod Word
 pub mod Refusal
 pub mod Tables
+pub mod Prefix
 pub mod Decode
 pub mod Clear
 pub mod ClauseWord

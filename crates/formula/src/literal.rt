@@ -4,7 +4,7 @@ ghost use mathlib.Core.Path.{_≡_};
 ghost use Prim.Native.Nat.{_+_, _^_, _<_, _≤_};
 ghost use lib.IntN.{pos, negℤ, natAbs};
 ghost use Rattle.formula.specs.Bounds.{variableBound, variableFit, literalFit, numberFit, inRange};
-ghost use Rattle.formula.specs.Word.{wordOf};
+ghost use Rattle.formula.specs.Word.{wordOf, isZero, variableOf, slotWith, slotOf, opposite};
 
 // A variable's number, 1 to 1,024.
 pub struct Variable(pub usize);
@@ -28,6 +28,11 @@ impl Variable {
         } else {
             VariableFit::Outside
         }
+    }
+
+    // The variable 1, where one is due that nothing depends on.
+    pub fn first() -> Variable {
+        Variable(1)
     }
 
     // The positive literal of a variable.
@@ -134,5 +139,51 @@ impl Word {
                 VariableFit::Outside => Word::TooLarge,
             }
         }
+    }
+
+    // The number of a word's variable: 0 for the word 0, 1,025 for one out of range.
+    pub fn variable(word: i32) -> usize
+        ensures { λ r. ⌜ r ≡ variableOf (wordOf word) ⌝ }
+    {
+        match Word::of(word) {
+            Word::Zero => 0,
+            Word::TooLarge => 1_025,
+            Word::Positive(v) => v.0,
+            Word::Negative(v) => v.0,
+        }
+    }
+
+    // The word 0 closes a clause.
+    pub fn is_zero(word: i32) -> bool
+        ensures { λ r. ⌜ r ≡ isZero word ⌝ }
+    {
+        word == 0
+    }
+
+    // The place of a word's literal among marks, two a variable, with what each sign adds; 0, which is no literal's, for any
+    // other word. Both signs take one way, so that the loops above branch on no sign.
+    fn slot_with(word: i32, plus: usize, minus: usize) -> usize
+        requires { ⌜ (plus ≤ 1) × (minus ≤ 1) ⌝ }
+        ensures { λ r. ⌜ r ≡ slotWith plus minus (wordOf word) ⌝ }
+    {
+        match Word::of(word) {
+            Word::Zero => 0,
+            Word::TooLarge => 0,
+            Word::Positive(v) => 2 * v.0 + plus,
+            Word::Negative(v) => 2 * v.0 + minus,
+        }
+    }
+
+    pub fn slot(word: i32) -> usize
+        ensures { λ r. ⌜ r ≡ slotOf (wordOf word) ⌝ }
+    {
+        Word::slot_with(word, 0, 1)
+    }
+
+    // The place of the opposite literal.
+    pub fn opposite_slot(word: i32) -> usize
+        ensures { λ r. ⌜ r ≡ slotOf (opposite (wordOf word)) ⌝ }
+    {
+        Word::slot_with(word, 1, 0)
     }
 }

@@ -10,8 +10,9 @@ use lib.ListN.{length, getD, take, drop}
 use lib.Seq.{slice, split-at, drop-append-le, length-take-le}
 use lib.IntN.{ℤ, pos, negsuc, negℤ, natAbs}
 use Rattle.qbf.specs.Literal.{Literal, neg}
-use Rattle.qbf.specs.Formula.{listed, variables}
-use Rattle.formula.specs.Decode.{entryOf, literalOf, putFirst, clausesOf, firstClause, laterWords, NoZero, clauseOf, prefixOf}
+use Rattle.qbf.specs.Formula.{variables}
+use Rattle.formula.specs.Decode.{literalOf, putFirst, clausesOf, firstClause, laterWords, NoZero, clauseOf}
+pub use Rattle.formula.specs.Prefix.Laws.{entry-variable, prefix-variables}
 
 -- A word and its magnitude.
 pub magnitude-positive : (w : ℤ) → (w ≡ pos 0 → ⊥) → 1 ≤ natAbs w
@@ -36,10 +37,6 @@ magnitude-same (negsuc m) (pos (suc n)) e = let z : m ≡ n = omega arith in inr
 magnitude-same (negsuc m) (negsuc n) e = let z : m ≡ n = omega arith in inl (ap negsuc z)
 
 -- Entries and literals of words.
-pub entry-variable : (w : ℤ) → entryOf w .variable ≡ natAbs w
-entry-variable (pos v) = refl
-entry-variable (negsuc n) = refl
-
 pub literal-variable : (w : ℤ) → literalOf w .variable ≡ natAbs w
 literal-variable (pos v) = refl
 literal-variable (negsuc n) = refl
@@ -57,10 +54,6 @@ literal-injective (negsuc m) (negsuc n) e =
     let z : suc m ≡ suc n = ap (λ (l : Literal). l .variable) e in
     let y : m ≡ n = omega arith in
     ap negsuc y
-
-pub prefix-variables : (ws : List ℤ) → listed (prefixOf ws) ≡ map natAbs ws
-prefix-variables [] = refl
-prefix-variables (w ∷ ws) = rw (entry-variable w, prefix-variables ws)
 
 pub clause-variables : (C : List ℤ) → variables (clauseOf C) ≡ map natAbs C
 clause-variables [] = refl

@@ -14,12 +14,14 @@ use lib.Dec.{leb, eqb}
 use lib.IntN.{ℤ, pos, negsuc, natAbs}
 use Rattle.qbf.specs.Connectives.{and-both, or-either, or-left, or-right}
 use Rattle.qbf.specs.Literal.{Literal, Clause}
-use Rattle.qbf.specs.Formula.{Distinct, Proper, listed, variables}
+use Rattle.qbf.specs.Formula.{Entry, Distinct, Proper, listed, variables}
 use Rattle.formula.specs.Bounds.{variableBound, countBound, matrixBound}
 use Rattle.formula.specs.Word.{wordOf}
 use Rattle.formula.specs.Refusal.{refusal}
-use Rattle.formula.specs.Decode.{literalOf, putFirst, clausesOf, firstClause, laterWords, clauseOf, prefixOf, formulaOf}
-use Rattle.formula.specs.Decode.Laws.{magnitude-positive, positive-magnitude, literal-variable, prefix-variables, clause-variables, clauses-put-first, first-clause-cons, later-words-cons, clauses-first, clauses-no-zero, clause-word}
+use Rattle.formula.specs.Decode.{literalOf, putFirst, clausesOf, firstClause, laterWords, clauseOf, formulaOf}
+use Rattle.formula.specs.Prefix.{entryOf, prefixOf, Entries}
+use Rattle.formula.specs.Prefix.Laws.{entry-variable, prefix-variables}
+use Rattle.formula.specs.Decode.Laws.{magnitude-positive, positive-magnitude, literal-variable, clause-variables, clauses-put-first, first-clause-cons, later-words-cons, clauses-first, clauses-no-zero, clause-word}
 use Rattle.formula.specs.Tables.{isIn, zeros, listing, prefixWord, prefixRefusal, literalWord, clauseWord, clausesRefusal, listedIn, sized, firstRefusal, ifSized, tablesRefusal, answerTables, tablesAnswer, Admitted}
 use Rattle.formula.specs.Tables.Proper.{ProperTables}
 use Rattle.formula.specs.declared.refusal.Refusal.{Refusal}
@@ -515,6 +517,12 @@ module _ (p c : List ℤ) (a : Admitted p c) where
 
   pub admitted-prefix-at : (i : ℕ) (d : ℤ) → i < length p → (1 ≤ natAbs (getD p i d)) × (natAbs (getD p i d) ≤ 1024)
   admitted-prefix-at i d h = admitted-prefix-word (getD p i d) (getD-member p i d h)
+
+  pub admitted-entries : Entries p
+  admitted-entries = record { ranged = λ x m. of-word x (Memᴰ·of-map entryOf p m) }
+    where
+      of-word : (x : Entry) → ((w : ℤ) × List·Memᴰ w p × (entryOf w ≡ x)) → (1 ≤ x .variable) × (x .variable ≤ variableBound)
+      of-word x t = rw (← t .2, entry-variable (t .0)) (admitted-prefix-word (t .0) (t .1))
 
   pub admitted-prefix-distinct : Distinct (map natAbs p)
   admitted-prefix-distinct = admitted-tables p c a .prefix-distinct

@@ -1,0 +1,173 @@
+-- Laws of the prefix table: how many entries there are, the entry at a place and those after it, and an entry put behind the
+-- words used. Definitions: Prefix. Assumes nothing.
+use Prim.Native.Nat.{ℕ, zero, suc, _+_, _≤_, _<_}
+use mathlib.Core.Path.{_≡_, refl, ap, sym, _∙_}
+use mathlib.Core.Logic.{_⊎_, inl, inr}
+use mathlib.Core.Bool.{Bool, true, false, _&&_, _||_, false≢true}
+use mathlib.Core.List.{List, [], _∷_, _++_, map, List·Memᴰ, List·Memᴰ·head, List·Memᴰ·tail, List·Memᴰ·not-nil, List·Memᴰ·cases-cons}
+use native.Mathlib.Numerals.{add-one}
+use native.Mathlib.Nat.{le-of-suc-le-suc, not-suc-le-zero}
+use native.Mathlib.Omega.{arith}
+use borrow.Author.Tests.{ltb-true, eqb-true, eq-eqb}
+use lib.ListN.{length, getD, set, take, drop}
+use lib.Dec.{leb, eqb}
+use lib.Seq.{drop-cons, take-suc-set}
+use lib.IntN.{ℤ, pos, negsuc, natAbs}
+use Rattle.qbf.specs.Formula.{Quantifier, existential, universal, Entry, entry, Prefix, listed}
+use Rattle.qbf.specs.Connectives.{and-both, or-either, or-right}
+use Rattle.formula.specs.Bounds.{variableBound}
+use Rattle.formula.specs.Word.{wordOf}
+use Rattle.formula.specs.Prefix.{entryOf, prefixOf, entryWord, prefixWords, entryCount, entryAt, laterEntries, entryFits, putEntry, usedAfter, shownBy, entryShown, isQuantifier, quantifies, Entries}
+use Rattle.formula.specs.declared.literal.Variable.{Variable}
+use Rattle.formula.specs.declared.literal.Word.the-variants.{Positive, Negative}
+use Rattle.formula.specs.declared.prefix.Entry.the-variants.{Existential, Universal}
+
+-- One entry a word.
+pub entry-count : (ws : List ℤ) → entryCount ws ≡ length ws
+entry-count [] = refl
+entry-count (w ∷ ws) = ap suc (entry-count ws)
+
+pub entry-variable : (w : ℤ) → entryOf w .variable ≡ natAbs w
+entry-variable (pos v) = refl
+entry-variable (negsuc n) = refl
+
+pub prefix-variables : (ws : List ℤ) → listed (prefixOf ws) ≡ map natAbs ws
+prefix-variables [] = refl
+prefix-variables (w ∷ ws) = rw (entry-variable w, prefix-variables ws)
+
+-- Entries to words and back.
+pub prefix-words : (ws : List ℤ) → prefixWords (prefixOf ws) ≡ ws
+unfolding prefixWords entryWord
+prefix-words [] = refl
+prefix-words (pos v ∷ ws) = ap {B = List ℤ} (λ r. pos v ∷ r) (prefix-words ws)
+prefix-words (negsuc n ∷ ws) = ap {B = List ℤ} (λ r. negsuc n ∷ r) (prefix-words ws)
+
+pub prefix-append : (ws vs : List ℤ) → prefixOf (ws ++ vs) ≡ prefixOf ws ++ prefixOf vs
+prefix-append [] vs = refl
+prefix-append (w ∷ ws) vs = ap {B = Prefix} (λ r. entryOf w ∷ r) (prefix-append ws vs)
+
+pub words-append : (P Q : Prefix) → prefixWords (P ++ Q) ≡ prefixWords P ++ prefixWords Q
+unfolding prefixWords
+words-append [] Q = refl
+words-append (x ∷ P) Q = ap {B = List ℤ} (λ r. entryWord x ∷ r) (words-append P Q)
+
+-- The entry at a place, then those after it.
+pub entries-drop : (ws : List ℤ) (i : ℕ) → i < entryCount ws → drop i (prefixOf ws) ≡ entryAt ws i ∷ drop (suc i) (prefixOf ws)
+entries-drop ws i h = drop-cons (prefixOf ws) i (entry 0 existential) h
+
+-- The entries after the first.
+pub later-entries : (ws : List ℤ) → prefixOf (laterEntries ws) ≡ drop 1 (prefixOf ws)
+unfolding laterEntries
+later-entries [] = refl
+later-entries (w ∷ ws) = refl
+
+pub later-shorter : (ws : List ℤ) → 0 < entryCount ws → length (laterEntries ws) < length ws
+unfolding laterEntries
+later-shorter [] h = absurd (not-suc-le-zero h)
+later-shorter (w ∷ ws) h = omega arith
+
+-- What the code is shown of an entry.
+pub shown-existential : (x : Entry) (v : Variable) → entryShown x ≡ Existential v → x ≡ entry (v .0) existential
+shown-existential x v e = go (x .quantifier) refl
+  where
+    go : (q : Quantifier) → x .quantifier ≡ q → x ≡ entry (v .0) existential
+    go existential p = let k = rw p at e in let z : x .variable ≡ v .0 = cc in λ i. record { variable = z i; quantifier = p i }
+    go universal p = let k = rw p at e in let z : _≡_ {A = ℕ} 0 1 = cc in absurd (omega arith)
+
+pub shown-universal : (x : Entry) (v : Variable) → entryShown x ≡ Universal v → x ≡ entry (v .0) universal
+shown-universal x v e = go (x .quantifier) refl
+  where
+    go : (q : Quantifier) → x .quantifier ≡ q → x ≡ entry (v .0) universal
+    go existential p = let k = rw p at e in let z : _≡_ {A = ℕ} 0 1 = cc in absurd (omega arith)
+    go universal p = let k = rw p at e in let z : x .variable ≡ v .0 = cc in λ i. record { variable = z i; quantifier = p i }
+
+-- The entry at a place is that of its word; what the word is recognised as shows it.
+pub entry-word : (ws : List ℤ) (i : ℕ) → i < length ws → entryAt ws i ≡ entryOf (getD ws i (pos 0))
+entry-word [] i h = absurd (not-suc-le-zero h)
+entry-word (w ∷ ws) zero h = refl
+entry-word (w ∷ ws) (suc i) h = entry-word ws i (le-of-suc-le-suc h)
+
+pub entry-positive : (w : ℤ) (v : Variable) → wordOf w ≡ Positive v → Existential v ≡ entryShown (entryOf w)
+unfolding wordOf
+entry-positive (pos zero) v e = let z : _≡_ {A = ℕ} 0 1 = cc in absurd (omega arith)
+entry-positive (pos (suc n)) v e = go (leb (suc n) variableBound) refl
+  where
+    go : (b : Bool) → leb (suc n) variableBound ≡ b → Existential v ≡ Existential (record { 0 = suc n })
+    go true q = let k = rw q at e in cc
+    go false q = let k = rw q at e in let z : _≡_ {A = ℕ} 0 1 = cc in absurd (omega arith)
+entry-positive (negsuc n) v e = go (leb (suc n) variableBound) refl
+  where
+    go : (b : Bool) → leb (suc n) variableBound ≡ b → Existential v ≡ Universal (record { 0 = suc n })
+    go true q = let k = rw q at e in let z : _≡_ {A = ℕ} 0 1 = cc in absurd (omega arith)
+    go false q = let k = rw q at e in let z : _≡_ {A = ℕ} 0 1 = cc in absurd (omega arith)
+
+pub entry-negative : (w : ℤ) (v : Variable) → wordOf w ≡ Negative v → Universal v ≡ entryShown (entryOf w)
+unfolding wordOf
+entry-negative (pos zero) v e = let z : _≡_ {A = ℕ} 0 1 = cc in absurd (omega arith)
+entry-negative (pos (suc n)) v e = go (leb (suc n) variableBound) refl
+  where
+    go : (b : Bool) → leb (suc n) variableBound ≡ b → Universal v ≡ Existential (record { 0 = suc n })
+    go true q = let k = rw q at e in let z : _≡_ {A = ℕ} 0 1 = cc in absurd (omega arith)
+    go false q = let k = rw q at e in let z : _≡_ {A = ℕ} 0 1 = cc in absurd (omega arith)
+entry-negative (negsuc n) v e = go (leb (suc n) variableBound) refl
+  where
+    go : (b : Bool) → leb (suc n) variableBound ≡ b → Universal v ≡ Universal (record { 0 = suc n })
+    go true q = let k = rw q at e in cc
+    go false q = let k = rw q at e in let z : _≡_ {A = ℕ} 0 1 = cc in absurd (omega arith)
+
+-- A word of a table of entries is a variable's.
+pub entry-ranged : (ws : List ℤ) → Entries ws → (i : ℕ) → i < length ws → (1 ≤ natAbs (getD ws i (pos 0))) × (natAbs (getD ws i (pos 0)) ≤ variableBound)
+entry-ranged ws h i l =
+    rw (← entry-variable (getD ws i (pos 0)), ← entry-word ws i l)
+    (h .ranged (entryAt ws i) (entry-member (prefixOf ws) i (rw (entry-count ws) l)))
+  where
+    entry-member : (P : Prefix) (i : ℕ) → i < length P → List·Memᴰ (getD P i (entry 0 existential)) P
+    entry-member [] i h = absurd (not-suc-le-zero h)
+    entry-member (x ∷ P) zero h = List·Memᴰ·head refl
+    entry-member (x ∷ P) (suc i) h = List·Memᴰ·tail (entry-member P i (le-of-suc-le-suc h))
+
+-- An entry put behind the words used.
+pub put-entry : (ws : List ℤ) (used : ℕ) (x : Entry) → entryFits (length ws) used ≡ true → take (usedAfter used) (putEntry ws used x) ≡ take used ws ++ prefixWords (x ∷ [])
+unfolding entryFits usedAfter putEntry prefixWords
+put-entry ws used x h = rw add-one (take-suc-set ws used (entryWord x) (ltb-true used (length ws) h))
+
+pub put-within : (room used : ℕ) → entryFits room used ≡ true → usedAfter used ≤ room
+unfolding entryFits usedAfter
+put-within room used h = omega (arith, ltb-true used room h)
+
+-- `quantifies` tests membership.
+quantifier-sound : (q r : Quantifier) → isQuantifier q r ≡ true → r ≡ q
+quantifier-sound existential existential h = refl
+quantifier-sound existential universal h = absurd (false≢true h)
+quantifier-sound universal existential h = absurd (false≢true h)
+quantifier-sound universal universal h = refl
+
+quantifier-self : (q : Quantifier) → isQuantifier q q ≡ true
+quantifier-self existential = refl
+quantifier-self universal = refl
+
+pub quantifies-sound : (q : Quantifier) (P : Prefix) (v : ℕ) → quantifies q P v ≡ true → List·Memᴰ (entry v q) P
+unfolding quantifies
+quantifies-sound q [] v h = absurd (false≢true h)
+quantifies-sound q (x ∷ P) v h = go (or-either (isQuantifier q (x .quantifier) && eqb (x .variable) v) (quantifies q P v) h) (λ k. quantifies-sound q P v k)
+  where
+    go :
+        ((isQuantifier q (x .quantifier) && eqb (x .variable) v) ≡ true) ⊎ (quantifies q P v ≡ true)
+        → (quantifies q P v ≡ true → List·Memᴰ (entry v q) P) → List·Memᴰ (entry v q) (x ∷ P)
+    go (inl k) later =
+        let b = and-both (isQuantifier q (x .quantifier)) (eqb (x .variable) v) k in
+        let e = eqb-true (x .variable) v (b .1) in
+        let p = quantifier-sound q (x .quantifier) (b .0) in
+        List·Memᴰ·head (sym (λ i. record { variable = e i; quantifier = p i }))
+    go (inr k) later = List·Memᴰ·tail (later k)
+
+pub quantifies-complete : (q : Quantifier) (P : Prefix) (v : ℕ) → List·Memᴰ (entry v q) P → quantifies q P v ≡ true
+unfolding quantifies
+quantifies-complete q [] v m = absurd (List·Memᴰ·not-nil m)
+quantifies-complete q (x ∷ P) v m = go (List·Memᴰ·cases-cons m) (λ k. quantifies-complete q P v k)
+  where
+    go :
+        (entry v q ≡ x) ⊎ List·Memᴰ (entry v q) P → (List·Memᴰ (entry v q) P → quantifies q P v ≡ true)
+        → ((isQuantifier q (x .quantifier) && eqb (x .variable) v) || quantifies q P v) ≡ true
+    go (inl e) later = rw (← e, quantifier-self q, eq-eqb v v refl)
+    go (inr k) later = or-right (isQuantifier q (x .quantifier) && eqb (x .variable) v) (quantifies q P v) (later k)

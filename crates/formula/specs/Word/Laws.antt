@@ -1,0 +1,142 @@
+-- Laws of words: what a word that was recognised says of the literal that it stands for, both signs in one; its variable, the
+-- place of its literal and of the opposite one. Definitions: Word. Assumes nothing.
+use Prim.Native.Nat.{ℕ, zero, suc, _+_, _*_, _/_, _≤_, _<_}
+use mathlib.Core.Path.{_≡_, refl, ap, sym, _∙_}
+use mathlib.Core.Logic.{_⊎_, inl, inr}
+use mathlib.Core.Bool.{Bool, true, false, not, false≢true}
+use native.Mathlib.Nat.{not-suc-le-zero}
+use native.Mathlib.Omega.{arith}
+use borrow.Author.Tests.{leb-true, le-leb, lt-leb}
+use lib.Dec.{leb}
+use lib.IntN.{ℤ, pos, negsuc, negℤ, natAbs}
+use Rattle.qbf.specs.Literal.{Literal, literal}
+use Rattle.formula.specs.Bounds.{variableBound}
+use Rattle.formula.specs.Word.{positive, negative, wordOf, isZero, variableOf, slot, slotOf, opposite, slotWith}
+use Rattle.formula.specs.Decode.{literalOf}
+use Rattle.formula.specs.declared.literal.Variable.{Variable}
+use Rattle.formula.specs.declared.literal.Word.{Word}
+use Rattle.formula.specs.declared.literal.Word.the-variants.{Zero, TooLarge, Positive, Negative}
+
+-- The test of a word that closes a clause, both ways.
+pub zero-sound : (w : ℤ) → isZero w ≡ true → w ≡ pos 0
+unfolding isZero
+zero-sound (pos zero) h = refl
+zero-sound (pos (suc n)) h = absurd (false≢true h)
+zero-sound (negsuc n) h = absurd (false≢true h)
+
+pub zero-complete : (w : ℤ) → w ≡ pos 0 → isZero w ≡ true
+unfolding isZero
+zero-complete w e = rw e
+
+pub zero-apart : (w : ℤ) → isZero w ≡ false → w ≡ pos 0 → ⊥
+zero-apart w h e = false≢true (sym h ∙ zero-complete w e)
+
+pub apart-zero : (w : ℤ) → (w ≡ pos 0 → ⊥) → isZero w ≡ false
+unfolding isZero
+apart-zero (pos zero) n = absurd (n refl)
+apart-zero (pos (suc k)) n = refl
+apart-zero (negsuc k) n = refl
+
+-- The word of a variable with a sign.
+abbrev pub signedWord : ℕ → Bool → Word
+signedWord v true = Positive (record { 0 = v })
+signedWord v false = Negative (record { 0 = v })
+
+-- Either a word stands for a literal in range, or it is 0 or too large.
+pub data Recognised (w : ℤ) : Type 0 where
+  nothing : (wordOf w ≡ Zero) ⊎ (wordOf w ≡ TooLarge) → Recognised w
+  names : (v : ℕ) (s : Bool) → 1 ≤ v → v ≤ variableBound → wordOf w ≡ signedWord v s → literalOf w ≡ literal v s → Recognised w
+
+pub recognised : (w : ℤ) → Recognised w
+unfolding wordOf
+recognised (pos zero) = nothing (inl refl)
+recognised (pos (suc n)) = go (leb (suc n) variableBound) refl
+  where
+    go : (b : Bool) → leb (suc n) variableBound ≡ b → Recognised (pos (suc n))
+    go true e = names (suc n) true (omega arith) (leb-true (suc n) variableBound e) (rw e) refl
+    go false e = nothing (inr (rw e))
+recognised (negsuc n) = go (leb (suc n) variableBound) refl
+  where
+    go : (b : Bool) → leb (suc n) variableBound ≡ b → Recognised (negsuc n)
+    go true e = names (suc n) false (omega arith) (leb-true (suc n) variableBound e) (rw e) refl
+    go false e = nothing (inr (rw e))
+
+-- The word of a literal in range.
+pub word-of-literal : (w : ℤ) (v : ℕ) (s : Bool) → literalOf w ≡ literal v s → 1 ≤ v → v ≤ variableBound → wordOf w ≡ signedWord v s
+unfolding wordOf
+word-of-literal w v s e l h =
+    in-range w (ap (λ (k : Literal). k .variable) e) l h
+    ∙ (λ i. signedWord (e i .variable) (e i .sign))
+  where
+    in-range : (w : ℤ) → literalOf w .variable ≡ v → 1 ≤ v → v ≤ variableBound → wordOf w ≡ signedWord (literalOf w .variable) (literalOf w .sign)
+    in-range (pos zero) q l h = absurd (omega arith)
+    in-range (pos (suc n)) q l h = rw (le-leb (suc n) variableBound (omega arith))
+    in-range (negsuc n) q l h = rw (le-leb (suc n) variableBound (omega arith))
+
+-- A variable that was recognised is in range, with either sign.
+pub positive-bounded : (w : ℤ) (v : Variable) → wordOf w ≡ Positive v → (1 ≤ v .0) × (v .0 ≤ variableBound)
+positive-bounded w v e = go (recognised w)
+  where
+    go : Recognised w → (1 ≤ v .0) × (v .0 ≤ variableBound)
+    go (nothing (inl k)) = let z : _≡_ {A = ℕ} 0 1 = cc in absurd (omega arith)
+    go (nothing (inr k)) = let z : _≡_ {A = ℕ} 0 1 = cc in absurd (omega arith)
+    go (names v′ true l b k q) = let z : v ≡ record { 0 = v′ } = cc in rw z (l, b)
+    go (names v′ false l b k q) = let z : _≡_ {A = ℕ} 0 1 = cc in absurd (omega arith)
+
+pub negative-bounded : (w : ℤ) (v : Variable) → wordOf w ≡ Negative v → (1 ≤ v .0) × (v .0 ≤ variableBound)
+negative-bounded w v e = go (recognised w)
+  where
+    go : Recognised w → (1 ≤ v .0) × (v .0 ≤ variableBound)
+    go (nothing (inl k)) = let z : _≡_ {A = ℕ} 0 1 = cc in absurd (omega arith)
+    go (nothing (inr k)) = let z : _≡_ {A = ℕ} 0 1 = cc in absurd (omega arith)
+    go (names v′ true l b k q) = let z : _≡_ {A = ℕ} 0 1 = cc in absurd (omega arith)
+    go (names v′ false l b k q) = let z : v ≡ record { 0 = v′ } = cc in rw z (l, b)
+
+-- The variable of a word in range is its magnitude; a magnitude above the range is no variable's.
+pub variable-magnitude : (w : ℤ) → natAbs w ≤ variableBound → variableOf (wordOf w) ≡ natAbs w
+unfolding wordOf variableOf
+variable-magnitude (pos zero) h = refl
+variable-magnitude (pos (suc n)) h = rw (le-leb (suc n) variableBound h)
+variable-magnitude (negsuc n) h = rw (le-leb (suc n) variableBound h)
+
+pub variable-large : (w : ℤ) → variableBound < natAbs w → variableOf (wordOf w) ≡ variableBound + 1
+unfolding wordOf variableOf
+variable-large (pos zero) h = absurd (not-suc-le-zero h)
+variable-large (pos (suc n)) h = rw (lt-leb (suc n) variableBound h)
+variable-large (negsuc n) h = rw (lt-leb (suc n) variableBound h)
+
+-- The opposite word; places within the marks, and which literal a place other than 0 is of.
+pub opposite-word : (w : ℤ) → wordOf (negℤ w) ≡ opposite (wordOf w)
+unfolding wordOf
+opposite-word (pos zero) = refl
+opposite-word (pos (suc n)) = go (leb (suc n) variableBound)
+  where
+    go : (b : Bool) → negative b (suc n) ≡ opposite (positive b (suc n))
+    go true = refl
+    go false = refl
+opposite-word (negsuc n) = go (leb (suc n) variableBound)
+  where
+    go : (b : Bool) → positive b (suc n) ≡ opposite (negative b (suc n))
+    go true = refl
+    go false = refl
+
+pub slot-with-plain : (w : Word) → slotWith 0 1 w ≡ slotOf w
+slot-with-plain Zero = refl
+slot-with-plain TooLarge = refl
+slot-with-plain (Positive v) = omega arith
+slot-with-plain (Negative v) = refl
+
+pub slot-with-opposite : (w : Word) → slotWith 1 0 w ≡ slotOf (opposite w)
+slot-with-opposite Zero = refl
+slot-with-opposite TooLarge = refl
+slot-with-opposite (Positive v) = refl
+slot-with-opposite (Negative v) = omega arith
+
+pub slot-bound : (w : ℤ) → slotOf (wordOf w) < 2050
+slot-bound w = go (recognised w)
+  where
+    go : Recognised w → slotOf (wordOf w) < 2050
+    go (nothing (inl e)) = rw e (omega arith)
+    go (nothing (inr e)) = rw e (omega arith)
+    go (names v true o b e q) = rw e (omega arith)
+    go (names v false o b e q) = rw e (omega arith)
