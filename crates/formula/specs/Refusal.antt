@@ -1,6 +1,7 @@
 -- The reasons of 01's table ("What the checker says no with"): the number and the word of each. Laws are in Refusal/Laws.antt.
 pub mod Laws
 use Prim.Native.Nat.{ℕ, _-_}
+use mathlib.Core.Bool.{Bool, true, false}
 use mathlib.Core.List.{List, [], _∷_}
 use lib.ListN.{getD}
 use Rattle.formula.specs.declared.refusal.Reason.{Reason}
@@ -32,6 +33,12 @@ use Rattle.formula.specs.declared.refusal.Reason.the-variants.{
 abbrev pub refusal : Reason → ℕ → Refusal
 refusal r p = record { reason = r; place = p }
 
+-- A test that must hold: what comes later where it does, and else the refusal, of whatever kind the answer is.
+abbrev pub require : {A : Type 0} → Bool → (refused later : A) → A
+require true refused later = later
+require false refused later = refused
+
+-- 01's number of each reason.
 abbrev pub number : Reason → ℕ
 number Headless = 1
 number Oversized = 2
