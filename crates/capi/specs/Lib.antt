@@ -1,2 +1,2 @@
 -- The definitions that the C functions' contracts cite.
-pub mod Told
+pub mod Codes

@@ -1,30 +1,26 @@
 // C functions on the tables of a formula: their check, a dependency row, the evaluator.
-use crate::told::accept;
-use crate::told::refuse;
-use dependency::answer::RowAnswer;
+use crate::codes::tell_evaluation;
+use crate::codes::tell_row;
+use crate::codes::tell_tables;
 use dependency::answer::dependency_row;
-use evaluator::evaluation::Evaluation;
 use evaluator::evaluation::evaluate;
-use formula::tables::TablesAnswer;
 use formula::tables::check_tables;
-ghost use lib.ListN.{length};
+ghost use mathlib.Core.Path.{_≡_};
 ghost use Rattle.formula.specs.Tables.{tablesAnswer};
-ghost use Rattle.dependency.specs.Row.{rowRefusal, answerRow, RowDone};
+ghost use Rattle.formula.specs.declared.tables.TablesAnswer.{TablesAnswer as Check};
+ghost use Rattle.dependency.specs.Row.{RowDone};
+ghost use Rattle.dependency.specs.declared.answer.RowAnswer.{RowAnswer as Row};
 ghost use Rattle.evaluator.specs.Evaluation.{evaluationOf};
-ghost use Rattle.capi.specs.Told.{Tells, tablesTold, rowTold, evaluationTold};
+ghost use Rattle.evaluator.specs.declared.evaluation.Evaluation.{Evaluation as Verdict};
+ghost use Rattle.capi.specs.Codes.{Tells, tablesCode, rowCode, evaluationCode};
 
 // The check of tables: `out` is the variables, the clauses and zeros.
 #[no_mangle]
 pub extern "C" fn qdr_check_tables(prefix: &[i32], clauses: &[i32], out: &mut [u64; 5]) -> u32
-    ensures { λ r. ⌜ Tells (tablesTold (tablesAnswer (now (prefix .entry)) (now (clauses .entry)))) r (now (out .exit)) ⌝ }
+    ensures { λ r. ⌜ Tells tablesCode (λ (a : Check). a ≡ tablesAnswer (now (prefix .entry)) (now (clauses .entry))) r (now (out .exit)) ⌝ }
 {
-    match check_tables(prefix, clauses) {
-        TablesAnswer::Admitted {
-            variables,
-            clauses: count,
-        } => accept(out, variables as u64, count as u64, 0),
-        TablesAnswer::Refused(r) => refuse(out, r),
-    }
+    let answer = check_tables(prefix, clauses);
+    tell_tables(out, answer)
 }
 
 // The dependency row of a universal, into `row`: `out` is zeros.
@@ -37,23 +33,17 @@ pub extern "C" fn qdr_row(
     scratch: &mut [u8],
     out: &mut [u64; 5],
 ) -> u32
-    ensures { λ r. ⌜ Tells (rowTold (answerRow (rowRefusal (now (prefix .entry)) (now (clauses .entry)) variable (length (now (row .entry))) (length (now (scratch .entry)))))) r (now (out .exit)) ⌝ }
-    ensures { λ _. ⌜ RowDone (now (prefix .entry)) (now (clauses .entry)) variable (now (row .entry)) (now (scratch .entry)) (answerRow (rowRefusal (now (prefix .entry)) (now (clauses .entry)) variable (length (now (row .entry))) (length (now (scratch .entry))))) (now (row .exit)) (now (scratch .exit)) ⌝ }
+    ensures { λ r. ⌜ Tells rowCode (λ (a : Row). RowDone (now (prefix .entry)) (now (clauses .entry)) variable (now (row .entry)) (now (scratch .entry)) a (now (row .exit)) (now (scratch .exit))) r (now (out .exit)) ⌝ }
 {
-    match dependency_row(prefix, clauses, variable, row, scratch) {
-        RowAnswer::Filled => accept(out, 0, 0, 0),
-        RowAnswer::Refused(r) => refuse(out, r),
-    }
+    let answer = dependency_row(prefix, clauses, variable, row, scratch);
+    tell_row(out, answer)
 }
 
 // The evaluator: `out` is 1 for true or 0 for false, then zeros.
 #[no_mangle]
 pub extern "C" fn qdr_evaluate(prefix: &[i32], clauses: &[i32], out: &mut [u64; 5]) -> u32
-    ensures { λ r. ⌜ Tells (evaluationTold (evaluationOf (now (prefix .entry)) (now (clauses .entry)))) r (now (out .exit)) ⌝ }
+    ensures { λ r. ⌜ Tells evaluationCode (λ (a : Verdict). a ≡ evaluationOf (now (prefix .entry)) (now (clauses .entry))) r (now (out .exit)) ⌝ }
 {
-    match evaluate(prefix, clauses) {
-        Evaluation::True => accept(out, 1, 0, 0),
-        Evaluation::False => accept(out, 0, 0, 0),
-        Evaluation::Refused(r) => refuse(out, r),
-    }
+    let answer = evaluate(prefix, clauses);
+    tell_evaluation(out, answer)
 }

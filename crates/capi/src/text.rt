@@ -1,14 +1,13 @@
 // C functions on the text of a formula: its reading into tables, and the writing of tables.
-use crate::told::accept;
-use crate::told::refuse;
-use formula::read::ReadAnswer;
+use crate::codes::tell_read;
+use crate::codes::tell_write;
 use formula::read::read_formula;
-use formula::write::WriteAnswer;
 use formula::write::write_formula;
 ghost use lib.ListN.{length};
-ghost use Rattle.formula.specs.Text.{reading, readAnswer, ReadPost};
-ghost use Rattle.formula.specs.Written.{written, writingRefusal, answerWriting, Writes};
-ghost use Rattle.capi.specs.Told.{Tells, readTold, writeTold};
+ghost use Rattle.formula.specs.Text.{ReadPost};
+ghost use Rattle.formula.specs.Written.{Writes};
+ghost use Rattle.formula.specs.declared.write.WriteAnswer.{WriteAnswer as Answer};
+ghost use Rattle.capi.specs.Codes.{Tells, readCode, writeCode};
 
 // Reads a text into the two tables: `out` is the prefix words used, the clause words used, C, 0, 0.
 #[no_mangle]
@@ -18,17 +17,10 @@ pub extern "C" fn qdr_read(
     clauses: &mut [i32],
     out: &mut [u64; 5],
 ) -> u32
-    ensures { λ r. ⌜ Tells (readTold (readAnswer (reading (now (text .entry)) (length (now (prefix .entry))) (length (now (clauses .entry)))))) r (now (out .exit)) ⌝ }
-    ensures { λ _. ⌜ ReadPost (now (text .entry)) (now (prefix .entry)) (now (clauses .entry)) (now (prefix .exit)) (now (clauses .exit)) (readAnswer (reading (now (text .entry)) (length (now (prefix .entry))) (length (now (clauses .entry))))) ⌝ }
+    ensures { λ r. ⌜ Tells readCode (ReadPost (now (text .entry)) (now (prefix .entry)) (now (clauses .entry)) (now (prefix .exit)) (now (clauses .exit))) r (now (out .exit)) ⌝ }
 {
-    match read_formula(text, prefix, clauses) {
-        ReadAnswer::Read {
-            prefix_used,
-            clauses_used,
-            clauses: count,
-        } => accept(out, prefix_used as u64, clauses_used as u64, count as u64),
-        ReadAnswer::Refused(r) => refuse(out, r),
-    }
+    let answer = read_formula(text, prefix, clauses);
+    tell_read(out, answer)
 }
 
 // Writes tables as a text: `out` is the bytes used and zeros.
@@ -39,11 +31,8 @@ pub extern "C" fn qdr_write(
     text: &mut [u8],
     out: &mut [u64; 5],
 ) -> u32
-    ensures { λ r. ⌜ Tells (writeTold (answerWriting (writingRefusal (now (prefix .entry)) (now (clauses .entry)) (length (now (text .entry)))) (length (written (now (prefix .entry)) (now (clauses .entry)))))) r (now (out .exit)) ⌝ }
-    ensures { λ _. ⌜ Writes (now (prefix .entry)) (now (clauses .entry)) (length (now (text .entry))) (answerWriting (writingRefusal (now (prefix .entry)) (now (clauses .entry)) (length (now (text .entry)))) (length (written (now (prefix .entry)) (now (clauses .entry))))) (now (text .exit)) ⌝ }
+    ensures { λ r. ⌜ Tells writeCode (λ (a : Answer). Writes (now (prefix .entry)) (now (clauses .entry)) (length (now (text .entry))) a (now (text .exit))) r (now (out .exit)) ⌝ }
 {
-    match write_formula(prefix, clauses, text) {
-        WriteAnswer::Written(used) => accept(out, used as u64, 0, 0),
-        WriteAnswer::Refused(r) => refuse(out, r),
-    }
+    let answer = write_formula(prefix, clauses, text);
+    tell_write(out, answer)
 }

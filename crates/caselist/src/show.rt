@@ -3,10 +3,12 @@
 use formula::literal::Word;
 use formula::refusal::Refusal;
 
+// Prints bytes.
 pub fn say(bytes: &[u8]) {
     io::write_all(1, bytes);
 }
 
+// Prints a number.
 pub fn number(n: usize) {
     io::print_decimal(1, n as u64);
 }
@@ -46,6 +48,7 @@ fn word(w: i32) {
     }
 }
 
+// The words of a table, a space before each.
 pub fn words(table: &[i32]) {
     let mut i = 0;
     while i < table.len() {
@@ -64,6 +67,7 @@ fn dependent(byte: u8, v: usize) {
     }
 }
 
+// The dependents of a row, a space before each.
 pub fn dependents(row: &[u8]) {
     let mut i = 0;
     while i < row.len() {
@@ -72,6 +76,7 @@ pub fn dependents(row: &[u8]) {
     }
 }
 
+// A refusal: its number and its place.
 pub fn refused(r: Refusal) {
     let reason = r.reason;
     say(b"refused ");
@@ -80,6 +85,7 @@ pub fn refused(r: Refusal) {
     number(r.place);
 }
 
+// Is the table wholly 0?
 pub fn words_clear(table: &[i32]) -> bool {
     let mut i = 0;
     while i < table.len() {
@@ -91,6 +97,7 @@ pub fn words_clear(table: &[i32]) -> bool {
     true
 }
 
+// Is the buffer 0 from a place on?
 pub fn bytes_clear(buffer: &[u8], from: usize) -> bool {
     let mut i = from;
     while i < buffer.len() {
@@ -102,6 +109,7 @@ pub fn bytes_clear(buffer: &[u8], from: usize) -> bool {
     true
 }
 
+// Is the buffer wholly 0?
 pub fn numbers_clear(buffer: &[u32]) -> bool {
     let mut i = 0;
     while i < buffer.len() {

@@ -36,6 +36,7 @@ fn magnitude(text: &[u8], from: usize) -> u32 {
     n
 }
 
+// A number as a word, 0 for one past the highest.
 fn positive(n: u32) -> i32 {
     if n < 2_147_483_648 {
         return n as i32;
@@ -54,6 +55,7 @@ fn negative(n: u32) -> i32 {
     0
 }
 
+// The word that a text writes, 0 for a text of no digits.
 pub fn word(text: &[u8]) -> i32 {
     if text.len() == 0 {
         return 0;

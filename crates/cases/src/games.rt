@@ -6,6 +6,7 @@ use caselist::show;
 use evaluator::evaluation::Evaluation;
 use evaluator::evaluation::evaluate;
 
+// Evaluates the tables and prints the answer.
 pub fn case(name: &[u8], prefix: &[i32], clauses: &[i32]) {
     show::name(b"game", name);
     match evaluate(prefix, clauses) {
@@ -16,6 +17,7 @@ pub fn case(name: &[u8], prefix: &[i32], clauses: &[i32]) {
     show::say(b"\n");
 }
 
+// The lettered positions.
 fn lettered() {
     run_list(
         Kind::Game,
@@ -32,6 +34,7 @@ fn lettered() {
     );
 }
 
+// Who moves first decides; a variable that no clause has; tables that are refused.
 fn orders() {
     run_list(
         Kind::Game,
@@ -42,6 +45,7 @@ fn orders() {
     );
 }
 
+// 16 and 17 variables, and tables refused ahead of 17.
 fn lengths() {
     let mut most = [0i32; 16];
     let mut over = [0i32; 17];
@@ -53,6 +57,7 @@ fn lengths() {
     case(b"17 times variable 1", &broken, &[]);
 }
 
+// All of them.
 pub fn run() {
     lettered();
     orders();

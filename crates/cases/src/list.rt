@@ -80,6 +80,7 @@ fn run_case(kind: Kind, list: &[u8], at: usize) -> usize
     }
 }
 
+// Runs the cases of a list one after the other.
 pub fn run_list(kind: Kind, list: &[u8]) {
     let mut at = 0;
     while at < list.len() {

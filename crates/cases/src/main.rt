@@ -9,6 +9,7 @@ mod tables;
 mod text;
 mod written;
 
+// All cases, by kind.
 fn main() {
     text::run();
     tables::run();

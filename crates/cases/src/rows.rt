@@ -37,6 +37,7 @@ pub fn case(name: &[u8], prefix: &[i32], clauses: &[i32], variable: i32) {
     row(name, prefix, clauses, variable, &mut bytes, &mut scratch);
 }
 
+// The lettered positions.
 fn lettered() {
     run_list(
         Kind::Row,
@@ -48,6 +49,7 @@ fn lettered() {
     );
 }
 
+// What a path may pass and what not.
 fn paths() {
     run_list(
         Kind::Row,
@@ -61,6 +63,7 @@ fn paths() {
     );
 }
 
+// 20 for anything but a universal, behind the tables.
 fn not_universal() {
     run_list(
         Kind::Row,
@@ -98,6 +101,7 @@ fn parted(
     }
 }
 
+// A row into so many bytes, with so many of scratch.
 fn lent(name: &[u8], variable: i32, row_bytes: usize, scratch_bytes: usize) {
     let mut bytes = [7u8; 1040];
     let mut scratch = [7u8; 9000];
@@ -111,6 +115,7 @@ fn lent(name: &[u8], variable: i32, row_bytes: usize, scratch_bytes: usize) {
     );
 }
 
+// Buffers too short, just long enough and longer.
 fn buffers() {
     lent(b"1,024 bytes", 1, 1_024, 8_200);
     lent(b"1,024 bytes, asked for 2", 2, 1_024, 8_200);
@@ -119,6 +124,7 @@ fn buffers() {
     lent(b"1,040 bytes, scratch 9,000", 1, 1_040, 9_000);
 }
 
+// All of them.
 pub fn run() {
     lettered();
     paths();

@@ -5,6 +5,7 @@ use caselist::show;
 use formula::tables::TablesAnswer;
 use formula::tables::check_tables;
 
+// Checks the tables and prints the answer.
 pub fn case(name: &[u8], prefix: &[i32], clauses: &[i32]) {
     show::name(b"tables", name);
     match check_tables(prefix, clauses) {
@@ -40,6 +41,7 @@ pub fn number_words(table: &mut [i32]) {
     }
 }
 
+// Tables that pass.
 fn admitted() {
     run_list(
         Kind::Tables,
@@ -60,6 +62,7 @@ fn variables() {
     case(b"1,025 variables", &over, &[]);
 }
 
+// The bound on clauses and one more.
 fn clause_counts() {
     let most = [0i32; 8192];
     let over = [0i32; 8193];
@@ -67,6 +70,7 @@ fn clause_counts() {
     case(b"8,193 clauses", &[], &over);
 }
 
+// The bound on clause words and one more: 8 comes behind 2.
 fn clause_words() {
     let most = [1i32; 65536];
     let over = [1i32; 65537];
@@ -74,6 +78,7 @@ fn clause_words() {
     case(b"65,537 times 1", &[1], &over);
 }
 
+// Prefix words that are refused: 5, 6.
 fn prefixes() {
     run_list(
         Kind::Tables,
@@ -87,6 +92,7 @@ fn prefixes() {
     );
 }
 
+// Clause words that are refused: 5, 7, 8, 9.
 fn clauses() {
     run_list(
         Kind::Tables,
@@ -104,6 +110,7 @@ fn clauses() {
     );
 }
 
+// All of them.
 pub fn run() {
     admitted();
     variables();

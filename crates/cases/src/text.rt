@@ -55,6 +55,7 @@ fn parted(
     }
 }
 
+// A text read into tables of so many words.
 fn lent(name: &[u8], text: &[u8], prefix_words: usize, clause_words: usize) {
     let mut prefix = [7i32; 4];
     let mut clauses = [7i32; 6];
@@ -73,6 +74,7 @@ pub fn case(name: &[u8], text: &[u8]) {
     lent(name, text, 4, 6);
 }
 
+// The known positions of texts.
 fn known() {
     run_list(
         Kind::Text,
@@ -85,6 +87,7 @@ fn known() {
     );
 }
 
+// Headers that are not complete: 1.
 fn headless() {
     run_list(
         Kind::Text,
@@ -99,6 +102,7 @@ fn headless() {
     );
 }
 
+// The numbers of the header: 1, 2.
 fn header_numbers() {
     run_list(
         Kind::Text,
@@ -115,6 +119,7 @@ fn header_numbers() {
     );
 }
 
+// What parts tokens, and what closes nothing.
 fn blanks() {
     run_list(
         Kind::Text,
@@ -127,6 +132,7 @@ fn blanks() {
     );
 }
 
+// Where comments stand, and where a `c` is a token.
 fn comments() {
     run_list(
         Kind::Text,
@@ -141,6 +147,7 @@ fn comments() {
     );
 }
 
+// Sets: 4, 9.
 fn sets() {
     run_list(
         Kind::Text,
@@ -155,6 +162,7 @@ fn sets() {
     );
 }
 
+// The numbers of a set: 4, 5, 6.
 fn set_numbers() {
     run_list(
         Kind::Text,
@@ -170,6 +178,7 @@ fn set_numbers() {
     );
 }
 
+// Literals: 5, 7, 8.
 fn literals() {
     run_list(
         Kind::Text,
@@ -181,6 +190,7 @@ fn literals() {
     );
 }
 
+// Tokens of clauses that are no literals: 4.
 fn literal_tokens() {
     run_list(
         Kind::Text,
@@ -193,6 +203,7 @@ fn literal_tokens() {
     );
 }
 
+// Clauses too many and too few: 10.
 fn clauses() {
     run_list(
         Kind::Text,
@@ -207,6 +218,7 @@ fn clauses() {
     );
 }
 
+// Texts that end too soon: 1, 9, 10.
 fn ends() {
     run_list(
         Kind::Text,
@@ -223,6 +235,7 @@ fn ends() {
     );
 }
 
+// Tables too short: 3.
 fn room() {
     run_list(
         Kind::Text,
@@ -270,6 +283,7 @@ pub fn first_bytes(text: &[u8], n: usize) -> &[u8] {
     if n <= text.len() { &text[0..n] } else { text }
 }
 
+// The first `n` bytes of a text, read.
 fn cut(text: &[u8], n: usize) {
     let mut prefix = [7i32; 2];
     let mut clauses = [7i32; 3];
@@ -289,6 +303,7 @@ fn cuts(text: &[u8]) {
     cut(text, n);
 }
 
+// All of them.
 pub fn run() {
     known();
     headless();

@@ -44,6 +44,7 @@ fn parted(name: &[u8], prefix: &[i32], clauses: &[i32], text: &mut [u8], bytes: 
     }
 }
 
+// Writing into so many bytes.
 fn lent(name: &[u8], prefix: &[i32], clauses: &[i32], bytes: usize) {
     let mut text = [7u8; 64];
     parted(name, prefix, clauses, &mut text, bytes);
@@ -54,6 +55,7 @@ pub fn case(name: &[u8], prefix: &[i32], clauses: &[i32]) {
     lent(name, prefix, clauses, 64);
 }
 
+// The example into so many bytes.
 fn example(name: &[u8], bytes: usize) {
     lent(
         name,
@@ -63,6 +65,7 @@ fn example(name: &[u8], bytes: usize) {
     );
 }
 
+// Formulas of several kinds, and tables that are refused.
 fn formulas() {
     run_list(
         Kind::Written,
@@ -74,6 +77,7 @@ fn formulas() {
     );
 }
 
+// Room to the byte.
 fn room() {
     example(b"the example in 58 bytes", 58);
     example(b"the example in 57 bytes", 57);
@@ -81,6 +85,7 @@ fn room() {
     lent(b"tables refused ahead of room", &[1], &[2, 0], 0);
 }
 
+// Are the two tables the same, word by word?
 fn same_words(a: &[i32], b: &[i32]) -> bool {
     let mut i = 0;
     while i < a.len() {
@@ -116,6 +121,7 @@ fn same_prefix(prefix: &[i32], text: &[u8], used: usize) {
     }
 }
 
+// The longest prefix, written and read back.
 fn longest_prefix() {
     let mut prefix = [0i32; 1024];
     let mut text = [7u8; 5000];
@@ -132,6 +138,7 @@ fn longest_prefix() {
     show::say(b"\n");
 }
 
+// All of them.
 pub fn run() {
     formulas();
     room();

@@ -8,16 +8,19 @@ use formula::read::ReadAnswer;
 use formula::read::read_formula;
 use report::program::program_line;
 
+// Prints bytes.
 fn say(text: &[u8]) {
     print_first(text, text.len());
 }
 
+// The line of the first program.
 fn check(formula: &[u8], proof: &[u8]) {
     let mut line = [0u8; 128];
     let n = program_line(formula, proof, &mut line);
     print_first(&line, n);
 }
 
+// Prints a number.
 fn say_number(n: usize) {
     let mut digits = [0u8; 20];
     let k = io::decimal(n as u64, &mut digits);
@@ -52,18 +55,21 @@ fn play_read(formula: &[u8], prefix: &mut [i32], clauses: &mut [i32]) {
     }
 }
 
+// What the evaluator says of the formula.
 fn play(formula: &[u8]) {
     let mut prefix = [0i32; 1024];
     let mut clauses = [0i32; 16384];
     play_read(formula, &mut prefix, &mut clauses);
 }
 
+// Both judges on one pair of files.
 fn judge(formula: &[u8], proof: &[u8]) {
     check(formula, proof);
     say(b"  evaluator: ");
     play(formula);
 }
 
+// A proof from outside, by its name and the paths of its two files.
 fn outside(name: &[u8], formula_path: &[u8], proof_path: &[u8]) {
     let mut formula = [0u8; 65537];
     let mut proof = [0u8; 65537];
@@ -74,6 +80,7 @@ fn outside(name: &[u8], formula_path: &[u8], proof_path: &[u8]) {
     judge(&formula[..n], &proof[..m]);
 }
 
+// The proofs by name, up to equality.
 fn part1() {
     outside(
         b"copies-qpup-nosdcl",
@@ -112,6 +119,7 @@ fn part1() {
     );
 }
 
+// From game to mixed.
 fn part2() {
     outside(
         b"game-qpup",
@@ -150,6 +158,7 @@ fn part2() {
     );
 }
 
+// From parity to rand.
 fn part3() {
     outside(
         b"parity3-trad-shifted",
@@ -188,6 +197,7 @@ fn part3() {
     );
 }
 
+// All of them.
 fn main() {
     part1();
     part2();

@@ -30,6 +30,7 @@ fn whole_line(formula: &[u8], proof: &[u8], line: &mut [u8]) -> usize
     program_line(formula, proof, line)
 }
 
+// Prints the first program's line.
 fn print_line(formula: &[u8], proof: &[u8]) {
     let mut line = [0u8; 128];
     let n = whole_line(formula, proof, &mut line);
@@ -67,6 +68,7 @@ fn whole_text(formula: &[u8], text: &mut [u8]) -> usize
     program_text(formula, text)
 }
 
+// Prints the second program's text.
 fn print_text(formula: &[u8]) {
     let mut text = [0u8; 1_316_864];
     let n = whole_text(formula, &mut text);

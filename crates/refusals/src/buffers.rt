@@ -11,6 +11,7 @@ fn tables() {
     lent(b"1", b"1 -2 0", 8_199, 0, b"variable not bound|0|");
 }
 
+// Clause words refused ahead of short buffers.
 fn clauses() {
     lent(b"1", b"1 1025 0", 8_199, 0, b"clause word 1,025|0|");
     lent(b"1 2", b"1 2 -1 0", 8_199, 0, b"literal opposed|0|");
@@ -124,6 +125,7 @@ fn oversized() {
     long_proofs(&[], &steps);
 }
 
+// All of them.
 pub fn run() {
     tables();
     clauses();

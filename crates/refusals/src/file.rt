@@ -8,6 +8,7 @@ use checker::file::read_proof;
 ghost use Prim.Native.Nat.{_<_};
 ghost use lib.ListN.{length};
 
+// Says whether the table was left wholly 0.
 fn tell_clear(table: &[i32]) {
     if show::words_clear(table) {
         show::say(b", table clear");
@@ -116,6 +117,7 @@ fn counts() {
     );
 }
 
+// C of the trailer for a formula without clauses.
 fn counts_of_none() {
     run_list(
         0,
@@ -125,6 +127,7 @@ fn counts_of_none() {
     );
 }
 
+// The highest C that a trailer can have.
 fn highest_count() {
     run_list(
         4_294_967_295,
@@ -143,6 +146,7 @@ fn short_tables() {
     );
 }
 
+// A table of no words.
 fn no_table() {
     run_list(
         4,
@@ -178,6 +182,7 @@ fn notes() {
     );
 }
 
+// All of them.
 pub fn run() {
     lengths();
     marks();

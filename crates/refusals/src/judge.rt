@@ -10,6 +10,7 @@ use checker::verdict::Verdict;
 ghost use Prim.Native.Nat.{_<_};
 ghost use lib.ListN.{length};
 
+// Says whether both buffers were left wholly 0.
 fn tell_clear(scratch: &[u8], starts: &[u32]) {
     if show::bytes_clear(scratch, 0) & show::numbers_clear(starts) {
         show::say(b", buffers clear");
@@ -18,6 +19,7 @@ fn tell_clear(scratch: &[u8], starts: &[u32]) {
     show::say(b", buffers not clear");
 }
 
+// Prints a verdict.
 fn tell(verdict: Verdict) {
     match verdict {
         Verdict::Accepted { empty, steps } => {
@@ -165,6 +167,7 @@ pub fn example_lent(scratch: usize, starts: usize, list: &[u8]) {
     );
 }
 
+// The same with all the room that it asks for.
 pub fn example(list: &[u8]) {
     example_lent(8_200, 16, list);
 }

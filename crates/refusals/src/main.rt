@@ -6,6 +6,7 @@ mod file;
 mod judge;
 mod steps;
 
+// All cases, by kind.
 fn main() {
     file::run();
     buffers::run();

@@ -107,6 +107,7 @@ fn tautologies() {
     );
 }
 
+// A universal as pivot is 15: ahead of 16, and where the result would be empty.
 fn universal_pivots() {
     on(
         b"-1 2",
@@ -226,6 +227,7 @@ fn empty_clauses() {
     );
 }
 
+// All of them.
 pub fn run() {
     broken();
     resolved_numbers();

@@ -9,10 +9,12 @@ use files::print_first;
 use programs::check_files;
 use programs::dependency_file;
 
+// Prints bytes.
 fn say(text: &[u8]) {
     print_first(text, text.len());
 }
 
+// Both programs on a pair of files.
 fn run(formula: &[u8], proof: &[u8]) {
     say(formula);
     say(b", ");
@@ -140,6 +142,7 @@ fn results() {
     run(b"formula/nothing", b"proof/no-steps-0");
 }
 
+// All pairs.
 fn main() {
     accepted();
     lengths();

@@ -12,31 +12,16 @@ Inv-loop row i₀ i = Unit {0}
 abbrev μ-loop : tie.MeasureT-loop
 μ-loop row i₀ i = length row - i
 
-loop-holds : tie.Need-loop-holds Inv-loop μ-loop
-loop-holds c = tt
-
-add-i : tie.Need-add-i Inv-loop μ-loop
-add-i c = omega arith
-
-loop-less : tie.Need-loop-less Inv-loop μ-loop
-loop-less c = omega arith
-
-loop-again : tie.Need-loop-again Inv-loop μ-loop
-loop-again c = tt
-
-returns : tie.Need-returns Inv-loop μ-loop
-returns c = tt
-
 pub dependents-spec : {M : Type 1} → statement M
 dependents-spec =
     tie.close
     (tie.spec
     Inv-loop
     μ-loop
-    loop-holds
+    (λ c. tt)
     (λ c. search needs)
     (λ c κs. search needs)
-    add-i
-    loop-less
-    loop-again
-    returns)
+    (λ c. omega arith)
+    (λ c. omega arith)
+    (λ c. tt)
+    (λ c. tt))

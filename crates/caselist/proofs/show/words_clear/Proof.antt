@@ -12,35 +12,17 @@ Inv-loop table i₀ i = Unit {0}
 abbrev μ-loop : tie.MeasureT-loop
 μ-loop table i₀ i = length table - i
 
-loop-holds : tie.Need-loop-holds Inv-loop μ-loop
-loop-holds c = tt
-
-returns : tie.Need-returns Inv-loop μ-loop
-returns c = tt
-
-add-i : tie.Need-add-i Inv-loop μ-loop
-add-i c = omega arith
-
-loop-less : tie.Need-loop-less Inv-loop μ-loop
-loop-less c = omega arith
-
-loop-again : tie.Need-loop-again Inv-loop μ-loop
-loop-again c = tt
-
-returns-2 : tie.Need-returns-2 Inv-loop μ-loop
-returns-2 c = tt
-
 pub words-clear-spec : {M : Type 1} → statement M
 words-clear-spec =
     tie.close
     (tie.spec
     Inv-loop
     μ-loop
-    loop-holds
+    (λ c. tt)
     (λ c. search needs)
     (λ c. search needs)
-    returns
-    add-i
-    loop-less
-    loop-again
-    returns-2)
+    (λ c. tt)
+    (λ c. omega arith)
+    (λ c. omega arith)
+    (λ c. tt)
+    (λ c. tt))

@@ -13,23 +13,11 @@ Inv-loop text table₀ n₀ at₀ table n at = length table ≡ length table₀
 abbrev μ-loop : tie.MeasureT-loop
 μ-loop text table₀ n₀ at₀ table n at = length text - at
 
-loop-holds : tie.Need-loop-holds Inv-loop μ-loop
-loop-holds c = refl
-
-returns : tie.Need-returns Inv-loop μ-loop
-returns c = tt
-
-add-n : tie.Need-add-n Inv-loop μ-loop
-add-n c = omega arith
-
 loop-less : tie.Need-loop-less Inv-loop μ-loop
 loop-less c = omega (arith, c .after .ensures .1 (omega arith))
 
 loop-again : tie.Need-loop-again Inv-loop μ-loop
 loop-again c = simp length-set (c .before .before .before .before .before .before .loop .inv)
-
-returns-2 : tie.Need-returns-2 Inv-loop μ-loop
-returns-2 c = tt
 
 pub words-spec : {M : Type 1} → statement M
 words-spec =
@@ -37,17 +25,17 @@ words-spec =
     (tie.spec
     Inv-loop
     μ-loop
-    loop-holds
+    (λ c. refl)
     (λ c. search needs)
-    returns
+    (λ c. tt)
     (λ c κs. search needs)
     (λ c κs. search needs)
     (λ c κs. search needs)
     (λ c. search needs)
     (λ c. search needs)
-    add-n
+    (λ c. omega arith)
     (λ c κs. search needs)
     loop-less
     loop-again
     (λ c. search needs)
-    returns-2)
+    (λ c. tt))

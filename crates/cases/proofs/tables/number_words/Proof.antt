@@ -13,20 +13,11 @@ Inv-loop table₀ i₀ table i = length table ≡ length table₀
 abbrev μ-loop : tie.MeasureT-loop
 μ-loop table₀ i₀ table i = length table - i
 
-loop-holds : tie.Need-loop-holds Inv-loop μ-loop
-loop-holds c = refl
-
-add-v : tie.Need-add-v Inv-loop μ-loop
-add-v c = omega arith
-
 loop-less : tie.Need-loop-less Inv-loop μ-loop
 loop-less c = simp length-set (omega arith)
 
 loop-again : tie.Need-loop-again Inv-loop μ-loop
 loop-again c = simp length-set (c .before .before .loop .inv)
-
-returns : tie.Need-returns Inv-loop μ-loop
-returns c = tt
 
 pub number-words-spec : {M : Type 1} → statement M
 number-words-spec =
@@ -34,12 +25,12 @@ number-words-spec =
     (tie.spec
     Inv-loop
     μ-loop
-    loop-holds
-    add-v
+    (λ c. refl)
+    (λ c. omega arith)
     (λ c κs. search needs)
     (λ c. search needs)
     (λ c. search needs)
     loop-less
     loop-again
     (λ c. search needs)
-    returns)
+    (λ c. tt))

@@ -7,12 +7,6 @@ use Rattle.files.specs.Reading.{afterRead}
 use Rattle.files.proofs.reading.after_read.Statement.{statement}
 use Rattle.files.proofs.reading.after_read.Tie as tie
 
-outcome-of-requires : tie.Need-outcome-of-requires
-outcome-of-requires c κs = search needs
-
-after-outcome-requires : tie.Need-after-outcome-requires
-after-outcome-requires c κs = search needs
-
 returns : tie.Need-returns
 unfolding afterRead
 returns c =
@@ -22,4 +16,4 @@ returns c =
     rw (c .before .outcome-of .ensures, e, f) at (c .after-outcome .ensures)
 
 pub after-read-spec : {M : Type 1} → statement M
-after-read-spec = tie.close (tie.spec outcome-of-requires after-outcome-requires returns)
+after-read-spec = tie.close (tie.spec (λ c κs. search needs) (λ c κs. search needs) returns)

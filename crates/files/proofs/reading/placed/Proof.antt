@@ -9,9 +9,6 @@ use Rattle.files.proofs.reading.placed.Tie as tie
 returns : tie.Need-returns
 returns c = let a = c .before .args in sym (placed-past (a .count) (a .at) (a .room) (a .tries) (omega arith))
 
-add-t7 : tie.Need-add-t7
-add-t7 c = search needs
-
 returns-2 : tie.Need-returns-2
 returns-2 c = let a = c .before .before .args in sym (placed-on (a .count) (a .at) (a .room) (a .tries) (omega arith))
 
@@ -22,4 +19,4 @@ returns-4 : tie.Need-returns-4
 returns-4 c = let a = c .before .before .before .args in sym (placed-full (a .count) (a .at) (a .room) (a .tries) (omega arith))
 
 pub placed-spec : {M : Type 1} → statement M
-placed-spec = tie.close (tie.spec returns add-t7 returns-2 returns-3 returns-4)
+placed-spec = tie.close (tie.spec returns (λ c. search needs) returns-2 returns-3 returns-4)

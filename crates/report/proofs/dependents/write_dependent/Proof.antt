@@ -23,9 +23,6 @@ write-number-requires c κs =
     let s = put .before .before .before .before in
     below-rest (decimal (s .args .e)) (rw (text-one (put .before .before)) at (s .pre)) (put .put .ensures)
 
-same-length : tie.Need-same-length
-same-length c = search needs
-
 returns : tie.Need-returns
 returns c =
     let put = c .before .before .before .before .before .before in
@@ -37,4 +34,4 @@ returns-2 c = rw (ne-eqb (c .before .before .args .byte) 1 (c .if1 .left)) (stor
 
 pub write-dependent-spec : {M : Type 1} → statement M
 write-dependent-spec =
-    tie.close (tie.spec put-requires write-number-requires same-length returns returns-2)
+    tie.close (tie.spec put-requires write-number-requires (λ c. search needs) returns returns-2)

@@ -5,25 +5,10 @@ use borrow.Author.Needs.{needs}
 use Rattle.report.proofs.settle.settle_proof.Statement.{statement}
 use Rattle.report.proofs.settle.settle_proof.Tie as tie
 
-new-requires : tie.Need-new-requires
-new-requires c κs = search needs
-
-enum-told : tie.Need-enum-told
-enum-told c = search needs
-
-enum-told-2 : tie.Need-enum-told-2
-enum-told-2 c = search needs
-
-read-proof-requires : tie.Need-read-proof-requires
-read-proof-requires c κs = search needs
-
 returns : tie.Need-returns
 returns c =
     let s = c .before .before .before .before in
     proof-oversized (s .args .bound) (s .args .file .now) _ _ _ (fit-oversized _ _ (sym (c .before .before .new .ensures) ∙ c .enum-told .given .1))
-
-same-length : tie.Need-same-length
-same-length c = search needs
 
 returns-2 : tie.Need-returns-2
 returns-2 c =
@@ -35,4 +20,4 @@ returns-2 c =
 pub settle-proof-spec : {M : Type 1} → statement M
 settle-proof-spec =
     tie.close
-    (tie.spec new-requires enum-told enum-told-2 read-proof-requires returns same-length returns-2)
+    (tie.spec (λ c κs. search needs) (λ c. search needs) (λ c. search needs) (λ c κs. search needs) returns (λ c. search needs) returns-2)

@@ -1,6 +1,6 @@
 -- What a C function tells of an answer: a code, 0 or the refusal's number of 01, and the five numbers put into `out`. An answer
 -- tells up to three numbers; a refusal tells its place, and has words for a line, a column, a variable and a block, which are 0.
--- A number that is not used is 0.
+-- A number that is not used is 0. What a function promises is `Tells`: what the entry promises of its answer, and the answer told.
 use Prim.Native.Nat.{ℕ}
 use mathlib.Core.Path.{_≡_}
 use mathlib.Core.List.{List, [], _∷_}
@@ -21,52 +21,58 @@ use Rattle.checker.specs.declared.verdict.Verdict.the-variants.{Accepted, Refus
 use Rattle.evaluator.specs.declared.evaluation.Evaluation.{Evaluation}
 use Rattle.evaluator.specs.declared.evaluation.Evaluation.the-variants.{True, False, Refused as EvaluationRefused}
 
-pub record Told : Type 0 where
+pub record Code : Type 0 where
   pub code : ℕ
   pub numbers : List ℕ
 
--- A function tells this: it returns the code, and leaves the numbers in `out`.
-pub record Tells (told : Told) (answer : ℕ) (out : List ℕ) : Type 0 where
-  pub returns-code : answer ≡ told .code
-  pub fills-out : out ≡ told .numbers
-
-abbrev pub accepted : ℕ → ℕ → ℕ → Told
+abbrev pub accepted : ℕ → ℕ → ℕ → Code
 accepted a b c = record { code = 0; numbers = a ∷ b ∷ c ∷ 0 ∷ 0 ∷ [] }
 
-abbrev pub refused : Refusal → Told
+abbrev pub refused : Refusal → Code
 refused r = record { code = number (r .reason); numbers = r .place ∷ 0 ∷ 0 ∷ 0 ∷ 0 ∷ [] }
 
+-- A code is told: it is returned, and its numbers are left in `out`.
+pub record Told (told : Code) (returned : ℕ) (out : List ℕ) : Type 0 where
+  pub returns-code : returned ≡ told .code
+  pub fills-out : out ≡ told .numbers
+
+-- The entry gave an answer that keeps its promise, and that is told.
+pub record Tells {A : Type 0} (codeOf : A → Code) (Promised : A → Type 0) (returned : ℕ) (out : List ℕ) : Type 0 where
+  pub answer : A
+  pub promised : Promised answer
+  pub told : Told (codeOf answer) returned out
+
 -- The variables and the clauses.
-unfoldable pub tablesTold : TablesAnswer → Told
-tablesTold (Admitted variables count) = accepted variables count 0
-tablesTold (TablesRefused r) = refused r
+abbrev pub tablesCode : TablesAnswer → Code
+tablesCode (Admitted variables count) = accepted variables count 0
+tablesCode (TablesRefused r) = refused r
 
 -- The words used of the prefix table and of the clause table, and C.
-unfoldable pub readTold : ReadAnswer → Told
-readTold (Read prefixUsed clausesUsed count) = accepted prefixUsed clausesUsed count
-readTold (ReadRefused r) = refused r
+abbrev pub readCode : ReadAnswer → Code
+readCode (Read prefixUsed clausesUsed count) = accepted prefixUsed clausesUsed count
+readCode (ReadRefused r) = refused r
 
 -- The bytes used.
-unfoldable pub writeTold : WriteAnswer → Told
-writeTold (Written used) = accepted used 0 0
-writeTold (WriteRefused r) = refused r
+abbrev pub writeCode : WriteAnswer → Code
+writeCode (Written used) = accepted used 0 0
+writeCode (WriteRefused r) = refused r
 
-unfoldable pub rowTold : RowAnswer → Told
-rowTold Filled = accepted 0 0 0
-rowTold (RowRefused r) = refused r
+abbrev pub rowCode : RowAnswer → Code
+rowCode Filled = accepted 0 0 0
+rowCode (RowRefused r) = refused r
 
 -- The step words.
-unfoldable pub proofTold : ProofAnswer → Told
-proofTold (ProofRead words) = accepted words 0 0
-proofTold (ProofRefused r) = refused r
+abbrev pub proofCode : ProofAnswer → Code
+proofCode (ProofRead words) = accepted words 0 0
+proofCode (ProofRefused r) = refused r
 
 -- The number of the first empty clause, and the steps.
-unfoldable pub verdictTold : Verdict → Told
-verdictTold (Accepted empty steps) = accepted (empty .0) steps 0
-verdictTold (VerdictRefused r) = refused r
+abbrev pub verdictCode : Verdict → Code
+verdictCode (Accepted empty steps) = accepted (empty .0) steps 0
+verdictCode (VerdictRefused r) = refused r
 
 -- 1 for true, 0 for false.
-unfoldable pub evaluationTold : Evaluation → Told
-evaluationTold True = accepted 1 0 0
-evaluationTold False = accepted 0 0 0
-evaluationTold (EvaluationRefused r) = refused r
+abbrev pub evaluationCode : Evaluation → Code
+evaluationCode True = accepted 1 0 0
+evaluationCode False = accepted 0 0 0
+evaluationCode (EvaluationRefused r) = refused r
