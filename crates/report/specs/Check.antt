@@ -2,14 +2,13 @@
 -- is looked at. Then the contract of `check_line`, with the claim that an `accepted` line is to be trusted for.
 use Prim.Native.Nat.{ℕ, _≤_}
 use mathlib.Core.Path.{_≡_}
-use mathlib.Core.Bool.{Bool, true, false}
 use mathlib.Core.List.{List}
 use lib.ListN.{length, take, replicate}
 use lib.Dec.{leb}
 use lib.IntN.{ℤ, pos}
 use Rattle.qbf.specs.Play.{Lost}
 use Rattle.formula.specs.Decode.{formulaOf}
-use Rattle.formula.specs.Refusal.{refusal}
+use Rattle.formula.specs.Refusal.{refusal, require}
 use Rattle.formula.specs.declared.refusal.Reason.the-variants.{Oversized}
 use Rattle.formula.specs.Text.{Reading, read, refused, reading}
 use Rattle.checker.specs.ProofFile.{ProofReading, proofReading}
@@ -32,20 +31,19 @@ abbrev pub verdictLine : (variables clauses : ℕ) → Verdict → List ℕ
 verdictLine variables clauses (Accepted empty steps) = acceptedLine variables clauses steps (empty .0)
 verdictLine variables clauses (Refused r) = refusedLine r
 
--- The steps of the proof file are known, or it is turned away.
-abbrev pub stepsLine : Room → (prefix clauses : List ℤ) (count : ℕ) → ProofReading → List ℕ
-stepsLine room prefix clauses count (readSteps steps) =
-    verdictLine (length prefix) count (verdictOf prefix clauses steps (room .scratch) (room .starts))
-stepsLine room prefix clauses count (refusedFile r) = refusedLine r
+-- What the proof file is read as: 2 on the file's length comes ahead of all else in it.
+unfoldable pub settledProof : (bound : ℕ) → List ℕ → (count room : ℕ) → ProofReading
+settledProof bound file count room = require (leb (length file) bound) (refusedFile (refusal Oversized 0)) (proofReading file count room)
 
-abbrev pub fileLine : Bool → List ℕ → List ℕ
-fileLine true later = later
-fileLine false later = refusedLine (refusal Oversized 0)
+-- The steps of the proof file are known, or it is turned away; `scratch` and `starts` are the lengths of what is lent.
+unfoldable pub stepsLine : (scratch starts : ℕ) (prefix clauses : List ℤ) (count : ℕ) → ProofReading → List ℕ
+stepsLine scratch starts prefix clauses count (readSteps steps) = verdictLine (length prefix) count (verdictOf prefix clauses steps scratch starts)
+stepsLine scratch starts prefix clauses count (refusedFile r) = refusedLine r
 
--- The formula is settled; 2 on the proof file's length comes ahead of all else in it.
+-- The formula is settled, then the proof file.
 abbrev pub proofLine : Room → (proof : List ℕ) → Reading → List ℕ
 proofLine room proof (read prefix clauses count) =
-    fileLine (leb (length proof) (room .file)) (stepsLine room prefix clauses count (proofReading proof count (room .steps)))
+    stepsLine (room .scratch) (room .starts) prefix clauses count (settledProof (room .file) proof count (room .steps))
 proofLine room proof (refused r) = refusedLine r
 
 unfoldable pub checkLine : Room → (formula proof : List ℕ) → List ℕ

@@ -6,7 +6,7 @@ use mathlib.Core.List.{List, [], _∷_, _++_}
 use lib.ListN.{length, replicate}
 use lib.Dec.{leb}
 use Rattle.formula.specs.Decimal.{decimal}
-use Rattle.formula.specs.Refusal.{refusal, number, word}
+use Rattle.formula.specs.Refusal.{refusal, require, number, word}
 use Rattle.formula.specs.declared.refusal.Refusal.{Refusal}
 use Rattle.formula.specs.declared.refusal.Reason.the-variants.{Oversized}
 use Rattle.formula.specs.Text.{Reading, refused, reading}
@@ -37,13 +37,9 @@ refusedLine r = refusedText ++ (spaced (number (r .reason)) ++ (word (r .reason)
 abbrev pub fileBound : ℕ
 fileBound = 65536
 
-abbrev pub ifWithin : Bool → Reading → Reading
-ifWithin true later = later
-ifWithin false later = refused (refusal Oversized 0)
-
 -- What the formula's file is read as: 2 on the file's length comes ahead of all else in it. `bound` is the largest file taken.
 unfoldable pub settled : (bound : ℕ) → List ℕ → (prefixRoom clauseRoom : ℕ) → Reading
-settled bound file prefixRoom clauseRoom = ifWithin (leb (length file) bound) (reading file prefixRoom clauseRoom)
+settled bound file prefixRoom clauseRoom = require (leb (length file) bound) (refused (refusal Oversized 0)) (reading file prefixRoom clauseRoom)
 
 -- What a buffer for a line has room for: no line is longer.
 abbrev pub lineRoom : ℕ

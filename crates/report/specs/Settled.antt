@@ -6,19 +6,17 @@ use mathlib.Core.Path.{_≡_}
 use mathlib.Core.Bool.{Bool, true, false}
 use mathlib.Core.List.{List}
 use lib.ListN.{length, take}
-use lib.Dec.{leb}
 use lib.IntN.{ℤ}
 use Rattle.formula.specs.Bounds.{countBound}
-use Rattle.formula.specs.Refusal.{refusal}
 use Rattle.formula.specs.Text.{Reading, read, refused}
 use Rattle.formula.specs.declared.read.ReadAnswer.{ReadAnswer}
 use Rattle.formula.specs.declared.read.ReadAnswer.the-variants.{Read, Refused}
-use Rattle.formula.specs.declared.refusal.Reason.the-variants.{Oversized}
-use Rattle.checker.specs.ProofFile.{ProofReading, proofReading}
+use Rattle.checker.specs.ProofFile.{ProofReading}
 use Rattle.checker.specs.ProofFile.{read as readSteps, refused as refusedFile}
 use Rattle.checker.specs.declared.file.ProofAnswer.{ProofAnswer}
 use Rattle.checker.specs.declared.file.ProofAnswer.the-variants.{Read as ReadSteps, Refused as RefusedFile}
 use Rattle.report.specs.Line.{settled}
+use Rattle.report.specs.Check.{settledProof}
 use Rattle.report.specs.declared.settle.FileFit.{FileFit}
 use Rattle.report.specs.declared.settle.FileFit.the-variants.{Within as FileWithin, Oversized as FileOversized}
 
@@ -35,14 +33,6 @@ tablesRead (Refused r) prefix clauses = refused r
 pub record FormulaSettled (bound : ℕ) (file : List ℕ) (prefixRoom clauseRoom : ℕ) (prefix clauses : List ℤ) (answer : ReadAnswer) : Type 0 where
   pub settles : settled bound file prefixRoom clauseRoom ≡ tablesRead answer prefix clauses
   pub within : (p c count : ℕ) → answer ≡ Read p c count → (p ≤ length prefix) × (c ≤ length clauses) × (count ≤ countBound)
-
--- What the proof file is read as: 2 on the file's length comes ahead of all else in it.
-abbrev pub ifProofWithin : Bool → ProofReading → ProofReading
-ifProofWithin true later = later
-ifProofWithin false later = refusedFile (refusal Oversized 0)
-
-unfoldable pub settledProof : (bound : ℕ) → List ℕ → (count room : ℕ) → ProofReading
-settledProof bound file count room = ifProofWithin (leb (length file) bound) (proofReading file count room)
 
 abbrev pub stepsRead : ProofAnswer → List ℤ → ProofReading
 stepsRead (ReadSteps n) steps = readSteps (take n steps)

@@ -15,11 +15,10 @@ ghost use Prim.Native.Nat.{_≤_};
 ghost use lib.ListN.{length};
 ghost use Rattle.formula.specs.Bounds.{countBound};
 ghost use Rattle.checker.specs.Verdict.{verdictOf};
-ghost use Rattle.report.specs.Check.{verdictLine, checkLine, LineChecked};
-ghost use Rattle.report.specs.Checking.{lent, provedLine};
+ghost use Rattle.report.specs.Check.{verdictLine, settledProof, stepsLine, checkLine, LineChecked};
+ghost use Rattle.report.specs.Checking.{lent};
 ghost use Rattle.report.specs.Line.{lineRoom};
 ghost use Rattle.report.specs.Printing.{StoresShort};
-ghost use Rattle.report.specs.Settled.{settledProof};
 
 // The line of a verdict, V and C being the formula's.
 fn verdict_line(line: &mut [u8], variables: usize, count: usize, verdict: Verdict) -> usize
@@ -60,7 +59,7 @@ fn proof_line(
     line: &mut [u8],
 ) -> usize
     requires { ⌜ count ≤ countBound ⌝ }
-    ensures { λ r. ⌜ StoresShort lineRoom (now (line .entry)) (provedLine (length (now (scratch .entry))) (length (now (starts .entry))) (now (prefix .entry)) (now (clauses .entry)) count (settledProof «file_bound» (now (proof .entry)) count (length (now (steps .entry))))) (now (line .exit)) r ⌝ }
+    ensures { λ r. ⌜ StoresShort lineRoom (now (line .entry)) (stepsLine (length (now (scratch .entry))) (length (now (starts .entry))) (now (prefix .entry)) (now (clauses .entry)) count (settledProof «file_bound» (now (proof .entry)) count (length (now (steps .entry))))) (now (line .exit)) r ⌝ }
 {
     match settle_proof(proof, file_bound, count as u32, steps) {
         ProofAnswer::Refused(r) => refused_line(line, r),

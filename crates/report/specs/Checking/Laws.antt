@@ -10,17 +10,17 @@ use lib.ListN.{length, take, replicate, getD}
 use lib.Dec.{leb}
 use lib.IntN.{ℤ}
 use Rattle.formula.specs.Text.{Reading, read, refused, reading}
+use Rattle.formula.specs.Refusal.{refusal, require}
 use Rattle.formula.specs.declared.refusal.Refusal.{Refusal}
+use Rattle.formula.specs.declared.refusal.Reason.the-variants.{Oversized}
 use Rattle.checker.specs.ProofFile.{ProofReading, proofReading}
 use Rattle.checker.specs.ProofFile.{read as readSteps, refused as refusedFile}
 use Rattle.checker.specs.Verdict.{verdictOf}
 use Rattle.checker.specs.Verdict.Accuracy.{accepted-lost}
 use Rattle.checker.specs.declared.verdict.Verdict.{Verdict}
 use Rattle.checker.specs.declared.verdict.Verdict.the-variants.{Accepted, Refused}
-use Rattle.report.specs.Line.{acceptedText, refusedLine, ifWithin, settled, held, heldFor}
-use Rattle.report.specs.Check.{Room, verdictLine, stepsLine, fileLine, checkLine, DenotesLost}
-use Rattle.report.specs.Checking.{provedLine}
-use Rattle.report.specs.Settled.{settledProof, ifProofWithin}
+use Rattle.report.specs.Line.{acceptedText, refusedLine, settled, held, heldFor}
+use Rattle.report.specs.Check.{Room, verdictLine, settledProof, stepsLine, checkLine, DenotesLost}
 
 module _ (room : Room) (formula proof : List ℕ) where
   -- The formula is refused.
@@ -28,22 +28,12 @@ module _ (room : Room) (formula proof : List ℕ) where
   unfolding checkLine
   refused-line r e = rw e
 
-  steps-line : (prefix clauses : List ℤ) (count : ℕ) (r : ProofReading) → stepsLine room prefix clauses count r ≡ provedLine (room .scratch) (room .starts) prefix clauses count r
-  unfolding provedLine
-  steps-line prefix clauses count (readSteps steps) = refl
-  steps-line prefix clauses count (refusedFile r) = refl
-
-  file-line : (b : Bool) (prefix clauses : List ℤ) (count : ℕ) (r : ProofReading) → fileLine b (stepsLine room prefix clauses count r) ≡ provedLine (room .scratch) (room .starts) prefix clauses count (ifProofWithin b r)
-  unfolding provedLine
-  file-line true prefix clauses count r = steps-line prefix clauses count r
-  file-line false prefix clauses count r = refl
-
   -- The formula is read.
   pub read-line :
       (prefix clauses : List ℤ) (count : ℕ) → settled (room .file) formula (room .prefix) (room .clauses) ≡ read prefix clauses count
-      → checkLine room formula proof ≡ provedLine (room .scratch) (room .starts) prefix clauses count (settledProof (room .file) proof count (room .steps))
-  unfolding checkLine settledProof
-  read-line prefix clauses count e = rw e (file-line (leb (length proof) (room .file)) prefix clauses count (proofReading proof count (room .steps)))
+      → checkLine room formula proof ≡ stepsLine (room .scratch) (room .starts) prefix clauses count (settledProof (room .file) proof count (room .steps))
+  unfolding checkLine
+  read-line prefix clauses count e = rw e
 
 -- A text's first byte.
 abbrev first : List ℕ → ℕ
@@ -73,7 +63,7 @@ settled-read :
 unfolding settled
 settled-read bound formula p c prefix clauses count = go (leb (length formula) bound) refl (reading formula p c)
   where
-    go : (b : Bool) → leb (length formula) bound ≡ b → (r : Reading) → ifWithin b r ≡ read prefix clauses count → (length formula ≤ bound) × (r ≡ read prefix clauses count)
+    go : (b : Bool) → leb (length formula) bound ≡ b → (r : Reading) → require b (refused (refusal Oversized 0)) r ≡ read prefix clauses count → (length formula ≤ bound) × (r ≡ read prefix clauses count)
     go true l r e = (leb-true (length formula) bound l, e)
     go false l r e = let z : _≡_ {A = ℕ} 0 1 = cc in absurd (omega arith)
 
@@ -83,7 +73,7 @@ settled-proof-read :
 unfolding settledProof
 settled-proof-read bound proof count room words = go (leb (length proof) bound) refl (proofReading proof count room)
   where
-    go : (b : Bool) → leb (length proof) bound ≡ b → (r : ProofReading) → ifProofWithin b r ≡ readSteps words → (length proof ≤ bound) × (r ≡ readSteps words)
+    go : (b : Bool) → leb (length proof) bound ≡ b → (r : ProofReading) → require b (refusedFile (refusal Oversized 0)) r ≡ readSteps words → (length proof ≤ bound) × (r ≡ readSteps words)
     go true l r e = (leb-true (length proof) bound l, e)
     go false l r e = let z : _≡_ {A = ℕ} 0 1 = cc in absurd (omega arith)
 
@@ -103,7 +93,7 @@ pub record MadeFrom (room : Room) (formula proof : List ℕ) : Type 0 where
 
 module _ (room : Room) (formula proof : List ℕ) (P : List ℕ → Type 0) (unlike : (r : Refusal) → P (refusedLine r) → ⊥) where
   pub made-from : P (checkLine room formula proof) → MadeFrom room formula proof
-  unfolding provedLine
+  unfolding stepsLine
   made-from h = go (settled (room .file) formula (room .prefix) (room .clauses)) refl
     where
       judged :
@@ -132,7 +122,7 @@ module _ (room : Room) (formula proof : List ℕ) (P : List ℕ → Type 0) (unl
       proved :
           (prefix clauses : List ℤ) (count : ℕ) → settled (room .file) formula (room .prefix) (room .clauses) ≡ read prefix clauses count
           → (s : ProofReading) → settledProof (room .file) proof count (room .steps) ≡ s
-          → P (provedLine (room .scratch) (room .starts) prefix clauses count s) → MadeFrom room formula proof
+          → P (stepsLine (room .scratch) (room .starts) prefix clauses count s) → MadeFrom room formula proof
       proved prefix clauses count e (readSteps words) f k = judged prefix clauses words count e f (verdictOf prefix clauses words (room .scratch) (room .starts)) refl k
       proved prefix clauses count e (refusedFile r) f k = absurd (unlike r k)
 

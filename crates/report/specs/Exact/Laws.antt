@@ -24,10 +24,8 @@ use Rattle.checker.specs.Refutation.Laws.{empty-first, words-within}
 use Rattle.checker.specs.Verdict.{verdictOf}
 use Rattle.checker.specs.Verdict.Accuracy.{accepted-refutation, refutation-accepted}
 use Rattle.report.specs.Line.{acceptedLine, refusedLine, fileBound, settled}
-use Rattle.report.specs.Check.{Room, checkLine}
-use Rattle.report.specs.Checking.{provedLine}
+use Rattle.report.specs.Check.{Room, settledProof, stepsLine, checkLine}
 use Rattle.report.specs.Checking.Laws.{read-line, made-from}
-use Rattle.report.specs.Settled.{settledProof}
 use Rattle.report.specs.Program.{programRoom}
 use Rattle.report.specs.Exact.{AcceptedLine, Refuting, FilesWithin}
 
@@ -62,7 +60,7 @@ module _ (room : Room) (formula proof : List ℕ) (within : FilesWithin room for
   pub accepted-line-numbers :
       (r : Refuting room formula proof) (empty : ℕ) → FirstEmpty (numberedClauses (clausesOf (r .clauses)) (r .refutation .steps)) empty
       → checkLine room formula proof ≡ acceptedLine (length (r .prefix)) (r .count) (length (r .refutation .steps)) empty
-  unfolding settled settledProof provedLine
+  unfolding settled settledProof stepsLine
   accepted-line-numbers r empty f =
       let fits = within .steps-fit (r .prefix) (r .clauses) (r .count) (r .reads) (r .note) (r .words) (r .laid-out) in
       let text : settled (room .file) formula (room .prefix) (room .clauses) ≡ read (r .prefix) (r .clauses) (r .count) =

@@ -18,10 +18,12 @@ use Rattle.formula.specs.Text.{read, refused, reading}
 use Rattle.formula.specs.Text.Admits.{read-admitted}
 use Rattle.formula.specs.Writing.{Bounded}
 use Rattle.formula.specs.Written.{letterOf}
+use Rattle.formula.specs.Refusal.{refusal, require}
 use Rattle.formula.specs.declared.refusal.Refusal.{Refusal}
+use Rattle.formula.specs.declared.refusal.Reason.the-variants.{Oversized}
 use Rattle.dependency.specs.Row.{mark, rowOf, isUniversal, isNegated}
 use Rattle.dependency.specs.Row.Laws.{row-byte}
-use Rattle.report.specs.Line.{refusedLine, ifWithin, settled}
+use Rattle.report.specs.Line.{refusedLine, settled}
 use Rattle.report.specs.Check.{Room}
 use Rattle.report.specs.Dependents.{dependents, universalLine, universalLines, dependencyText}
 use Rattle.report.specs.Listing.{markedText, marked, rowLine, wordLine, tablesText}
@@ -90,6 +92,6 @@ module _ (room : Room) (file : List ℕ) where
     unfolding settled
     settled-admitted = go (leb (length file) (room .file)) e
       where
-        go : (b : Bool) → ifWithin b (reading file (room .prefix) (room .clauses)) ≡ read p c count → Admitted p c
+        go : (b : Bool) → require b (refused (refusal Oversized 0)) (reading file (room .prefix) (room .clauses)) ≡ read p c count → Admitted p c
         go true f = read-admitted file (room .prefix) (room .clauses) p c count f .admitted
         go false f = let z : _≡_ {A = ℕ} 0 1 = cc in absurd (omega arith)

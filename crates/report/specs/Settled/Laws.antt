@@ -21,7 +21,8 @@ use Rattle.checker.specs.ProofFile.{read as readSteps, refused as refusedFile}
 use Rattle.checker.specs.declared.file.ProofAnswer.{ProofAnswer}
 use Rattle.checker.specs.declared.file.ProofAnswer.the-variants.{Read as ReadSteps, Refused as RefusedFile}
 use Rattle.report.specs.Line.{settled}
-use Rattle.report.specs.Settled.{fileFit, tablesRead, FormulaSettled, settledProof, stepsRead, ProofSettled}
+use Rattle.report.specs.Settled.{fileFit, tablesRead, FormulaSettled, stepsRead, ProofSettled}
+use Rattle.report.specs.Check.{settledProof}
 use Rattle.report.specs.declared.settle.FileLength.{FileLength}
 use Rattle.report.specs.declared.settle.FileFit.the-variants.{Within as FileWithin, Oversized as FileOversized}
 
