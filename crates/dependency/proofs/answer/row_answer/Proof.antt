@@ -6,9 +6,9 @@ use mir.Val.{toZ, ofZ}
 use borrow.Author.Needs.{needs}
 use lib.ListN.{length}
 use Rattle.formula.specs.Tables.{zeros, tablesRefusal}
-use Rattle.formula.specs.Tables.Laws.{admitted-prefix-word}
-use Rattle.dependency.specs.Row.{rowRefusal}
-use Rattle.dependency.specs.Row.Answer.{tables-passed, tables-refused}
+use Rattle.formula.specs.Tables.Laws.{admitted-entries}
+use Rattle.dependency.specs.Answer.{rowRefusal}
+use Rattle.dependency.specs.Answer.Laws.{tables-passed, tables-refused}
 use Rattle.dependency.proofs.answer.row_answer.Statement.{statement}
 use Rattle.dependency.proofs.answer.row_answer.Tie as tie
 
@@ -27,7 +27,7 @@ enum-told c = search needs
 asked-answer-requires : tie.Need-asked-answer-requires
 asked-answer-requires c κs =
     let a = c .before .before .before .args in
-    admitted-prefix-word (a .prefix .now) (a .clauses .now) (record { passes = passed c })
+    admitted-entries (a .prefix .now) (a .clauses .now) (record { passes = passed c })
 
 enum-known-tables : tie.Need-enum-known-tables
 enum-known-tables c = search needs
