@@ -15,11 +15,6 @@ use mir.Facts.{toZ-ofZ}
 pub read-back : (z : ℤ) → mag z < 2147483648 → toZ w32 (ofZ w32 z) ≡ z
 read-back z h = toZ-ofZ {w = w32} {z = z} (record { sfits = h })
 
--- a word whose bits are 0
-pub bits-zero : (z : ℤ) → mag z < 2147483648 → ofZ w32 z ≡ 0 → z ≡ pos 0
-bits-zero (pos n) h e = ap pos e
-bits-zero (negsuc n) h e = absurd (omega arith)
-
 one-more : (n : ℕ) → negsuc n +ℤ pos 1 ≡ negℤ (pos n)
 one-more zero = refl
 one-more (suc n) =
