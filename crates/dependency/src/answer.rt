@@ -4,7 +4,7 @@ ghost use mathlib.Core.Bool.{true, _&&_};
 ghost use mathlib.Core.List.{_++_};
 ghost use Prim.Native.Nat.{_<_, _≤_};
 ghost use lib.ListN.{length, drop};
-ghost use lib.Dec.{eqb, leb};
+ghost use lib.Dec.{eqb};
 ghost use Rattle.qbf.specs.Formula.{universal};
 ghost use Rattle.formula.specs.Word.{wordOf};
 ghost use Rattle.formula.specs.Prefix.{prefixOf, entryAt, entryCount, isQuantifier, quantifies, Entries};

@@ -1,6 +1,6 @@
 // One word of a clause against the marks of a search: is it an entry, is it reached?
 ghost use mathlib.Core.Path.{_≡_};
-ghost use Prim.Native.Nat.{_<_, _≤_};
+ghost use Prim.Native.Nat.{_<_};
 ghost use lib.ListN.{length, getD};
 ghost use Rattle.formula.specs.Word.{wordOf};
 ghost use Rattle.dependency.specs.Marks.{seeAt, seeWord, reachAt, reachWord};

@@ -1,6 +1,6 @@
 -- The first variable left of a prefix: whose turn it is, what is left after it, and what the position is by its two
 -- values, the bytes being stored to and put back. Assumes nothing.
-use Prim.Native.Nat.{ℕ, _≤_, _<_}
+use Prim.Native.Nat.{ℕ, _<_}
 use mathlib.Core.Path.{_≡_, refl, ap, sym, _∙_, subst}
 use mathlib.Core.Bool.{Bool, true, false, false≢true}
 use mathlib.Core.List.{List, [], _∷_, List·Memᴰ, List·Memᴰ·head, List·Memᴰ·tail}
@@ -14,7 +14,8 @@ use Rattle.qbf.specs.Play.{Values, assign, turn, lost, falsified}
 use Rattle.formula.specs.Bounds.{variableBound}
 use Rattle.formula.specs.Prefix.{prefixOf, entryAt, entryCount, laterEntries, isQuantifier, Entries}
 use Rattle.formula.specs.Prefix.Laws.{entries-drop, later-entries, later-shorter}
-use Rattle.evaluator.specs.Values.{valuesOf, values-set}
+use Rattle.evaluator.specs.Values.{valuesOf}
+use Rattle.evaluator.specs.Values.Laws.{values-set}
 use Rattle.evaluator.specs.Turns.{universalDue, due, Due}
 
 -- v is the first variable of the prefix, on the side q, and `rest` is what is left after it

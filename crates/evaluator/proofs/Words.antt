@@ -1,7 +1,7 @@
 -- Clause words by their place: what the word at a place says of the clause that goes on there, and of the clauses after it.
 -- Assumes nothing.
 use Prim.Native.Nat.{ℕ, _+_, _<_, _≤_}
-use mathlib.Core.Path.{_≡_, ap, _∙_}
+use mathlib.Core.Path.{_≡_}
 use mathlib.Core.Bool.{true, false, not, _||_}
 use mathlib.Core.List.{List}
 use lib.IntN.{ℤ, pos}

@@ -17,25 +17,16 @@ use Rattle.formula.specs.Clear.{clearFrom}
 use Rattle.formula.specs.Refusal.{refusal, require}
 use Rattle.formula.specs.Prefix.{prefixOf, quantifies, Entries}
 use Rattle.formula.specs.Prefix.Laws.{quantifies-sound}
-use Rattle.formula.specs.Tables.{tablesRefusal, answerTables, firstRefusal, Admitted}
+use Rattle.formula.specs.Tables.{tablesRefusal, firstRefusal, Admitted}
 use Rattle.formula.specs.Word.{wordOf}
 use Rattle.formula.specs.declared.literal.Variable.{Variable}
 use Rattle.formula.specs.declared.literal.Word.the-variants.{Positive}
 use Rattle.formula.specs.declared.refusal.Refusal.{Refusal}
 use Rattle.formula.specs.declared.refusal.Reason.the-variants.{NoRoom, NotUniversal}
-use Rattle.formula.specs.declared.tables.TablesAnswer.the-variants.{Admitted as Admits, Refused as TablesRefused}
 use Rattle.dependency.specs.declared.answer.RowAnswer.the-variants.{Filled, Refused}
 use Rattle.dependency.specs.Row.{rowOf}
 use Rattle.dependency.specs.Row.Laws.{row-length}
-use Rattle.dependency.specs.Answer.{universalAsked, roomRefusal, askedRefusal, rowRefusal, answerRow}
-
-pub tables-passed : (r : Option Refusal) (m n m′ n′ : ℕ) → answerTables r m n ≡ Admits m′ n′ → r ≡ none
-tables-passed none m n m′ n′ e = refl
-tables-passed (some x) m n m′ n′ e = let z : _≡_ {A = ℕ} 0 1 = cc in absurd (omega arith)
-
-pub tables-refused : (r : Option Refusal) (m n : ℕ) (x : Refusal) → answerTables r m n ≡ TablesRefused x → r ≡ some x
-tables-refused none m n x e = let z : _≡_ {A = ℕ} 0 1 = cc in absurd (omega arith)
-tables-refused (some y) m n x e = let z : y ≡ x = cc in ap {B = Option Refusal} some z
+use Rattle.dependency.specs.Answer.{universalAsked, rowRefusal, answerRow}
 
 pub row-passed : (r : Option Refusal) → answerRow r ≡ Filled → r ≡ none
 row-passed none e = refl

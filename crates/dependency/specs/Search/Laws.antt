@@ -1,8 +1,8 @@
 -- A search that has settled says which literals right of u paths reach, and no others: the theorem of layer 2's searches.
 -- It joins Initial (the marks at the start), Invariant (each pass keeps what they say) and Closed (at the end nothing is
 -- missed). Assumes nothing.
-use Prim.Native.Nat.{ℕ, zero, suc, _<_, _≤_}
-use mathlib.Core.Path.{_≡_, ap, refl, sym, subst}
+use Prim.Native.Nat.{ℕ, zero, suc, _<_}
+use mathlib.Core.Path.{_≡_, refl, sym, subst}
 use mathlib.Core.Bool.{Bool, not}
 use mathlib.Core.List.{List, [], _∷_, map, List·Memᴰ, List·Memᴰ·head, List·Memᴰ·tail, Memᴰ·map, Memᴰ·of-map}
 use native.Mathlib.Nat.{le-of-suc-le-suc, not-suc-le-zero}

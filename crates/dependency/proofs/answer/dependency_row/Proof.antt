@@ -1,5 +1,5 @@
 -- `dependency_row` decides first, then writes the row or clears both buffers. Assumes nothing.
-use mathlib.Core.Path.{_≡_, ap, sym, _∙_}
+use mathlib.Core.Path.{_≡_, sym, _∙_}
 use mathlib.Core.Bool.{true}
 use mathlib.Core.Option.{Option, none}
 use lib.ListN.{length}

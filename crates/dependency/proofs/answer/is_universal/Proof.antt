@@ -4,7 +4,7 @@ use mathlib.Core.Path.{_≡_, refl, sym, _∙_}
 use native.Mathlib.Numerals.{add-one}
 use native.Mathlib.Omega.{arith}
 use borrow.Author.Needs.{needs}
-use lib.ListN.{length, drop, drop-of-length-le}
+use lib.ListN.{drop, drop-of-length-le}
 use Rattle.qbf.specs.Formula.{universal}
 use Rattle.formula.specs.Prefix.{prefixOf, entryCount, quantifies}
 use Rattle.formula.specs.Prefix.Laws.{entries-drop}

@@ -39,9 +39,6 @@ loop-again c =
     let r = c .before .before .reach-clause .ensures in
     (rw (r .later, r .marks, c .before .before .before .before .clause-entry .ensures) e, c .before .before .reach-clause .kept .1 .1 .1 .0 ∙ l .inv .1)
 
-same-length : tie.Need-same-length Inv-loop μ-loop
-same-length c = search needs
-
 returns : tie.Need-returns Inv-loop μ-loop
 unfolding pass clausesOf
 returns c =
@@ -53,4 +50,4 @@ returns c =
 pub pass-spec : {M : Type 1} → statement M
 pass-spec =
     tie.close
-    (tie.spec Inv-loop μ-loop loop-holds clause-entry-requires reach-clause-requires loop-less loop-again same-length returns)
+    (tie.spec Inv-loop μ-loop loop-holds clause-entry-requires reach-clause-requires loop-less loop-again (λ c. search needs) returns)

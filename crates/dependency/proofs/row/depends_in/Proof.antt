@@ -1,5 +1,4 @@
 -- `depends_in` reads the row's byte of a variable. Assumes nothing.
-use native.Mathlib.Omega.{arith}
 use borrow.Author.Needs.{needs}
 use Rattle.dependency.specs.Scratch.{scratchBound}
 use Rattle.dependency.specs.Scratch.Laws.{row-in-byte}

@@ -5,7 +5,7 @@ use Rattle.qbf.specs.Play.{Values, lost}
 use native.Mathlib.Omega.{arith}
 use Rattle.formula.specs.Prefix.{prefixOf}
 use Rattle.formula.specs.Decode.{matrixOf}
-use Rattle.evaluator.specs.Values.{values-zero}
+use Rattle.evaluator.specs.Values.Laws.{values-zero}
 use Rattle.evaluator.proofs.Position.{due-universal, due-existential}
 use Rattle.evaluator.proofs.evaluation.first_lost.Statement.{statement}
 use Rattle.evaluator.proofs.evaluation.first_lost.Tie as tie
