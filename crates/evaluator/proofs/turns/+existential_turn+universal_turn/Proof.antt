@@ -1,14 +1,13 @@
 -- The two turns, by one induction on the length of the prefix. Each answer is that of the position's definition: what the
 -- laws of proofs/Position.antt say of the first variable left, at the values that the calls leave. Assumes nothing.
-use Prim.Native.Nat.{ℕ, _-_, _<_}
+use Prim.Native.Nat.{ℕ, _<_}
 use mathlib.Core.Path.{refl, sym, _∙_}
 use borrow.Author.Needs.{needs}
 use native.Mathlib.Omega.{arith}
-use lib.IntN.{pos}
-use lib.ListN.{length, getD, take, drop, length-set}
+use lib.ListN.{length, length-set}
 use Rattle.qbf.specs.Formula.{existential as existential-side, universal as universal-side}
+use Rattle.formula.specs.Prefix.{entryCount}
 use Rattle.formula.specs.Decode.{matrixOf}
-use Rattle.evaluator.proofs.Signed.{read-back}
 use Rattle.evaluator.proofs.Position.{
   Opened,
   opened,
@@ -35,7 +34,9 @@ use Rattle.evaluator.proofs.turns.+existential_turn+universal_turn.Lts-
 use Rattle.evaluator.proofs.turns.universal_turn.Reads as universal
 use Rattle.evaluator.proofs.turns.universal_turn.Kinds as universal-kinds
 use Rattle.evaluator.proofs.turns.+existential_turn+universal_turn.Lts-universal_turn as universal-lts
-use Rattle.evaluator.proofs.clause.magnitude.Reads as magnitude
+use Rattle.evaluator.proofs.turns.first_variable.Reads as first-variable
+use Rattle.formula.proofs.prefix.entry_count.Reads as entry-count
+use Rattle.formula.proofs.prefix.later_entries.Reads as later-entries
 use Rattle.evaluator.proofs.matrix.matrix_falsified.Reads as matrix-falsified
 use Rattle.evaluator.proofs.turns.universal_due.Reads as universal-due
 use Rattle.evaluator.proofs.turns.+existential_turn+universal_turn.{statement}
@@ -64,10 +65,14 @@ module _ (t : ℕ) where
 
   abbrev existential-callees : existential-lts.Claims
   existential-callees = (
+    entry-count.Asked,
+    entry-count.Learnt,
     matrix-falsified.Asked,
     matrix-falsified.Learnt,
-    magnitude.Asked,
-    magnitude.Learnt,
+    first-variable.Asked,
+    first-variable.Learnt,
+    later-entries.Asked,
+    later-entries.Learnt,
     universal-due.Asked,
     universal-due.Learnt,
     universal-below,
@@ -78,8 +83,10 @@ module _ (t : ℕ) where
 
   abbrev universal-callees : universal-lts.Claims
   universal-callees = (
-    magnitude.Asked,
-    magnitude.Learnt,
+    first-variable.Asked,
+    first-variable.Learnt,
+    later-entries.Asked,
+    later-entries.Learnt,
     universal-due.Asked,
     universal-due.Learnt,
     universal-below,
@@ -89,85 +96,72 @@ module _ (t : ℕ) where
   )
 
   -- the first variable left, and what the calls answered, at each place
+  existential-left :
+      (c : existential-lts.Else1 existential-callees existential-at existential.Post) → 0 < entryCount (c .before .before .before .args .prefix .now)
+  existential-left c = omega (arith, c .before .entry-count .ensures, c .if1 .left)
+
   existential-opened :
-      (c : existential-lts.After-magnitude existential-callees existential-at existential.Post)
-      → let s = c .before .before .before .before in
-      let p = s .args .prefix .now in
-      Opened existential-side (length (s .args .values .now)) p (c .magnitude .result) (take (length p - 1) (drop 1 p))
+      (c : existential-lts.After-later-entries existential-callees existential-at existential.Post)
+      → let s = c .before .before .before .before .before in
+      Opened existential-side (length (s .args .values .now)) (s .args .prefix .now) (c .before .first-variable .result) (c .later-entries .result .now)
   existential-opened c =
-      let s = c .before .before .before .before in
-      let p = s .args .prefix .now in
-      let h : 0 < length p = (omega arith) in
-      opened existential-side (length (s .args .values .now)) p (c .magnitude .result) (s .pre .1) h
-      (rw (read-back (getD p 0 (pos 0)) (c .before .magnitude-arg .given)) at (c .magnitude .ensures))
+      let s = c .before .before .before .before .before in
+      opened existential-side (length (s .args .values .now)) (s .args .prefix .now) (c .before .first-variable .result) (c .later-entries .result .now) (s .pre .1) (existential-left (c .before .before)) (c .before .first-variable .ensures) (c .later-entries .ensures)
 
   existential-once-universal :
       (c : existential-lts.After-universal-turn existential-callees existential-at existential.Post)
       → let s = c .before .before .before .before .before .before .before .before .before .before in
-      let p = s .args .prefix .now in
-      Once existential-side p (take (length p - 1) (drop 1 p)) (s .args .values .now) (c .before .before .before .before .before .before .magnitude .result) (matrixOf (s .args .clauses .now)) (c .universal-turn .result) (c .universal-turn .last .1 .0)
-  existential-once-universal c = record { opening = existential-opened (c .before .before .before .before .before .before); zero = c .universal-turn .ensures .0; kept = c .universal-turn .ensures .1 }
+      let d = c .before .before .before .before .before in
+      Once existential-side (s .args .prefix .now) (d .later-entries .result .now) (s .args .values .now) (d .before .first-variable .result) (matrixOf (s .args .clauses .now)) (c .universal-turn .result) (c .universal-turn .last .1 .0)
+  existential-once-universal c = record { opening = existential-opened (c .before .before .before .before .before); zero = c .universal-turn .ensures .0; kept = c .universal-turn .ensures .1 }
 
   existential-twice-universal :
       (c : existential-lts.After-universal-turn2 existential-callees existential-at existential.Post)
       → let d = c .before .before .before .before .before in
       let s = d .before .before .before .before .before .before .before .before .before .before in
-      let p = s .args .prefix .now in
-      Twice existential-side p (take (length p - 1) (drop 1 p)) (s .args .values .now) (d .before .before .before .before .before .before .magnitude .result) (matrixOf (s .args .clauses .now)) (d .universal-turn .result) (c .universal-turn2 .result) (d .universal-turn .last .1 .0) (c .universal-turn2 .last .1 .0)
+      let e = d .before .before .before .before .before in
+      Twice existential-side (s .args .prefix .now) (e .later-entries .result .now) (s .args .values .now) (e .before .first-variable .result) (matrixOf (s .args .clauses .now)) (d .universal-turn .result) (c .universal-turn2 .result) (d .universal-turn .last .1 .0) (c .universal-turn2 .last .1 .0)
   existential-twice-universal c = record { once = existential-once-universal (c .before .before .before .before .before); one = c .universal-turn2 .ensures .0; kept = c .universal-turn2 .ensures .1 }
 
   existential-once-existential :
       (c : existential-lts.After-existential-turn existential-callees existential-at existential.Post)
       → let s = c .before .before .before .before .before .before .before .before .before .before in
-      let p = s .args .prefix .now in
-      Once existential-side p (take (length p - 1) (drop 1 p)) (s .args .values .now) (c .before .before .before .before .before .before .magnitude .result) (matrixOf (s .args .clauses .now)) (c .existential-turn .result) (c .existential-turn .last .1 .0)
-  existential-once-existential c = record { opening = existential-opened (c .before .before .before .before .before .before); zero = c .existential-turn .ensures .0; kept = c .existential-turn .ensures .1 }
+      let d = c .before .before .before .before .before in
+      Once existential-side (s .args .prefix .now) (d .later-entries .result .now) (s .args .values .now) (d .before .first-variable .result) (matrixOf (s .args .clauses .now)) (c .existential-turn .result) (c .existential-turn .last .1 .0)
+  existential-once-existential c = record { opening = existential-opened (c .before .before .before .before .before); zero = c .existential-turn .ensures .0; kept = c .existential-turn .ensures .1 }
 
   existential-twice-existential :
       (c : existential-lts.After-existential-turn2 existential-callees existential-at existential.Post)
       → let d = c .before .before .before .before .before in
       let s = d .before .before .before .before .before .before .before .before .before .before in
-      let p = s .args .prefix .now in
-      Twice existential-side p (take (length p - 1) (drop 1 p)) (s .args .values .now) (d .before .before .before .before .before .before .magnitude .result) (matrixOf (s .args .clauses .now)) (d .existential-turn .result) (c .existential-turn2 .result) (d .existential-turn .last .1 .0) (c .existential-turn2 .last .1 .0)
+      let e = d .before .before .before .before .before in
+      Twice existential-side (s .args .prefix .now) (e .later-entries .result .now) (s .args .values .now) (e .before .first-variable .result) (matrixOf (s .args .clauses .now)) (d .existential-turn .result) (c .existential-turn2 .result) (d .existential-turn .last .1 .0) (c .existential-turn2 .last .1 .0)
   existential-twice-existential c = record { once = existential-once-existential (c .before .before .before .before .before); one = c .existential-turn2 .ensures .0; kept = c .existential-turn2 .ensures .1 }
 
-  existential-matrix-falsified-requires : existential-lts.Need-matrix-falsified-requires existential-callees existential-at existential.Post
-  existential-matrix-falsified-requires c κs = tt
-
-  existential-same-length : existential-lts.Need-same-length existential-callees existential-at existential.Post
-  existential-same-length c = search needs
-
   existential-returns : existential-lts.Need-returns existential-callees existential-at existential.Post
-  existential-returns c = (c .matrix-falsified .ensures ∙ sym (lost-none (c .before .before .before .before .args .prefix .now) _ _ (c .before .before .if1 .taken)), refl)
+  existential-returns c =
+      let s = c .before .before .before .before .before in
+      (c .matrix-falsified .ensures ∙ sym (lost-none (s .args .prefix .now) _ _ (sym (c .before .before .before .entry-count .ensures) ∙ c .before .before .if1 .taken)), refl)
 
-  existential-shared-slice-copy-out-magnitude : existential-lts.Need-shared-slice-copy-out-magnitude existential-callees existential-at existential.Post
-  existential-shared-slice-copy-out-magnitude c = search needs
+  existential-first-variable-requires : existential-lts.Need-first-variable-requires existential-callees existential-at existential.Post
+  existential-first-variable-requires c κs = (c .before .before .before .pre .1 .entries, existential-left c)
 
-  existential-magnitude-requires : existential-lts.Need-magnitude-requires existential-callees existential-at existential.Post
-  existential-magnitude-requires c κs = tt
-
-  existential-sub-rest : existential-lts.Need-sub-rest existential-callees existential-at existential.Post
-  existential-sub-rest c = search needs
-
-  existential-part-rest-start : existential-lts.Need-part-rest-start existential-callees existential-at existential.Post
-  existential-part-rest-start c = search needs
-
-  existential-part-rest-end : existential-lts.Need-part-rest-end existential-callees existential-at existential.Post
-  existential-part-rest-end c = search needs
+  existential-later-entries-requires : existential-lts.Need-later-entries-requires existential-callees existential-at existential.Post
+  existential-later-entries-requires c κs = existential-left (c .before)
 
   existential-slice-read-held : existential-lts.Need-slice-read-held existential-callees existential-at existential.Post
-  existential-slice-read-held c = existential-opened (c .before .before) .small
+  existential-slice-read-held c = existential-opened (c .before) .small
 
   existential-slice-write-values : existential-lts.Need-slice-write-values existential-callees existential-at existential.Post
-  existential-slice-write-values c = existential-opened (c .before .before) .small
+  existential-slice-write-values c = existential-opened (c .before) .small
 
   existential-universal-due-requires : existential-lts.Need-universal-due-requires existential-callees existential-at existential.Post
-  existential-universal-due-requires c κs = tt
+  existential-universal-due-requires c κs = existential-opened (c .before) .entries
 
   existential-universal-turn-requires : existential-lts.Need-universal-turn-requires existential-callees existential-at existential.Post
   existential-universal-turn-requires c κs =
       let d = c .before .before in
-      hand-universal t _ (existential-opened (d .before .before .before)) (d .universal-due .result) (d .before .before .before .before .before .before .before .pre .0) (simp length-set) (d .universal-due .ensures) (c .before .if2 .taken)
+      hand-universal t _ (existential-opened (d .before .before)) (d .universal-due .result) (d .before .before .before .before .before .before .before .pre .0) (simp length-set) (d .universal-due .ensures) (c .before .if2 .taken)
 
   existential-slice-write-values-2 : existential-lts.Need-slice-write-values-2 existential-callees existential-at existential.Post
   existential-slice-write-values-2 c = once-store (existential-once-universal (c .before .before .before))
@@ -187,7 +181,7 @@ module _ (t : ℕ) where
   existential-existential-turn-requires : existential-lts.Need-existential-turn-requires existential-callees existential-at existential.Post
   existential-existential-turn-requires c κs =
       let d = c .before .before in
-      hand-existential t _ (existential-opened (d .before .before .before)) (d .universal-due .result) (d .before .before .before .before .before .before .before .pre .0) (simp length-set) (d .universal-due .ensures) (c .before .if2 .left)
+      hand-existential t _ (existential-opened (d .before .before)) (d .universal-due .result) (d .before .before .before .before .before .before .before .pre .0) (simp length-set) (d .universal-due .ensures) (c .before .if2 .left)
 
   existential-slice-write-values-5 : existential-lts.Need-slice-write-values-5 existential-callees existential-at existential.Post
   existential-slice-write-values-5 c = once-store (existential-once-existential (c .before .before .before))
@@ -230,75 +224,62 @@ module _ (t : ℕ) where
 
   -- the first variable left, and what the calls answered, at each place
   universal-opened :
-      (c : universal-lts.After-magnitude universal-callees universal-at universal.Post)
+      (c : universal-lts.After-later-entries universal-callees universal-at universal.Post)
       → let s = c .before .before .before in
-      let p = s .args .prefix .now in
-      Opened universal-side (length (s .args .values .now)) p (c .magnitude .result) (take (length p - 1) (drop 1 p))
+      Opened universal-side (length (s .args .values .now)) (s .args .prefix .now) (c .before .first-variable .result) (c .later-entries .result .now)
   universal-opened c =
       let s = c .before .before .before in
-      let p = s .args .prefix .now in
-      let h : 0 < length p = universal-left (s .args .prefix .now) (s .pre .1) in
-      opened universal-side (length (s .args .values .now)) p (c .magnitude .result) (s .pre .1) h
-      (rw (read-back (getD p 0 (pos 0)) (c .before .magnitude-arg .given)) at (c .magnitude .ensures))
+      opened universal-side (length (s .args .values .now)) (s .args .prefix .now) (c .before .first-variable .result) (c .later-entries .result .now) (s .pre .1) (universal-left (s .args .prefix .now) (s .pre .1)) (c .before .first-variable .ensures) (c .later-entries .ensures)
 
   universal-once-universal :
       (c : universal-lts.After-universal-turn universal-callees universal-at universal.Post)
-      → let s = c .before .before .before .before .before .before .before .before .before in
-      let p = s .args .prefix .now in
-      Once universal-side p (take (length p - 1) (drop 1 p)) (s .args .values .now) (c .before .before .before .before .before .before .magnitude .result) (matrixOf (s .args .clauses .now)) (c .universal-turn .result) (c .universal-turn .last .1 .0)
-  universal-once-universal c = record { opening = universal-opened (c .before .before .before .before .before .before); zero = c .universal-turn .ensures .0; kept = c .universal-turn .ensures .1 }
+      → let s = c .before .before .before .before .before .before .before .before in
+      let d = c .before .before .before .before .before in
+      Once universal-side (s .args .prefix .now) (d .later-entries .result .now) (s .args .values .now) (d .before .first-variable .result) (matrixOf (s .args .clauses .now)) (c .universal-turn .result) (c .universal-turn .last .1 .0)
+  universal-once-universal c = record { opening = universal-opened (c .before .before .before .before .before); zero = c .universal-turn .ensures .0; kept = c .universal-turn .ensures .1 }
 
   universal-twice-universal :
       (c : universal-lts.After-universal-turn2 universal-callees universal-at universal.Post)
       → let d = c .before .before .before .before .before in
-      let s = d .before .before .before .before .before .before .before .before .before in
-      let p = s .args .prefix .now in
-      Twice universal-side p (take (length p - 1) (drop 1 p)) (s .args .values .now) (d .before .before .before .before .before .before .magnitude .result) (matrixOf (s .args .clauses .now)) (d .universal-turn .result) (c .universal-turn2 .result) (d .universal-turn .last .1 .0) (c .universal-turn2 .last .1 .0)
+      let s = d .before .before .before .before .before .before .before .before in
+      let e = d .before .before .before .before .before in
+      Twice universal-side (s .args .prefix .now) (e .later-entries .result .now) (s .args .values .now) (e .before .first-variable .result) (matrixOf (s .args .clauses .now)) (d .universal-turn .result) (c .universal-turn2 .result) (d .universal-turn .last .1 .0) (c .universal-turn2 .last .1 .0)
   universal-twice-universal c = record { once = universal-once-universal (c .before .before .before .before .before); one = c .universal-turn2 .ensures .0; kept = c .universal-turn2 .ensures .1 }
 
   universal-once-existential :
       (c : universal-lts.After-existential-turn universal-callees universal-at universal.Post)
-      → let s = c .before .before .before .before .before .before .before .before .before in
-      let p = s .args .prefix .now in
-      Once universal-side p (take (length p - 1) (drop 1 p)) (s .args .values .now) (c .before .before .before .before .before .before .magnitude .result) (matrixOf (s .args .clauses .now)) (c .existential-turn .result) (c .existential-turn .last .1 .0)
-  universal-once-existential c = record { opening = universal-opened (c .before .before .before .before .before .before); zero = c .existential-turn .ensures .0; kept = c .existential-turn .ensures .1 }
+      → let s = c .before .before .before .before .before .before .before .before in
+      let d = c .before .before .before .before .before in
+      Once universal-side (s .args .prefix .now) (d .later-entries .result .now) (s .args .values .now) (d .before .first-variable .result) (matrixOf (s .args .clauses .now)) (c .existential-turn .result) (c .existential-turn .last .1 .0)
+  universal-once-existential c = record { opening = universal-opened (c .before .before .before .before .before); zero = c .existential-turn .ensures .0; kept = c .existential-turn .ensures .1 }
 
   universal-twice-existential :
       (c : universal-lts.After-existential-turn2 universal-callees universal-at universal.Post)
       → let d = c .before .before .before .before .before in
-      let s = d .before .before .before .before .before .before .before .before .before in
-      let p = s .args .prefix .now in
-      Twice universal-side p (take (length p - 1) (drop 1 p)) (s .args .values .now) (d .before .before .before .before .before .before .magnitude .result) (matrixOf (s .args .clauses .now)) (d .existential-turn .result) (c .existential-turn2 .result) (d .existential-turn .last .1 .0) (c .existential-turn2 .last .1 .0)
+      let s = d .before .before .before .before .before .before .before .before in
+      let e = d .before .before .before .before .before in
+      Twice universal-side (s .args .prefix .now) (e .later-entries .result .now) (s .args .values .now) (e .before .first-variable .result) (matrixOf (s .args .clauses .now)) (d .existential-turn .result) (c .existential-turn2 .result) (d .existential-turn .last .1 .0) (c .existential-turn2 .last .1 .0)
   universal-twice-existential c = record { once = universal-once-existential (c .before .before .before .before .before); one = c .existential-turn2 .ensures .0; kept = c .existential-turn2 .ensures .1 }
 
-  universal-shared-slice-copy-out-magnitude : universal-lts.Need-shared-slice-copy-out-magnitude universal-callees universal-at universal.Post
-  universal-shared-slice-copy-out-magnitude c = let s = c .before in universal-left (s .args .prefix .now) (s .pre .1)
+  universal-first-variable-requires : universal-lts.Need-first-variable-requires universal-callees universal-at universal.Post
+  universal-first-variable-requires c κs = let s = c .before in (s .pre .1 .entries, universal-left (s .args .prefix .now) (s .pre .1))
 
-  universal-magnitude-requires : universal-lts.Need-magnitude-requires universal-callees universal-at universal.Post
-  universal-magnitude-requires c κs = tt
-
-  universal-sub-rest : universal-lts.Need-sub-rest universal-callees universal-at universal.Post
-  universal-sub-rest c = let s = c .before .before .before in omega (arith, universal-left (s .args .prefix .now) (s .pre .1))
-
-  universal-part-rest-start : universal-lts.Need-part-rest-start universal-callees universal-at universal.Post
-  universal-part-rest-start c = let s = c .before .before .before in omega (arith, universal-left (s .args .prefix .now) (s .pre .1))
-
-  universal-part-rest-end : universal-lts.Need-part-rest-end universal-callees universal-at universal.Post
-  universal-part-rest-end c = search needs
+  universal-later-entries-requires : universal-lts.Need-later-entries-requires universal-callees universal-at universal.Post
+  universal-later-entries-requires c κs = let s = c .before .before in universal-left (s .args .prefix .now) (s .pre .1)
 
   universal-slice-read-held : universal-lts.Need-slice-read-held universal-callees universal-at universal.Post
-  universal-slice-read-held c = universal-opened (c .before .before) .small
+  universal-slice-read-held c = universal-opened (c .before) .small
 
   universal-slice-write-values : universal-lts.Need-slice-write-values universal-callees universal-at universal.Post
-  universal-slice-write-values c = universal-opened (c .before .before) .small
+  universal-slice-write-values c = universal-opened (c .before) .small
 
   universal-universal-due-requires : universal-lts.Need-universal-due-requires universal-callees universal-at universal.Post
-  universal-universal-due-requires c κs = tt
+  universal-universal-due-requires c κs = universal-opened (c .before) .entries
 
   universal-universal-turn-requires : universal-lts.Need-universal-turn-requires universal-callees universal-at universal.Post
   universal-universal-turn-requires c κs =
       let d = c .before .before in
-      hand-universal t _ (universal-opened (d .before .before .before)) (d .universal-due .result) (d .before .before .before .before .before .before .pre .0) (simp length-set) (d .universal-due .ensures) (c .before .if1 .taken)
+      hand-universal t _ (universal-opened (d .before .before)) (d .universal-due .result) (d .before .before .before .before .before .pre .0) (simp length-set) (d .universal-due .ensures) (c .before .if1 .taken)
 
   universal-slice-write-values-2 : universal-lts.Need-slice-write-values-2 universal-callees universal-at universal.Post
   universal-slice-write-values-2 c = once-store (universal-once-universal (c .before .before .before))
@@ -310,7 +291,7 @@ module _ (t : ℕ) where
   universal-universal-turn-requires-2 c κs =
       let w = universal-once-universal (c .before .before .before .before) in
       let d = c .before .before .before .before .before .before .before in
-      hand-universal t _ (w .opening) (d .universal-due .result) (d .before .before .before .before .before .before .pre .0) (once-length w 1) (d .universal-due .ensures) (c .before .before .before .before .before .before .if1 .taken)
+      hand-universal t _ (w .opening) (d .universal-due .result) (d .before .before .before .before .before .pre .0) (once-length w 1) (d .universal-due .ensures) (c .before .before .before .before .before .before .if1 .taken)
 
   universal-slice-write-values-4 : universal-lts.Need-slice-write-values-4 universal-callees universal-at universal.Post
   universal-slice-write-values-4 c = twice-store (universal-twice-universal (c .before .before))
@@ -318,7 +299,7 @@ module _ (t : ℕ) where
   universal-existential-turn-requires : universal-lts.Need-existential-turn-requires universal-callees universal-at universal.Post
   universal-existential-turn-requires c κs =
       let d = c .before .before in
-      hand-existential t _ (universal-opened (d .before .before .before)) (d .universal-due .result) (d .before .before .before .before .before .before .pre .0) (simp length-set) (d .universal-due .ensures) (c .before .if1 .left)
+      hand-existential t _ (universal-opened (d .before .before)) (d .universal-due .result) (d .before .before .before .before .before .pre .0) (simp length-set) (d .universal-due .ensures) (c .before .if1 .left)
 
   universal-slice-write-values-5 : universal-lts.Need-slice-write-values-5 universal-callees universal-at universal.Post
   universal-slice-write-values-5 c = once-store (universal-once-existential (c .before .before .before))
@@ -330,7 +311,7 @@ module _ (t : ℕ) where
   universal-existential-turn-requires-2 c κs =
       let w = universal-once-existential (c .before .before .before .before) in
       let d = c .before .before .before .before .before .before .before in
-      hand-existential t _ (w .opening) (d .universal-due .result) (d .before .before .before .before .before .before .pre .0) (once-length w 1) (d .universal-due .ensures) (c .before .before .before .before .before .before .if1 .left)
+      hand-existential t _ (w .opening) (d .universal-due .result) (d .before .before .before .before .before .pre .0) (once-length w 1) (d .universal-due .ensures) (c .before .before .before .before .before .before .if1 .left)
 
   universal-slice-write-values-7 : universal-lts.Need-slice-write-values-7 universal-callees universal-at universal.Post
   universal-slice-write-values-7 c = twice-store (universal-twice-existential (c .before .before))
@@ -363,14 +344,12 @@ pub +existential-turn+universal-turn-spec : {M : Type 1} → statement M
 +existential-turn+universal-turn-spec =
     close μ-existential μ-universal
     (λ t. existential-lts.spec (existential-callees t) (existential-at t) existential.Post
-    (existential-matrix-falsified-requires t)
-    (existential-same-length t)
+    (λ c κs. tt)
+    (λ c κs. tt)
+    (λ c. search needs)
     (existential-returns t)
-    (existential-shared-slice-copy-out-magnitude t)
-    (existential-magnitude-requires t)
-    (existential-sub-rest t)
-    (existential-part-rest-start t)
-    (existential-part-rest-end t)
+    (existential-first-variable-requires t)
+    (existential-later-entries-requires t)
     (existential-slice-read-held t)
     (existential-slice-write-values t)
     (existential-universal-due-requires t)
@@ -393,11 +372,8 @@ pub +existential-turn+universal-turn-spec : {M : Type 1} → statement M
     (existential-same-length-5 t)
     (existential-returns-5 t))
     (λ t. universal-lts.spec (universal-callees t) (universal-at t) universal.Post
-    (universal-shared-slice-copy-out-magnitude t)
-    (universal-magnitude-requires t)
-    (universal-sub-rest t)
-    (universal-part-rest-start t)
-    (universal-part-rest-end t)
+    (universal-first-variable-requires t)
+    (universal-later-entries-requires t)
     (universal-slice-read-held t)
     (universal-slice-write-values t)
     (universal-universal-due-requires t)
