@@ -1,11 +1,11 @@
--- `read_sets` takes set after set; each need is one law of SetLaws. Assumes nothing.
+-- `read_sets` takes set after set; each need is one law of Text.Sets. Assumes nothing.
 use Prim.Native.Nat.{_-_}
 use mathlib.Core.Path.{refl, sym, _∙_}
 use mathlib.Core.List.{[]}
 use native.Mathlib.Omega.{arith}
 use lib.ListN.{length}
 use Rattle.formula.specs.Token.Laws.{token-found}
-use Rattle.formula.specs.Stage.SetLaws.{SetsSoFar, sets-end, sets-natural, sets-negative, sets-word, sets-refuse, sets-on}
+use Rattle.formula.specs.Text.Sets.Laws.{SetsSoFar, sets-end, sets-natural, sets-negative, sets-word, sets-refuse, sets-on}
 use borrow.Author.Needs.{needs}
 use Rattle.formula.proofs.sets.read_sets.Statement.{statement}
 use Rattle.formula.proofs.sets.read_sets.Tie as tie
