@@ -16,7 +16,7 @@ use Rattle.qbf.specs.Formula.{Quantifier, entry, Prefix, listed}
 use Rattle.formula.specs.Bounds.{variableBound}
 use Rattle.formula.specs.Refusal.{refusal}
 use Rattle.formula.specs.Prefix.{prefixOf, entryFits, putEntry, usedAfter, quantifierOf}
-use Rattle.formula.specs.Prefix.Laws.{prefix-words, put-entries, put-more, put-within}
+use Rattle.formula.specs.Prefix.Laws.{prefix-none, prefix-words, put-entries, put-more, put-within}
 use Rattle.formula.specs.Tables.{isIn, zeros}
 use Rattle.formula.specs.Token.{aWord, eWord, placed, nextToken}
 use Rattle.formula.specs.Token.Laws.{token-found}
@@ -168,6 +168,10 @@ pub record SetsSoFar (text : List ℕ) (start v : ℕ) (prefix₀ prefix : List 
   pub same : length prefix ≡ length prefix₀
   pub listed : Listed marks (prefixOf (take used prefix))
   pub reads : (c clauseRoom : ℕ) → readingFrom (length prefix₀) clauseRoom text (betweenSets v c []) start ≡ readingFrom (length prefix₀) clauseRoom text (betweenSets v c (prefixOf (take used prefix))) at
+
+pub sets-begin : (text : List ℕ) (start v : ℕ) (prefix : List ℤ) (marks : List ℕ) → Listed marks [] → SetsSoFar text start v prefix prefix marks start 0
+sets-begin text start v prefix marks L =
+    record { room = omega arith; same = refl; listed = rw prefix-none L; reads = λ c rc. rw prefix-none }
 
 module _ (text : List ℕ) (start v : ℕ) (prefix₀ prefix : List ℤ) (marks : List ℕ) (at used : ℕ) (I : SetsSoFar text start v prefix₀ prefix marks at used) where
   -- The sets are over where the same is read from the clauses on.
