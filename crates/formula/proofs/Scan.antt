@@ -20,6 +20,7 @@ use Rattle.formula.specs.Bounds.{variableBound, inRange}
 use Rattle.formula.specs.Word.{wordOf}
 use Rattle.formula.specs.Refusal.{refusal}
 use Rattle.formula.specs.Decode.Laws.{magnitude-same, magnitude-negated}
+use Rattle.formula.specs.Prefix.Laws.{prefix-variables}
 use Rattle.formula.specs.Tables.{isIn, zeros, prefixWord, prefixRefusal, literalWord, clauseWord, clausesEnd, clausesRefusal, listedIn, sized, firstRefusal, tablesRefusal, answerTables, tablesAnswer}
 use Rattle.formula.specs.Tables.Laws.{Kind, closing, large, signed, kind, zeros-cons, prefix-word-zero, prefix-word-large, prefix-word-variable, clause-word-zero, clause-word-large, clause-word-literal}
 use Rattle.formula.specs.Tables.Scan.{magnitudeOf, marked, Marks, variablesBefore, further, plainRun, clashFree, ClauseStep, checkOf, wordsRefusal}
@@ -141,8 +142,10 @@ variables-before-take v ws (suc n) h =
 pub marks-listed : (marks : List ℕ) (ws : List ℤ) (n : ℕ) → n ≤ length ws → length ws ≤ n → Marks marks (variablesBefore ws n) → marked marks ≡ listedIn ws
 marks-listed marks ws n h k m = λ j v. at v j
   where
-    at : (v : ℕ) → marked marks v ≡ isIn v (map natAbs ws)
-    at v = m .says v ∙ variables-before-take v ws n h ∙ ap (λ (l : List ℤ). isIn v (map natAbs l)) (take-all n ws k)
+    at : (v : ℕ) → marked marks v ≡ listedIn ws v
+    at v =
+        rw (prefix-variables ws)
+        (m .says v ∙ variables-before-take v ws n h ∙ ap (λ (l : List ℤ). isIn v (map natAbs l)) (take-all n ws k))
 
 -- The run of literals, by the word at a place.
 module _ (known : ℕ → Bool) (ws : List ℤ) (i : ℕ) (h : i < length ws) where

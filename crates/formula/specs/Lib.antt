@@ -1,5 +1,6 @@
 -- The definitions that layer 1's contracts cite. What a reader must believe: Bounds, Word, Refusal, Tables, Decode (tables),
--- Token, Text (reading), Decimal, Written (writing), Clear, ClauseWord, RoundTrip. For inner contracts: Store, Writing, Stage.
+-- Token, Text (reading), Decimal, Written (writing), Clear, ClauseWord, RoundTrip. For inner contracts: Store, Writing, and
+-- the stages of reading in Text/{Header,Sets,Clauses,Fill}.
 pub mod Bounds
 pub mod Word
 pub mod Refusal
@@ -16,4 +17,3 @@ pub mod Writing
 pub mod Token
 pub mod Text
 pub mod RoundTrip
-pub mod Stage

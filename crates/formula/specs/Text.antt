@@ -1,7 +1,13 @@
 -- Reading a formula's text (01, "Formula text" and the order "Text"): 2 on length, then tokens from the left, at a token 10
 -- first, then 1, 4, 5, 2, 6, 7, 8, 3; at the end 1, 9, then 10. A state goes over the tokens; a refusal stops it.
+-- What the stages of reading answer, each from its state and place on, is in Header, Sets, Clauses, Fill: a stage that goes on
+-- hands over a state and a place from which the text is read as the same. Laws are in Laws and in each stage's.
 pub mod Examples
 pub mod Laws
+pub mod Header
+pub mod Sets
+pub mod Clauses
+pub mod Fill
 pub mod Distinct
 pub mod Admits
 use Prim.Native.Nat.{ℕ, zero, suc, _-_}
@@ -13,9 +19,11 @@ use lib.ListN.{length, replicate}
 use lib.Dec.{leb, ltb, eqb}
 use lib.IntN.{ℤ, pos, negsuc, negℤ}
 use Rattle.formula.specs.Bounds.{variableBound, countBound, matrixBound, textBound}
-use Rattle.formula.specs.Refusal.{refusal}
-use Rattle.formula.specs.Tables.{isIn, zeros, listedIn}
-use Rattle.formula.specs.Token.{Placed, tokens, pWord, cnfWord, aWord, eWord}
+use Rattle.qbf.specs.Formula.{Quantifier, existential, universal, entry, Prefix, listed}
+use Rattle.formula.specs.Refusal.{refusal, require}
+use Rattle.formula.specs.Prefix.{entryFits, prefixWords as wordsOf}
+use Rattle.formula.specs.Tables.{isIn, zeros}
+use Rattle.formula.specs.Token.{Placed, tokens, tokensAt, pWord, cnfWord, aWord, eWord}
 use Rattle.formula.specs.declared.refusal.Refusal.{Refusal}
 use Rattle.formula.specs.declared.refusal.Reason.the-variants.{
   Headless,
@@ -39,21 +47,16 @@ pub data Reading : Type 0 where
   read : (prefix clauses : List ℤ) (count : ℕ) → Reading
   refused : Refusal → Reading
 
--- What was read so far. V and C are the header's `v` and `c`.
+-- What was read so far. V and C are the header's `v` and `c`; P has the entries listed, in order.
 pub data State : Type 0 where
   -- The header's tokens: `p`, `cnf`, V, C.
   wantsP wantsCnf wantsV : State
   wantsC : (v : ℕ) → State
-  -- Between sets; in a set, `positive` for `e`, `filled` once it lists a variable; from the first clause on.
-  betweenSets : (v c : ℕ) (prefix : List ℤ) → State
-  inSet : (v c : ℕ) (positive filled : Bool) (prefix : List ℤ) → State
-  clauses : (v c : ℕ) (prefix words : List ℤ) → State
+  -- Between sets; in a set of the quantifier q, `filled` once it lists a variable; from the first clause on.
+  betweenSets : (v c : ℕ) (P : Prefix) → State
+  inSet : (v c : ℕ) (q : Quantifier) (filled : Bool) (P : Prefix) → State
+  clauses : (v c : ℕ) (P : Prefix) (words : List ℤ) → State
   stopped : Refusal → State
-
--- A test that refuses, ahead of those that follow.
-abbrev pub refuse : Bool → Refusal → Option Refusal → Option Refusal
-refuse true r later = some r
-refuse false r later = later
 
 -- A refusal stops; without one the state follows.
 abbrev pub unless : Option Refusal → State → State
@@ -87,75 +90,76 @@ isOpen (v ∷ vs) = true
 
 -- A word of the header.
 abbrev pub headerWord : ℕ → ℕ → Token → State → State
-headerWord w at t next = unless (refuse (not (isWord w t)) (refusal Headless at) none) next
+headerWord w at t next = require (isWord w t) (stopped (refusal Headless at)) next
 
 -- A number of the header, without minus and within its bound.
 abbrev pub headerNumber : ℕ → ℕ → Token → (ℕ → State) → State
-headerNumber bound at (Natural n) next = unless (refuse (ltb bound n) (refusal Oversized 0) none) (next n)
+headerNumber bound at (Natural n) next = require (leb n bound) (stopped (refusal Oversized 0)) (next n)
 headerNumber bound at (Negative n) next = stopped (refusal Headless at)
 headerNumber bound at (Word w) next = stopped (refusal Headless at)
 
--- The variable n is listed in a set: 5, 6, 3. `listed` says whether it was before; `used` words are used of `room`.
-unfoldable pub variableRefusal : (at v n : ℕ) (listed : Bool) (used room : ℕ) → Option Refusal
-variableRefusal at v n listed used room =
-    refuse (ltb v n) (refusal OutOfRange at)
-    (refuse listed (refusal BoundTwice at) (refuse (leb room used) (refusal NoRoom at) none))
+-- The variable n is listed in a set: 5, 6, 3. `known` says whether one before it lists n, `fits` whether an entry has room.
+unfoldable pub variableRefusal : (at v n : ℕ) (known fits : Bool) → Option Refusal
+variableRefusal at v n known fits =
+    require (leb n v) (some (refusal OutOfRange at))
+    (require (not known) (some (refusal BoundTwice at))
+    (require fits (some (refusal NoRoom at)) none))
 
--- A literal of the variable n: 5, 2, 7, 8, 3. `bound` says whether a set lists it, `clash` whether its clause holds it.
+-- A literal of the variable n: 5, 2, 7, 8, 3. `bound` says whether a set lists it, `clash` whether its clause holds it;
+-- `used` words are used of `room`.
 unfoldable pub literalRefusal : (at v n : ℕ) (bound clash : Bool) (used room : ℕ) → Option Refusal
 literalRefusal at v n bound clash used room =
-    refuse (ltb v n) (refusal OutOfRange at)
-    (refuse (leb matrixBound used) (refusal Oversized 0)
-    (refuse (not bound) (refusal Unbound at)
-    (refuse clash (refusal Clash at) (refuse (leb room used) (refusal NoRoom at) none))))
+    require (leb n v) (some (refusal OutOfRange at))
+    (require (ltb used matrixBound) (some (refusal Oversized 0))
+    (require bound (some (refusal Unbound at))
+    (require (not clash) (some (refusal Clash at))
+    (require (ltb used room) (some (refusal NoRoom at)) none))))
 
 -- A clause's closing 0, which is a clause word too: 2, 3.
 unfoldable pub closingRefusal : (at used room : ℕ) → Option Refusal
 closingRefusal at used room =
-    refuse (leb matrixBound used) (refusal Oversized 0) (refuse (leb room used) (refusal NoRoom at) none)
+    require (ltb used matrixBound) (some (refusal Oversized 0))
+    (require (ltb used room) (some (refusal NoRoom at)) none)
 
 -- A token between sets: `e` or `a` opens a set, any other is the first of the clauses.
-abbrev pub opens : (isE isA : Bool) (v c : ℕ) (prefix : List ℤ) → State → State
-opens true isA v c prefix later = inSet v c true false prefix
-opens false true v c prefix later = inSet v c false false prefix
-opens false false v c prefix later = later
-
-abbrev pub tooMany : Bool → ℕ → State → State
-tooMany true at later = stopped (refusal Miscount at)
-tooMany false at later = later
+abbrev pub opens : (isE isA : Bool) (v c : ℕ) (P : Prefix) → State → State
+opens true isA v c P later = inSet v c existential false P
+opens false true v c P later = inSet v c universal false P
+opens false false v c P later = later
 
 module _ (prefixRoom clauseRoom : ℕ) where
   -- A token in a set: a variable, or the closing 0 of a set that is not empty.
-  abbrev pub setNumber : (at v c : ℕ) (positive filled : Bool) (prefix : List ℤ) → ℕ → State
-  setNumber at v c positive filled prefix zero = unless (refuse (not filled) (refusal BadToken at) none) (betweenSets v c prefix)
-  setNumber at v c positive filled prefix (suc n) =
-      unless (variableRefusal at v (suc n) (listedIn prefix (suc n)) (length prefix) prefixRoom)
-      (inSet v c positive true (prefix ++ (signed positive (suc n) ∷ [])))
+  abbrev pub setNumber : (at v c : ℕ) (q : Quantifier) (filled : Bool) (P : Prefix) → ℕ → State
+  setNumber at v c q filled P zero = require filled (stopped (refusal BadToken at)) (betweenSets v c P)
+  setNumber at v c q filled P (suc n) =
+      unless (variableRefusal at v (suc n) (isIn (suc n) (listed P)) (entryFits prefixRoom (length (wordsOf P))))
+      (inSet v c q true (P ++ (entry (suc n) q ∷ [])))
 
-  abbrev pub setToken : (at v c : ℕ) (positive filled : Bool) (prefix : List ℤ) → Token → State
-  setToken at v c positive filled prefix (Natural n) = setNumber at v c positive filled prefix n
-  setToken at v c positive filled prefix (Negative n) = stopped (refusal BadToken at)
-  setToken at v c positive filled prefix (Word w) = stopped (refusal BadToken at)
+  abbrev pub setToken : (at v c : ℕ) (q : Quantifier) (filled : Bool) (P : Prefix) → Token → State
+  setToken at v c q filled P (Natural n) = setNumber at v c q filled P n
+  setToken at v c q filled P (Negative n) = stopped (refusal BadToken at)
+  setToken at v c q filled P (Word w) = stopped (refusal BadToken at)
 
   -- A token of a clause: a literal, or the closing 0.
-  abbrev pub putLiteral : (at v c : ℕ) (prefix words : List ℤ) (positive : Bool) → ℕ → State
-  putLiteral at v c prefix words positive n =
-      unless (literalRefusal at v n (listedIn prefix n) (isIn n (openClause words)) (length words) clauseRoom)
-      (clauses v c prefix (words ++ (signed positive n ∷ [])))
+  abbrev pub putLiteral : (at v c : ℕ) (P : Prefix) (words : List ℤ) (positive : Bool) → ℕ → State
+  putLiteral at v c P words positive n =
+      unless (literalRefusal at v n (isIn n (listed P)) (isIn n (openClause words)) (length words) clauseRoom)
+      (clauses v c P (words ++ (signed positive n ∷ [])))
 
-  abbrev pub clauseNumber : (at v c : ℕ) (prefix words : List ℤ) → ℕ → State
-  clauseNumber at v c prefix words zero =
-      unless (closingRefusal at (length words) clauseRoom) (clauses v c prefix (words ++ (pos 0 ∷ [])))
-  clauseNumber at v c prefix words (suc n) = putLiteral at v c prefix words true (suc n)
+  abbrev pub clauseNumber : (at v c : ℕ) (P : Prefix) (words : List ℤ) → ℕ → State
+  clauseNumber at v c P words zero =
+      unless (closingRefusal at (length words) clauseRoom) (clauses v c P (words ++ (pos 0 ∷ [])))
+  clauseNumber at v c P words (suc n) = putLiteral at v c P words true (suc n)
 
-  abbrev pub clauseToken : (at v c : ℕ) (prefix words : List ℤ) → Token → State
-  clauseToken at v c prefix words (Natural n) = clauseNumber at v c prefix words n
-  clauseToken at v c prefix words (Negative n) = putLiteral at v c prefix words false n
-  clauseToken at v c prefix words (Word w) = stopped (refusal BadToken at)
+  abbrev pub clauseToken : (at v c : ℕ) (P : Prefix) (words : List ℤ) → Token → State
+  clauseToken at v c P words (Natural n) = clauseNumber at v c P words n
+  clauseToken at v c P words (Negative n) = putLiteral at v c P words false n
+  clauseToken at v c P words (Word w) = stopped (refusal BadToken at)
 
   -- After clause C any token is one too many.
-  abbrev pub clausesToken : (at v c : ℕ) (prefix words : List ℤ) → Token → State
-  clausesToken at v c prefix words t = tooMany (leb c (zeros words)) at (clauseToken at v c prefix words t)
+  abbrev pub clausesToken : (at v c : ℕ) (P : Prefix) (words : List ℤ) → Token → State
+  clausesToken at v c P words t =
+      require (ltb (zeros words) c) (stopped (refusal Miscount at)) (clauseToken at v c P words t)
 
   -- One token.
   unfoldable pub step : State → Placed → State
@@ -163,41 +167,41 @@ module _ (prefixRoom clauseRoom : ℕ) where
   step wantsCnf t = headerWord cnfWord (t .place) (t .token) wantsV
   step wantsV t = headerNumber variableBound (t .place) (t .token) wantsC
   step (wantsC v) t = headerNumber countBound (t .place) (t .token) (λ c. betweenSets v c [])
-  step (betweenSets v c prefix) t =
-      opens (isWord eWord (t .token)) (isWord aWord (t .token)) v c prefix (clausesToken (t .place) v c prefix [] (t .token))
-  step (inSet v c positive filled prefix) t = setToken (t .place) v c positive filled prefix (t .token)
-  step (clauses v c prefix words) t = clausesToken (t .place) v c prefix words (t .token)
+  step (betweenSets v c P) t =
+      opens (isWord eWord (t .token)) (isWord aWord (t .token)) v c P (clausesToken (t .place) v c P [] (t .token))
+  step (inSet v c q filled P) t = setToken (t .place) v c q filled P (t .token)
+  step (clauses v c P words) t = clausesToken (t .place) v c P words (t .token)
   step (stopped r) t = stopped r
 
   unfoldable pub run : State → List Placed → State
   run s [] = s
   run s (t ∷ ts) = run (step s t) ts
 
--- The text ends, `at` being its length.
+-- The text ends, `at` being its length: no clause is open, and none is missing.
 abbrev pub clausesEnding : ℕ → (clauseOpen missing : Bool) → Reading → Reading
-clausesEnding at true missing done = refused (refusal Unfinished at)
-clausesEnding at false true done = refused (refusal Miscount at)
-clausesEnding at false false done = done
+clausesEnding at clauseOpen missing done =
+    require (not clauseOpen) (refused (refusal Unfinished at)) (require (not missing) (refused (refusal Miscount at)) done)
 
 unfoldable pub ending : ℕ → State → Reading
 ending at wantsP = refused (refusal Headless at)
 ending at wantsCnf = refused (refusal Headless at)
 ending at wantsV = refused (refusal Headless at)
 ending at (wantsC v) = refused (refusal Headless at)
-ending at (betweenSets v c prefix) = clausesEnding at false (ltb 0 c) (read prefix [] c)
-ending at (inSet v c positive filled prefix) = refused (refusal Unfinished at)
-ending at (clauses v c prefix words) =
-    clausesEnding at (isOpen (openClause words)) (ltb (zeros words) c) (read prefix words c)
+ending at (betweenSets v c P) = clausesEnding at false (ltb 0 c) (read (wordsOf P) [] c)
+ending at (inSet v c q filled P) = refused (refusal Unfinished at)
+ending at (clauses v c P words) =
+    clausesEnding at (isOpen (openClause words)) (ltb (zeros words) c) (read (wordsOf P) words c)
 ending at (stopped r) = refused r
-
-abbrev pub ifShort : Bool → Reading → Reading
-ifShort true later = later
-ifShort false later = refused (refusal Oversized 0)
 
 -- What a text is read as, with so many words of room for the prefix and for the clauses.
 unfoldable pub reading : List ℕ → (prefixRoom clauseRoom : ℕ) → Reading
 reading text prefixRoom clauseRoom =
-    ifShort (leb (length text) textBound) (ending (length text) (run prefixRoom clauseRoom wantsP (tokens text)))
+    require (leb (length text) textBound) (refused (refusal Oversized 0))
+    (ending (length text) (run prefixRoom clauseRoom wantsP (tokens text)))
+
+-- What the text is read as from a state and a place on.
+abbrev pub readingFrom : (prefixRoom clauseRoom : ℕ) → List ℕ → State → ℕ → Reading
+readingFrom prefixRoom clauseRoom text s at = ending (length text) (run prefixRoom clauseRoom s (tokensAt text at))
 
 -- What `read_formula` answers, and what it leaves in the tables: the words read, then zeros.
 abbrev pub readAnswer : Reading → ReadAnswer

@@ -9,13 +9,13 @@ use crate::token::next_token;
 use crate::word::signed_word;
 ghost use mathlib.Core.Path.{_≡_};
 ghost use Prim.Native.Nat.{ℕ, _≤_};
-ghost use mathlib.Core.List.{List};
-ghost use lib.IntN.{ℤ};
 ghost use lib.ListN.{length, getD};
 ghost use lib.Dec.{ltb};
+ghost use Rattle.qbf.specs.Formula.{Prefix};
 ghost use Rattle.formula.specs.Bounds.{variableBound, countBound};
 ghost use Rattle.formula.specs.Text.{literalRefusal};
-ghost use Rattle.formula.specs.Stage.{literalStep, LiteralPost, ClosingPost, ClauseTokenPost, clausesEnd, Listed, ClausesPost};
+ghost use Rattle.formula.specs.Text.Sets.{Listed};
+ghost use Rattle.formula.specs.Text.Clauses.{literalStep, LiteralPost, ClosingPost, ClauseTokenPost, clausesEnd, ClausesPost};
 
 // What a token of a clause did.
 pub enum ClauseStep {
@@ -51,38 +51,24 @@ fn judge_literal(
     ensures { λ r. ⌜ r ≡ literalStep (literalRefusal place variables n bound clash used room) ⌝ }
 {
     if variables < n {
-        return ClauseStep::Refused(Refusal {
-            reason: Reason::OutOfRange,
-            place,
-        });
+        return ClauseStep::Refused(Refusal::new(Reason::OutOfRange, place));
     }
     if MatrixLength::MAX <= used {
-        return ClauseStep::Refused(Refusal {
-            reason: Reason::Oversized,
-            place: 0,
-        });
+        return ClauseStep::Refused(Refusal::new(Reason::Oversized, 0));
     }
     if bound {
         if clash {
-            return ClauseStep::Refused(Refusal {
-                reason: Reason::Clash,
-                place,
-            });
+            return ClauseStep::Refused(Refusal::new(Reason::Clash, place));
         }
         if room <= used {
-            return ClauseStep::Refused(Refusal {
-                reason: Reason::NoRoom,
-                place,
-            });
+            return ClauseStep::Refused(Refusal::new(Reason::NoRoom, place));
         }
         return ClauseStep::Literal;
     }
-    ClauseStep::Refused(Refusal {
-        reason: Reason::Unbound,
-        place,
-    })
+    ClauseStep::Refused(Refusal::new(Reason::Unbound, place))
 }
 
+// Writes a literal of the variable n and marks it, unless it is refused.
 fn put_literal(
     n: usize,
     place: usize,
@@ -117,20 +103,15 @@ fn put_literal(
     }
 }
 
+// Writes a clause's closing 0: 2 above the bound on clause words, 3 without room.
 fn close_clause(place: usize, clauses: &mut [i32], used: usize) -> ClauseStep
     ensures { λ r. ⌜ ClosingPost place used (now (clauses .entry)) (now (clauses .exit)) r ⌝ }
 {
     if MatrixLength::MAX <= used {
-        return ClauseStep::Refused(Refusal {
-            reason: Reason::Oversized,
-            place: 0,
-        });
+        return ClauseStep::Refused(Refusal::new(Reason::Oversized, 0));
     }
     if clauses.len() <= used {
-        return ClauseStep::Refused(Refusal {
-            reason: Reason::NoRoom,
-            place,
-        });
+        return ClauseStep::Refused(Refusal::new(Reason::NoRoom, place));
     }
     clauses[used] = 0;
     ClauseStep::Closed
@@ -156,10 +137,7 @@ fn clause_token(
             put_literal(n, place, variables, true, clauses, used, closed, marks)
         },
         Token::Negative(n) => put_literal(n, place, variables, false, clauses, used, closed, marks),
-        Token::Word(_) => ClauseStep::Refused(Refusal {
-            reason: Reason::BadToken,
-            place,
-        }),
+        Token::Word(_) => ClauseStep::Refused(Refusal::new(Reason::BadToken, place)),
     }
 }
 
@@ -168,16 +146,10 @@ fn clauses_end(size: usize, start: usize, used: usize, closed: usize, count: usi
     ensures { λ r. ⌜ r ≡ clausesEnd size (ltb start used) (ltb closed count) used ⌝ }
 {
     if start < used {
-        return ClausesAnswer::Refused(Refusal {
-            reason: Reason::Unfinished,
-            place: size,
-        });
+        return ClausesAnswer::Refused(Refusal::new(Reason::Unfinished, size));
     }
     if closed < count {
-        return ClausesAnswer::Refused(Refusal {
-            reason: Reason::Miscount,
-            place: size,
-        });
+        return ClausesAnswer::Refused(Refusal::new(Reason::Miscount, size));
     }
     ClausesAnswer::Clauses { used }
 }
@@ -192,7 +164,7 @@ pub fn read_clauses(
     marks: &mut [usize; 1025],
 ) -> ClausesAnswer
     requires { ⌜ (variables ≤ variableBound) × (count ≤ countBound) × (length (now marks) ≡ 1025) ⌝ }
-    ensures { λ r. ⌜ ((prefixRoom : ℕ) (prefix : List ℤ) → Listed (now (marks .entry)) prefix → ClausesPost (now (text .entry)) from variables count prefixRoom prefix (now (clauses .entry)) (now (clauses .exit)) r) ⌝ }
+    ensures { λ r. ⌜ ((prefixRoom : ℕ) (P : Prefix) → Listed (now (marks .entry)) P → ClausesPost (now (text .entry)) from variables count prefixRoom P (now (clauses .entry)) (now (clauses .exit)) r) ⌝ }
 {
     let mut at = from;
     let mut used = 0;
@@ -203,10 +175,7 @@ pub fn read_clauses(
             Next::End => return clauses_end(text.len(), start, used, closed, count),
             Next::Found { token, place, next } => {
                 if count <= closed {
-                    return ClausesAnswer::Refused(Refusal {
-                        reason: Reason::Miscount,
-                        place,
-                    });
+                    return ClausesAnswer::Refused(Refusal::new(Reason::Miscount, place));
                 }
                 match clause_token(token, place, variables, clauses, used, closed, marks) {
                     ClauseStep::Refused(r) => return ClausesAnswer::Refused(r),

@@ -17,16 +17,17 @@ ghost use lib.ListN.{length};
 ghost use Rattle.formula.specs.Bounds.{variableBound};
 ghost use Rattle.formula.specs.Token.{firstToken, nextToken};
 ghost use Rattle.formula.specs.Text.{wantsP, wantsV, wantsC};
-ghost use Rattle.formula.specs.Stage.{wordFound, numberFound, HeaderPost};
+ghost use Rattle.formula.specs.Text.Header.{fieldFound, HeaderPost};
 
-// The byte after a word that was looked for.
-pub enum WordAnswer {
-    After(usize),
-    Refused(Refusal),
+// What the header wants next: a word, told by its number, or a number without minus.
+pub enum Wanted {
+    Word(usize),
+    Number,
 }
 
-pub enum NumberAnswer {
-    Number { value: usize, next: usize },
+// What was wanted: its value, which is 0 for a word, and the byte after it.
+pub enum FieldAnswer {
+    Field { value: usize, next: usize },
     Refused(Refusal),
 }
 
@@ -40,54 +41,26 @@ pub enum HeaderAnswer {
     Refused(Refusal),
 }
 
-fn header_word(text: &[u8], at: usize, word: usize) -> WordAnswer
-    ensures { λ r. ⌜ r ≡ wordFound (length (now (text .entry))) word (nextToken (now (text .entry)) at) ⌝ }
+// The next token, if it is what the header wants there; a number may be however large.
+fn header_field(text: &[u8], at: usize, wanted: Wanted) -> FieldAnswer
+    ensures { λ r. ⌜ r ≡ fieldFound (length (now (text .entry))) wanted (nextToken (now (text .entry)) at) ⌝ }
 {
     match next_token(text, at) {
-        Next::End => WordAnswer::Refused(Refusal {
-            reason: Reason::Headless,
-            place: text.len(),
-        }),
+        Next::End => FieldAnswer::Refused(Refusal::new(Reason::Headless, text.len())),
         Next::Found { token, place, next } => match token {
-            Token::Word(w) => if w == word {
-                WordAnswer::After(next)
-            } else {
-                WordAnswer::Refused(Refusal {
-                    reason: Reason::Headless,
-                    place,
-                })
+            Token::Natural(n) => match wanted {
+                Wanted::Number => FieldAnswer::Field { value: n, next },
+                Wanted::Word(_) => FieldAnswer::Refused(Refusal::new(Reason::Headless, place)),
             },
-            Token::Natural(_) => WordAnswer::Refused(Refusal {
-                reason: Reason::Headless,
-                place,
-            }),
-            Token::Negative(_) => WordAnswer::Refused(Refusal {
-                reason: Reason::Headless,
-                place,
-            }),
-        },
-    }
-}
-
-// A number without minus, however large.
-fn header_number(text: &[u8], at: usize) -> NumberAnswer
-    ensures { λ r. ⌜ r ≡ numberFound (length (now (text .entry))) (nextToken (now (text .entry)) at) ⌝ }
-{
-    match next_token(text, at) {
-        Next::End => NumberAnswer::Refused(Refusal {
-            reason: Reason::Headless,
-            place: text.len(),
-        }),
-        Next::Found { token, place, next } => match token {
-            Token::Natural(n) => NumberAnswer::Number { value: n, next },
-            Token::Negative(_) => NumberAnswer::Refused(Refusal {
-                reason: Reason::Headless,
-                place,
-            }),
-            Token::Word(_) => NumberAnswer::Refused(Refusal {
-                reason: Reason::Headless,
-                place,
-            }),
+            Token::Negative(_) => FieldAnswer::Refused(Refusal::new(Reason::Headless, place)),
+            Token::Word(w) => match wanted {
+                Wanted::Number => FieldAnswer::Refused(Refusal::new(Reason::Headless, place)),
+                Wanted::Word(word) => if w == word {
+                    FieldAnswer::Field { value: 0, next }
+                } else {
+                    FieldAnswer::Refused(Refusal::new(Reason::Headless, place))
+                },
+            },
         },
     }
 }
@@ -97,13 +70,10 @@ fn header_clauses(text: &[u8], at: usize, variables: VariableCount) -> HeaderAns
     requires { ⌜ variables .0 ≤ variableBound ⌝ }
     ensures { λ r. ⌜ HeaderPost (now (text .entry)) (wantsC (variables .0)) at r ⌝ }
 {
-    match header_number(text, at) {
-        NumberAnswer::Refused(r) => HeaderAnswer::Refused(r),
-        NumberAnswer::Number { value, next } => match ClauseCount::new(value) {
-            ClauseCountFit::Oversized => HeaderAnswer::Refused(Refusal {
-                reason: Reason::Oversized,
-                place: 0,
-            }),
+    match header_field(text, at, Wanted::Number) {
+        FieldAnswer::Refused(r) => HeaderAnswer::Refused(r),
+        FieldAnswer::Field { value, next } => match ClauseCount::new(value) {
+            ClauseCountFit::Oversized => HeaderAnswer::Refused(Refusal::new(Reason::Oversized, 0)),
             ClauseCountFit::Within(clauses) => HeaderAnswer::Header {
                 variables,
                 clauses,
@@ -117,13 +87,13 @@ fn header_clauses(text: &[u8], at: usize, variables: VariableCount) -> HeaderAns
 fn header_numbers(text: &[u8], at: usize) -> HeaderAnswer
     ensures { λ r. ⌜ HeaderPost (now (text .entry)) wantsV at r ⌝ }
 {
-    match header_number(text, at) {
-        NumberAnswer::Refused(r) => HeaderAnswer::Refused(r),
-        NumberAnswer::Number { value, next } => match VariableCount::new(value) {
-            VariableCountFit::Oversized => HeaderAnswer::Refused(Refusal {
-                reason: Reason::Oversized,
-                place: 0,
-            }),
+    match header_field(text, at, Wanted::Number) {
+        FieldAnswer::Refused(r) => HeaderAnswer::Refused(r),
+        FieldAnswer::Field { value, next } => match VariableCount::new(value) {
+            VariableCountFit::Oversized => HeaderAnswer::Refused(Refusal::new(
+                Reason::Oversized,
+                0,
+            )),
             VariableCountFit::Within(variables) => header_clauses(text, next, variables),
         },
     }
@@ -133,11 +103,13 @@ fn header_numbers(text: &[u8], at: usize) -> HeaderAnswer
 pub fn read_header(text: &[u8]) -> HeaderAnswer
     ensures { λ r. ⌜ HeaderPost (now (text .entry)) wantsP (firstToken (now (text .entry))) r ⌝ }
 {
-    match header_word(text, first_token(text), P) {
-        WordAnswer::Refused(r) => HeaderAnswer::Refused(r),
-        WordAnswer::After(at) => match header_word(text, at, CNF) {
-            WordAnswer::Refused(r) => HeaderAnswer::Refused(r),
-            WordAnswer::After(next) => header_numbers(text, next),
-        },
+    match header_field(text, first_token(text), Wanted::Word(P)) {
+        FieldAnswer::Refused(r) => HeaderAnswer::Refused(r),
+        FieldAnswer::Field { value: _, next: at } => {
+            match header_field(text, at, Wanted::Word(CNF)) {
+                FieldAnswer::Refused(r) => HeaderAnswer::Refused(r),
+                FieldAnswer::Field { value: _, next } => header_numbers(text, next),
+            }
+        }
     }
 }

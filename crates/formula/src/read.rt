@@ -14,8 +14,8 @@ ghost use Prim.Native.Nat.{_≤_};
 ghost use mathlib.Core.List.{[]};
 ghost use lib.ListN.{length};
 ghost use Rattle.formula.specs.Bounds.{variableBound, countBound};
-ghost use Rattle.formula.specs.Text.{betweenSets, reading, ReadPost};
-ghost use Rattle.formula.specs.Stage.{readingFrom, FillPost};
+ghost use Rattle.formula.specs.Text.{betweenSets, reading, readingFrom, ReadPost};
+ghost use Rattle.formula.specs.Text.Fill.{FillPost};
 
 // Read: the words used of each table, and C; or the refusal.
 pub enum ReadAnswer {
@@ -55,14 +55,12 @@ fn fill_tables(
     }
 }
 
+// The text's length, its header, then the rest.
 fn fill(text: &[u8], prefix: &mut [i32], clauses: &mut [i32]) -> ReadAnswer
     ensures { λ r. ⌜ FillPost (reading (now (text .entry)) (length (now (prefix .entry))) (length (now (clauses .entry)))) (now (prefix .exit)) (now (clauses .exit)) r ⌝ }
 {
     match TextLength::new(text.len()) {
-        TextFit::Oversized => ReadAnswer::Refused(Refusal {
-            reason: Reason::Oversized,
-            place: 0,
-        }),
+        TextFit::Oversized => ReadAnswer::Refused(Refusal::new(Reason::Oversized, 0)),
         TextFit::Within(_) => match read_header(text) {
             HeaderAnswer::Refused(r) => ReadAnswer::Refused(r),
             HeaderAnswer::Header {

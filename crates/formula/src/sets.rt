@@ -1,4 +1,8 @@
 // The quantifier sets of a formula's text: `a` or `e`, positive numbers, 0. A mark per variable says whether it is listed.
+use crate::literal::Variable;
+use crate::literal::VariableFit;
+use crate::prefix::entry_fits;
+use crate::prefix::put_entry;
 use crate::refusal::Reason;
 use crate::refusal::Refusal;
 use crate::token::A;
@@ -6,17 +10,17 @@ use crate::token::E;
 use crate::token::Next;
 use crate::token::Token;
 use crate::token::next_token;
-use crate::word::signed_word;
 ghost use mathlib.Core.Path.{_≡_};
-ghost use Prim.Native.Nat.{_≤_};
+ghost use Prim.Native.Nat.{_≤_, _<_};
 ghost use mathlib.Core.List.{[]};
 ghost use lib.ListN.{length, take};
 ghost use Rattle.formula.specs.Bounds.{variableBound};
-ghost use Rattle.formula.specs.Stage.{ListingPost, Listed, setClosing, SetTokenPost, SetPost, SetsPost};
+ghost use Rattle.formula.specs.Prefix.{prefixOf, quantifierOf};
+ghost use Rattle.formula.specs.Text.Sets.{ListingPost, Listed, setClosing, SetTokenPost, SetPost, SetsPost};
 
-// What a token of a set did.
+// What a token of a set did: listed a variable, so many words of the prefix being used then, or closed the set.
 pub enum SetStep {
-    Listed,
+    Listed(usize),
     Closed,
     Refused(Refusal),
 }
@@ -27,39 +31,35 @@ pub enum SetsAnswer {
     Refused(Refusal),
 }
 
+// Lists the variable of a number other than 0: 5 above V, 6 where it is marked, 3 where its entry has no room.
 fn list_variable(
     n: usize,
     place: usize,
     variables: usize,
-    positive: bool,
+    existential: bool,
     prefix: &mut [i32],
     used: usize,
     marks: &mut [usize; 1025],
 ) -> SetStep
-    requires { ⌜ (variables ≤ variableBound) × (length (now marks) ≡ 1025) ⌝ }
-    ensures { λ r. ⌜ ListingPost n place variables positive used (now (prefix .entry)) (now (marks .entry)) (now (prefix .exit)) (now (marks .exit)) r ⌝ }
+    requires { ⌜ (0 < n) × (variables ≤ variableBound) × (length (now marks) ≡ 1025) ⌝ }
+    ensures { λ r. ⌜ ListingPost n place variables (quantifierOf existential) used (now (prefix .entry)) (now (marks .entry)) (now (prefix .exit)) (now (marks .exit)) r ⌝ }
 {
-    if variables < n {
-        return SetStep::Refused(Refusal {
-            reason: Reason::OutOfRange,
-            place,
-        });
+    match Variable::new(n) {
+        VariableFit::Outside => SetStep::Refused(Refusal::new(Reason::OutOfRange, place)),
+        VariableFit::Within(variable) => {
+            if variables < n {
+                return SetStep::Refused(Refusal::new(Reason::OutOfRange, place));
+            }
+            if 0 < marks[n] {
+                return SetStep::Refused(Refusal::new(Reason::BoundTwice, place));
+            }
+            if entry_fits(prefix.len(), used) {
+                marks[n] = 1;
+                return SetStep::Listed(put_entry(prefix, used, existential, variable));
+            }
+            SetStep::Refused(Refusal::new(Reason::NoRoom, place))
+        }
     }
-    if 0 < marks[n] {
-        return SetStep::Refused(Refusal {
-            reason: Reason::BoundTwice,
-            place,
-        });
-    }
-    if prefix.len() <= used {
-        return SetStep::Refused(Refusal {
-            reason: Reason::NoRoom,
-            place,
-        });
-    }
-    prefix[used] = signed_word(positive, n);
-    marks[n] = 1;
-    SetStep::Listed
 }
 
 // A set's closing 0: an empty set is refused.
@@ -69,10 +69,7 @@ fn close_set(filled: bool, place: usize) -> SetStep
     if filled {
         return SetStep::Closed;
     }
-    SetStep::Refused(Refusal {
-        reason: Reason::BadToken,
-        place,
-    })
+    SetStep::Refused(Refusal::new(Reason::BadToken, place))
 }
 
 // A token of a set, which is `filled` once it lists a variable.
@@ -80,29 +77,23 @@ fn set_token(
     token: Token,
     place: usize,
     variables: usize,
-    positive: bool,
+    existential: bool,
     filled: bool,
     prefix: &mut [i32],
     used: usize,
     marks: &mut [usize; 1025],
 ) -> SetStep
-    requires { ⌜ (variables ≤ variableBound) × (used ≤ length (now prefix)) × Listed (now marks) (take used (now prefix)) ⌝ }
-    ensures { λ r. ⌜ SetTokenPost token place variables positive filled used (now (prefix .entry)) (now (marks .entry)) (now (prefix .exit)) (now (marks .exit)) r ⌝ }
+    requires { ⌜ (variables ≤ variableBound) × (used ≤ length (now prefix)) × Listed (now marks) (prefixOf (take used (now prefix))) ⌝ }
+    ensures { λ r. ⌜ SetTokenPost token place variables (quantifierOf existential) filled used (now (prefix .entry)) (now (marks .entry)) (now (prefix .exit)) (now (marks .exit)) r ⌝ }
 {
     match token {
         Token::Natural(n) => if 0 < n {
-            list_variable(n, place, variables, positive, prefix, used, marks)
+            list_variable(n, place, variables, existential, prefix, used, marks)
         } else {
             close_set(filled, place)
         },
-        Token::Negative(_) => SetStep::Refused(Refusal {
-            reason: Reason::BadToken,
-            place,
-        }),
-        Token::Word(_) => SetStep::Refused(Refusal {
-            reason: Reason::BadToken,
-            place,
-        }),
+        Token::Negative(_) => SetStep::Refused(Refusal::new(Reason::BadToken, place)),
+        Token::Word(_) => SetStep::Refused(Refusal::new(Reason::BadToken, place)),
     }
 }
 
@@ -111,28 +102,25 @@ fn read_set(
     text: &[u8],
     from: usize,
     variables: usize,
-    positive: bool,
+    existential: bool,
     prefix: &mut [i32],
     used: usize,
     marks: &mut [usize; 1025],
 ) -> SetsAnswer
-    requires { ⌜ (variables ≤ variableBound) × (used ≤ length (now prefix)) × Listed (now marks) (take used (now prefix)) ⌝ }
-    ensures { λ r. ⌜ SetPost (now (text .entry)) from variables positive used (now (prefix .entry)) (now (prefix .exit)) (now (marks .exit)) r ⌝ }
+    requires { ⌜ (variables ≤ variableBound) × (used ≤ length (now prefix)) × Listed (now marks) (prefixOf (take used (now prefix))) ⌝ }
+    ensures { λ r. ⌜ SetPost (now (text .entry)) from variables (quantifierOf existential) used (now (prefix .entry)) (now (prefix .exit)) (now (marks .exit)) r ⌝ }
 {
     let mut at = from;
     let mut n = used;
     loop {
         match next_token(text, at) {
-            Next::End => return SetsAnswer::Refused(Refusal {
-                reason: Reason::Unfinished,
-                place: text.len(),
-            }),
+            Next::End => return SetsAnswer::Refused(Refusal::new(Reason::Unfinished, text.len())),
             Next::Found { token, place, next } => {
                 match set_token(
                     token,
                     place,
                     variables,
-                    positive,
+                    existential,
                     used < n,
                     prefix,
                     n,
@@ -140,8 +128,8 @@ fn read_set(
                 ) {
                     SetStep::Refused(r) => return SetsAnswer::Refused(r),
                     SetStep::Closed => return SetsAnswer::Sets { used: n, next },
-                    SetStep::Listed => {
-                        n += 1;
+                    SetStep::Listed(more) => {
+                        n = more;
                         at = next;
                     }
                 }

@@ -50,18 +50,21 @@ pub enum Next {
     },
 }
 
+// Space, tab, CR, LF.
 fn is_blank(b: u8) -> bool
     ensures { λ r. ⌜ r ≡ isBlank b ⌝ }
 {
     (b == b' ') | (b == b'\t') | (b == b'\r') | (b == b'\n')
 }
 
+// `0` to `9`.
 fn is_digit(b: u8) -> bool
     ensures { λ r. ⌜ r ≡ isDigit b ⌝ }
 {
     (b'0' <= b) & (b <= b'9')
 }
 
+// Where a byte outside a comment leads; `comment` says whether one begins there.
 fn line_step(b: u8, comment: bool) -> Lead
     ensures { λ r. ⌜ r ≡ leadBlank (eqb b lineFeed) (isBlank b) comment ⌝ }
 {
@@ -74,6 +77,7 @@ fn line_step(b: u8, comment: bool) -> Lead
     if comment { Lead::Comment } else { Lead::Over }
 }
 
+// Where the bytes before the first token stand after one more.
 fn lead_step(lead: Lead, b: u8) -> Lead
     ensures { λ r. ⌜ r ≡ leadStep lead b ⌝ }
 {
@@ -117,6 +121,7 @@ fn numeral(n: usize, b: u8) -> usize
     if m < TOO_LARGE { m } else { TOO_LARGE }
 }
 
+// The number of a word with one more byte, never wrapped.
 fn spell(w: usize, b: u8) -> usize
     ensures { λ r. ⌜ r ≡ spell w b ⌝ }
 {
@@ -126,6 +131,7 @@ fn spell(w: usize, b: u8) -> usize
     256 * w + (b as usize)
 }
 
+// A word with one more byte: a digit makes a number of no word yet, and of a minus where it is not 0.
 fn grow_word(w: usize, b: u8) -> Token
     ensures { λ r. ⌜ r ≡ grow (Word w) b ⌝ }
 {

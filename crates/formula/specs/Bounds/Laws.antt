@@ -4,14 +4,16 @@ use Prim.Native.Nat.{ℕ, _≤_, _<_}
 use mathlib.Core.Path.{_≡_, refl, ap}
 use mathlib.Core.Bool.{Bool, true, false}
 use native.Mathlib.Omega.{arith}
-use borrow.Author.Tests.{le-leb, lt-leb}
+use borrow.Author.Tests.{leb-false, le-leb, lt-leb}
 use lib.Dec.{leb}
 use lib.IntN.{ℤ}
-use Rattle.formula.specs.Bounds.{variableBound, countBound, fit, variableCountFit, clauseCountFit, literalFit}
+use Rattle.formula.specs.Bounds.{variableBound, countBound, inRange, fit, variableCountFit, clauseCountFit, variableFit, literalFit}
 use Rattle.formula.specs.declared.bounds.VariableCount.{VariableCount}
 use Rattle.formula.specs.declared.bounds.VariableCountFit.the-variants.{Within as VariablesWithin}
 use Rattle.formula.specs.declared.bounds.ClauseCount.{ClauseCount}
 use Rattle.formula.specs.declared.bounds.ClauseCountFit.the-variants.{Within as ClausesWithin}
+use Rattle.formula.specs.declared.literal.Variable.{Variable}
+use Rattle.formula.specs.declared.literal.VariableFit.the-variants.{Within as VariableWithin, Outside as VariableOutside}
 use Rattle.formula.specs.declared.literal.Literal.{Literal}
 use Rattle.formula.specs.declared.literal.LiteralFit.the-variants.{Within as LiteralWithin, Outside as LiteralOutside}
 
@@ -47,6 +49,21 @@ clauses-made n k e = let m = fit-made _ _ _ _ e (λ z. cc) in (m .0, same (recor
   where
     same : (i j : ClauseCount) → ClausesWithin i ≡ ClausesWithin j → i .0 ≡ j .0
     same i j q = let r : i ≡ j = cc in ap (λ (x : ClauseCount). x .0) r
+
+-- A number that was made a variable, and one that was not.
+pub variable-made : (b : Bool) (n : ℕ) (k : Variable) → variableFit b n ≡ VariableWithin k → (b ≡ true) × (n ≡ k .0)
+variable-made true n k e = (refl, same (record { 0 = n }) k e)
+  where
+    same : (i j : Variable) → VariableWithin i ≡ VariableWithin j → i .0 ≡ j .0
+    same i j q = let r : i ≡ j = cc in ap (λ (x : Variable). x .0) r
+variable-made false n k e = let z : _≡_ {A = ℕ} 0 1 = cc in absurd (omega arith)
+
+pub variable-refused : (b : Bool) (n : ℕ) → variableFit b n ≡ VariableOutside → b ≡ false
+variable-refused true n e = let z : _≡_ {A = ℕ} 0 1 = cc in absurd (omega arith)
+variable-refused false n e = refl
+
+pub above-range : (n last : ℕ) → 0 < n → inRange n last ≡ false → last < n
+above-range n last h e = leb-false n last (rw (le-leb 1 n h) at e)
 
 -- A word that was made a literal, and one that was not.
 pub literal-made : (b : Bool) (w : ℤ) (l : Literal) → literalFit b w ≡ LiteralWithin l → (b ≡ true) × (w ≡ l .0)

@@ -17,7 +17,7 @@ use Rattle.qbf.specs.Formula.{Quantifier, existential, universal, Entry, entry,
 use Rattle.qbf.specs.Connectives.{and-both, or-either, or-right}
 use Rattle.formula.specs.Bounds.{variableBound}
 use Rattle.formula.specs.Word.{wordOf}
-use Rattle.formula.specs.Prefix.{entryOf, prefixOf, entryWord, prefixWords, entryCount, entryAt, laterEntries, entryFits, putEntry, usedAfter, shownBy, entryShown, isQuantifier, quantifies, Entries}
+use Rattle.formula.specs.Prefix.{entryOf, prefixOf, signedBy, entryWord, prefixWords, entryCount, entryAt, laterEntries, entryFits, putEntry, usedAfter, shownBy, entryShown, isQuantifier, quantifies, Entries}
 use Rattle.formula.specs.declared.literal.Variable.{Variable}
 use Rattle.formula.specs.declared.literal.Word.the-variants.{Positive, Negative}
 use Rattle.formula.specs.declared.prefix.Entry.the-variants.{Existential, Universal}
@@ -42,9 +42,30 @@ prefix-words [] = refl
 prefix-words (pos v ∷ ws) = ap {B = List ℤ} (λ r. pos v ∷ r) (prefix-words ws)
 prefix-words (negsuc n ∷ ws) = ap {B = List ℤ} (λ r. negsuc n ∷ r) (prefix-words ws)
 
+pub prefix-none : prefixOf [] ≡ []
+prefix-none = refl
+
 pub prefix-append : (ws vs : List ℤ) → prefixOf (ws ++ vs) ≡ prefixOf ws ++ prefixOf vs
 prefix-append [] vs = refl
 prefix-append (w ∷ ws) vs = ap {B = Prefix} (λ r. entryOf w ∷ r) (prefix-append ws vs)
+
+-- The variables of entries, told from their words.
+signed-magnitude : (q : Quantifier) (v : ℕ) → natAbs (signedBy q v) ≡ v
+signed-magnitude existential v = refl
+signed-magnitude universal zero = refl
+signed-magnitude universal (suc n) = refl
+
+pub words-listed : (P : Prefix) → listed (prefixOf (prefixWords P)) ≡ listed P
+unfolding prefixWords entryWord
+words-listed [] = refl
+words-listed (x ∷ P) = rw (entry-variable (entryWord x), signed-magnitude (x .quantifier) (x .variable), words-listed P)
+
+-- An entry of a variable other than 0 is that of its words.
+pub words-entry : (q : Quantifier) (v : ℕ) → 1 ≤ v → prefixOf (prefixWords (entry v q ∷ [])) ≡ entry v q ∷ []
+unfolding prefixWords entryWord
+words-entry q zero h = absurd (not-suc-le-zero h)
+words-entry existential (suc n) h = refl
+words-entry universal (suc n) h = refl
 
 pub words-append : (P Q : Prefix) → prefixWords (P ++ Q) ≡ prefixWords P ++ prefixWords Q
 unfolding prefixWords
@@ -130,6 +151,16 @@ entry-ranged ws h i l =
 pub put-entry : (ws : List ℤ) (used : ℕ) (x : Entry) → entryFits (length ws) used ≡ true → take (usedAfter used) (putEntry ws used x) ≡ take used ws ++ prefixWords (x ∷ [])
 unfolding entryFits usedAfter putEntry prefixWords
 put-entry ws used x h = rw add-one (take-suc-set ws used (entryWord x) (ltb-true used (length ws) h))
+
+pub put-entries :
+    (ws : List ℤ) (used v : ℕ) (q : Quantifier) → entryFits (length ws) used ≡ true → 1 ≤ v
+    → prefixOf (take (usedAfter used) (putEntry ws used (entry v q))) ≡ prefixOf (take used ws) ++ (entry v q ∷ [])
+put-entries ws used v q h l =
+    rw (put-entry ws used (entry v q) h, prefix-append (take used ws) (prefixWords (entry v q ∷ [])), words-entry q v l)
+
+pub put-more : (used : ℕ) → used < usedAfter used
+unfolding usedAfter
+put-more used = omega arith
 
 pub put-within : (room used : ℕ) → entryFits room used ≡ true → usedAfter used ≤ room
 unfolding entryFits usedAfter

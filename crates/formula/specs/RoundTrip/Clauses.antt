@@ -6,21 +6,23 @@ use mathlib.Core.Bool.{Bool, true, false}
 use mathlib.Core.Option.{Option, none, some}
 use mathlib.Core.List.{List, [], _∷_, _++_, append-assoc, append-nil}
 use native.Mathlib.Omega.{arith}
-use borrow.Author.Tests.{le-ltb, lt-leb}
+use borrow.Author.Tests.{lt-ltb, le-leb}
 use lib.ListN.{length, length-append}
 use lib.Dec.{ltb}
 use lib.IntN.{ℤ, pos, negsuc, natAbs}
 use Rattle.formula.specs.Bounds.{variableBound, matrixBound}
+use Rattle.qbf.specs.Formula.{Prefix, listed}
+use Rattle.formula.specs.Prefix.{prefixWords}
 use Rattle.formula.specs.Word.{wordOf}
 use Rattle.formula.specs.Decode.Laws.{positive-magnitude}
-use Rattle.formula.specs.Tables.{isIn, zeros, literalWord, clauseWord, clausesEnd, clausesRefusal, listedIn}
+use Rattle.formula.specs.Tables.{isIn, zeros, literalWord, clauseWord, clausesEnd, clausesRefusal}
 use Rattle.formula.specs.Tables.Laws.{Kind, kind, closing, large, signed, clause-word-large, clause-word-literal}
 use Rattle.formula.specs.Writing.{wordText, clausesText}
 use Rattle.formula.specs.Token.{placed, aWord, eWord}
-use Rattle.formula.specs.Text.{read, State, betweenSets, clauses, isWord, openFrom, openClause, isOpen, literalRefusal, closingRefusal, clausesToken, step, clausesEnding, ending}
-use Rattle.formula.specs.Stage.ClauseLaws.{open-literal, open-closing, zeros-literal, zeros-closing}
+use Rattle.formula.specs.Text.{read, State, betweenSets, clauses, isWord, signed as withSign, openFrom, openClause, isOpen, literalRefusal, closingRefusal, clausesToken, step, clausesEnding, ending}
+use Rattle.formula.specs.Text.Clauses.Laws.{open-literal, open-closing, zeros-literal, zeros-closing}
 use Rattle.formula.specs.RoundTrip.Scan.{Takes, takes-none, takes-append, takes-token, number-begins, negative-begins}
-use Rattle.formula.specs.RoundTrip.Prefix.{zero-begins, space-blank, feed-blank, positive, signed-word}
+use Rattle.formula.specs.RoundTrip.Prefix.{zero-begins, space-blank, feed-blank}
 use Rattle.formula.specs.declared.refusal.Refusal.{Refusal}
 use Rattle.formula.specs.declared.token.Token.{Token}
 use Rattle.formula.specs.declared.token.Token.the-variants.{Natural, Negative}
@@ -64,6 +66,16 @@ begun-closes known at v seen (negsuc n ∷ ws) h =
     begun-closes known (at + 1) (suc n) (v ∷ seen) ws
     (literal-passes known at (v ∷ seen) (λ s. clausesRefusal known (at + 1) s ws) (negsuc n) (omega arith) h .later)
 
+-- A word's sign as the reader keeps it.
+unfoldable positive : ℤ → Bool
+positive (pos n) = true
+positive (negsuc n) = false
+
+signed-word : (w : ℤ) → 1 ≤ natAbs w → withSign (positive w) (natAbs w) ≡ w
+unfolding positive
+signed-word (pos n) h = refl
+signed-word (negsuc n) h = refl
+
 -- One more literal: it stands first in the open clause, and closes none.
 open-word : (ws : List ℤ) (w : ℤ) → 1 ≤ natAbs w → openClause (ws ++ (w ∷ [])) ≡ natAbs w ∷ openClause ws
 open-word ws w h = rw (signed-word w h) at (open-literal [] ws (positive w) (natAbs w) (λ e. omega arith))
@@ -71,19 +83,23 @@ open-word ws w h = rw (signed-word w h) at (open-literal [] ws (positive w) (nat
 zeros-word : (ws : List ℤ) (w : ℤ) → 1 ≤ natAbs w → zeros (ws ++ (w ∷ [])) ≡ zeros ws
 zeros-word ws w h = rw (signed-word w h) at (zeros-literal ws (positive w) (natAbs w) (λ e. omega arith))
 
-module _ (prefixRoom clauseRoom v c : ℕ) (p : List ℤ) where
+module _ (prefixRoom clauseRoom v c : ℕ) (P : Prefix) where
+  -- The variables that the entries list.
+  abbrev known : ℕ → Bool
+  known n = isIn n (listed P)
+
   -- The reader is among the clauses, having read the words `done`: before the first of them it is still among the sets.
   pub record Among (s : State) (done : List ℤ) : Type 0 where
     pub steps :
         (t : Token) (at : ℕ) → isWord eWord t ≡ false → isWord aWord t ≡ false
-        → step prefixRoom clauseRoom s (placed t at) ≡ clausesToken prefixRoom clauseRoom at v c p done t
-    pub ends : (at : ℕ) → ending at s ≡ clausesEnding at (isOpen (openClause done)) (ltb (zeros done) c) (read p done c)
+        → step prefixRoom clauseRoom s (placed t at) ≡ clausesToken prefixRoom clauseRoom at v c P done t
+    pub ends : (at : ℕ) → ending at s ≡ clausesEnding at (isOpen (openClause done)) (ltb (zeros done) c) (read (prefixWords P) done c)
 
-  pub among-sets : Among (betweenSets v c p) []
+  pub among-sets : Among (betweenSets v c P) []
   unfolding step ending openFrom zeros
   among-sets = record { steps = λ t at e a. rw (e, a); ends = λ at. refl }
 
-  among-clauses : (done : List ℤ) → Among (clauses v c p done) done
+  among-clauses : (done : List ℤ) → Among (clauses v c P done) done
   unfolding step ending
   among-clauses done = record { steps = λ t at e a. refl; ends = λ at. refl }
 
@@ -95,57 +111,57 @@ module _ (prefixRoom clauseRoom v c : ℕ) (p : List ℤ) where
 
   closes :
       (s : State) (done : List ℤ) → Among s done → Room done
-      → Takes prefixRoom clauseRoom s (48 ∷ 10 ∷ []) (clauses v c p (done ++ (pos 0 ∷ [])))
+      → Takes prefixRoom clauseRoom s (48 ∷ 10 ∷ []) (clauses v c P (done ++ (pos 0 ∷ [])))
   unfolding closingRefusal
   closes s done a r =
       takes-token prefixRoom clauseRoom 10
-      (clauses v c p (done ++ (pos 0 ∷ [])))
+      (clauses v c P (done ++ (pos 0 ∷ [])))
       zero-begins
       feed-blank
       (λ at.
       a .steps (Natural 0) at refl refl
-      ∙ rw (lt-leb c (zeros done) (r .count), lt-leb matrixBound (length done) (r .words), lt-leb clauseRoom (length done) (r .room)))
+      ∙ rw (lt-ltb (zeros done) c (r .count), lt-ltb (length done) matrixBound (r .words), lt-ltb (length done) clauseRoom (r .room)))
 
   puts :
       (s : State) (done : List ℤ) (w : ℤ) → Among s done → Room done → v ≤ variableBound
-      → 1 ≤ natAbs w → natAbs w ≤ v → listedIn p (natAbs w) ≡ true → isIn (natAbs w) (openClause done) ≡ false
-      → Takes prefixRoom clauseRoom s (wordText w) (clauses v c p (done ++ (w ∷ [])))
+      → 1 ≤ natAbs w → natAbs w ≤ v → known (natAbs w) ≡ true → isIn (natAbs w) (openClause done) ≡ false
+      → Takes prefixRoom clauseRoom s (wordText w) (clauses v c P (done ++ (w ∷ [])))
   unfolding wordText literalRefusal
   puts s done (pos zero) a r b l h e f = absurd (omega arith)
   puts s done (pos (suc n)) a r b l h e f =
       takes-token prefixRoom clauseRoom 32
-      (clauses v c p (done ++ (pos (suc n) ∷ [])))
+      (clauses v c P (done ++ (pos (suc n) ∷ [])))
       (number-begins (suc n) (omega arith))
       space-blank
       (λ at.
       a .steps (Natural (suc n)) at refl refl
       ∙ rw (
-        lt-leb c (zeros done) (r .count),
-        le-ltb v (suc n) h,
-        lt-leb matrixBound (length done) (r .words),
+        lt-ltb (zeros done) c (r .count),
+        le-leb (suc n) v h,
+        lt-ltb (length done) matrixBound (r .words),
         e,
         f,
-        lt-leb clauseRoom (length done) (r .room),
+        lt-ltb (length done) clauseRoom (r .room),
       ))
   puts s done (negsuc n) a r b l h e f =
       takes-token prefixRoom clauseRoom 32
-      (clauses v c p (done ++ (negsuc n ∷ [])))
+      (clauses v c P (done ++ (negsuc n ∷ [])))
       (negative-begins (suc n) (omega arith) (omega arith))
       space-blank
       (λ at.
       a .steps (Negative (suc n)) at refl refl
       ∙ rw (
-        lt-leb c (zeros done) (r .count),
-        le-ltb v (suc n) h,
-        lt-leb matrixBound (length done) (r .words),
+        lt-ltb (zeros done) c (r .count),
+        le-leb (suc n) v h,
+        lt-ltb (length done) matrixBound (r .words),
         e,
         f,
-        lt-leb clauseRoom (length done) (r .room),
+        lt-ltb (length done) clauseRoom (r .room),
       ))
 
   -- Words that pass the check after `done`, with room for all and no clause too many or too few.
   pub record Passes (at : ℕ) (done ws : List ℤ) : Type 0 where
-    pub passes : clausesRefusal (listedIn p) at (openClause done) ws ≡ none
+    pub passes : clausesRefusal known at (openClause done) ws ≡ none
     pub count : zeros done + zeros ws ≡ c
     pub words : length done + length ws ≤ matrixBound
     pub room : length done + length ws ≤ clauseRoom
@@ -164,8 +180,8 @@ module _ (prefixRoom clauseRoom v c : ℕ) (p : List ℤ) where
   -- A word is taken and the later ones follow.
   reads-word :
       {s : State} {piece : List ℕ} (done : List ℤ) (w : ℤ) (ws : List ℤ) (text : List ℕ)
-      → Takes prefixRoom clauseRoom s piece (clauses v c p (done ++ (w ∷ [])))
-      → AllRead (clauses v c p (done ++ (w ∷ []))) text ((done ++ (w ∷ [])) ++ ws) → AllRead s (piece ++ text) (done ++ (w ∷ ws))
+      → Takes prefixRoom clauseRoom s piece (clauses v c P (done ++ (w ∷ [])))
+      → AllRead (clauses v c P (done ++ (w ∷ []))) text ((done ++ (w ∷ [])) ++ ws) → AllRead s (piece ++ text) (done ++ (w ∷ ws))
   reads-word {s} {piece} done w ws text t r =
       let e : (done ++ (w ∷ [])) ++ ws ≡ done ++ (w ∷ ws) = append-assoc done (w ∷ []) ws in
       record {
@@ -175,15 +191,15 @@ module _ (prefixRoom clauseRoom v c : ℕ) (p : List ℤ) where
         shut = rw e at (r .shut);
       }
 
-  module _ (b : v ≤ variableBound) (below : (n : ℕ) → listedIn p n ≡ true → n ≤ v) where
+  module _ (b : v ≤ variableBound) (below : (n : ℕ) → known n ≡ true → n ≤ v) where
     -- A literal, which is 1 or more in magnitude, and what is left of the check after it.
     literal-step :
         (at : ℕ) (s : State) (done : List ℤ) (w : ℤ) (ws : List ℤ) → 1 ≤ natAbs w → zeros (w ∷ ws) ≡ zeros ws → Among s done → Passes at done (w ∷ ws)
-        → Takes prefixRoom clauseRoom s (wordText w) (clauses v c p (done ++ (w ∷ []))) × Passes (at + 1) (done ++ (w ∷ [])) ws
+        → Takes prefixRoom clauseRoom s (wordText w) (clauses v c P (done ++ (w ∷ []))) × Passes (at + 1) (done ++ (w ∷ [])) ws
     unfolding clausesRefusal
     literal-step at s done w ws l z a h =
-        let q = literal-passes (listedIn p) at (openClause done) (λ seen. clausesRefusal (listedIn p) (at + 1) seen ws) w l (h .passes) in
-        let k : 1 ≤ zeros ws = begun-closes (listedIn p) (at + 1) (natAbs w) (openClause done) ws (q .later) in
+        let q = literal-passes known at (openClause done) (λ seen. clausesRefusal known (at + 1) seen ws) w l (h .passes) in
+        let k : 1 ≤ zeros ws = begun-closes known (at + 1) (natAbs w) (openClause done) ws (q .later) in
         let r : Room done =
         record { count = omega (arith, h .count, z, k); words = omega (arith, h .words); room = omega (arith, h .room) } in (
           puts s done w a r b l (below (natAbs w) (q .bound)) (q .bound) (q .new),
@@ -198,7 +214,7 @@ module _ (prefixRoom clauseRoom v c : ℕ) (p : List ℤ) where
     -- A closing 0.
     closing-step :
         (at : ℕ) (s : State) (done ws : List ℤ) → Among s done → Passes at done (pos 0 ∷ ws)
-        → Takes prefixRoom clauseRoom s (wordText (pos 0)) (clauses v c p (done ++ (pos 0 ∷ []))) × Passes (at + 1) (done ++ (pos 0 ∷ [])) ws
+        → Takes prefixRoom clauseRoom s (wordText (pos 0)) (clauses v c P (done ++ (pos 0 ∷ []))) × Passes (at + 1) (done ++ (pos 0 ∷ [])) ws
     unfolding clausesRefusal wordOf wordText zeros
     closing-step at s done ws a h =
         let r : Room done = record { count = omega (arith, h .count); words = omega (arith, h .words); room = omega (arith, h .room) } in (
@@ -218,12 +234,12 @@ module _ (prefixRoom clauseRoom v c : ℕ) (p : List ℤ) where
     clauses-reads at s done (pos zero ∷ ws) a h =
         let t = closing-step at s done ws a h in
         reads-word done (pos 0) ws (clausesText ws) (t .0)
-        (clauses-reads (at + 1) (clauses v c p (done ++ (pos 0 ∷ []))) (done ++ (pos 0 ∷ [])) ws (among-clauses (done ++ (pos 0 ∷ []))) (t .1))
+        (clauses-reads (at + 1) (clauses v c P (done ++ (pos 0 ∷ []))) (done ++ (pos 0 ∷ [])) ws (among-clauses (done ++ (pos 0 ∷ []))) (t .1))
     clauses-reads at s done (pos (suc n) ∷ ws) a h =
         let t = literal-step at s done (pos (suc n)) ws (omega arith) refl a h in
         reads-word done (pos (suc n)) ws (clausesText ws) (t .0)
-        (clauses-reads (at + 1) (clauses v c p (done ++ (pos (suc n) ∷ []))) (done ++ (pos (suc n) ∷ [])) ws (among-clauses (done ++ (pos (suc n) ∷ []))) (t .1))
+        (clauses-reads (at + 1) (clauses v c P (done ++ (pos (suc n) ∷ []))) (done ++ (pos (suc n) ∷ [])) ws (among-clauses (done ++ (pos (suc n) ∷ []))) (t .1))
     clauses-reads at s done (negsuc n ∷ ws) a h =
         let t = literal-step at s done (negsuc n) ws (omega arith) refl a h in
         reads-word done (negsuc n) ws (clausesText ws) (t .0)
-        (clauses-reads (at + 1) (clauses v c p (done ++ (negsuc n ∷ []))) (done ++ (negsuc n ∷ [])) ws (among-clauses (done ++ (negsuc n ∷ []))) (t .1))
+        (clauses-reads (at + 1) (clauses v c P (done ++ (negsuc n ∷ []))) (done ++ (negsuc n ∷ [])) ws (among-clauses (done ++ (negsuc n ∷ []))) (t .1))

@@ -4,14 +4,17 @@ use mathlib.Core.Path.{_≡_, refl, ap, sym, _∙_}
 use mathlib.Core.Logic.{_⊎_, inl, inr}
 use mathlib.Core.Bool.{Bool, true, false}
 use mathlib.Core.Option.{Option, none, some}
-use mathlib.Core.List.{List, [], _∷_, map, append-nil, List·Memᴰ, List·Memᴰ·not-nil, List·Memᴰ·cases-cons, Memᴰ·of-map}
+use mathlib.Core.List.{List, [], _∷_, append-nil, List·Memᴰ, List·Memᴰ·not-nil, List·Memᴰ·cases-cons, Memᴰ·of-map}
 use native.Mathlib.Omega.{arith}
 use borrow.Author.Tests.{le-leb, le-ltb}
 use lib.ListN.{length, take, replicate}
 use lib.Seq.{take-at}
 use lib.Dec.{leb}
 use lib.IntN.{ℤ, natAbs}
+use Rattle.qbf.specs.Formula.{listed}
 use Rattle.formula.specs.Bounds.{textBound}
+use Rattle.formula.specs.Prefix.{prefixOf, prefixWords}
+use Rattle.formula.specs.Prefix.Laws.{prefix-variables, prefix-words}
 use Rattle.formula.specs.Tables.{zeros, prefixRefusal, clausesRefusal, listedIn, sized, firstRefusal, ifSized, tablesRefusal, Admitted}
 use Rattle.formula.specs.Tables.Laws.{
   is-in-sound,
@@ -21,7 +24,7 @@ use Rattle.formula.specs.Tables.Laws.{
   admitted-prefix-distinct,
 }
 use Rattle.formula.specs.Written.{written, headerText, largest, ifRoom, writingRefusal, answerWriting, textAfter, Writes}
-use Rattle.formula.specs.Writing.{clausesText}
+use Rattle.formula.specs.Writing.{prefixText, clausesText}
 use Rattle.formula.specs.Written.Lines.{written-stream}
 use Rattle.formula.specs.Written.Length.{prefix-bounded, largest-bounded, written-fits}
 use Rattle.formula.specs.Token.{isBlank, leadFrom, between, tokensFrom, tokens}
@@ -44,9 +47,12 @@ member-largest (u ∷ ws) w m = go (List·Memᴰ·cases-cons m) (λ k. member-la
     go (inl e) later = omega (arith, ap natAbs e)
     go (inr k) later = omega (arith, later k)
 
+listed-member : (ws : List ℤ) (n : ℕ) → List·Memᴰ n (listed (prefixOf ws)) → (w : ℤ) × List·Memᴰ w ws × (natAbs w ≡ n)
+listed-member ws n m = Memᴰ·of-map natAbs ws (rw (prefix-variables ws) at m)
+
 listed-largest : (ws : List ℤ) (n : ℕ) → listedIn ws n ≡ true → n ≤ largest ws
 listed-largest ws n h =
-    let t = Memᴰ·of-map natAbs ws (is-in-sound n (map natAbs ws) h) in
+    let t = listed-member ws n (is-in-sound n (listed (prefixOf ws)) h) in
     omega (arith, t .2, member-largest ws (t .0) (t .1))
 
 -- The part of the check that judges the clause words.
@@ -65,30 +71,38 @@ unfolding leadFrom isBlank
 tokens-p bytes = refl
 
 module _ (p c : List ℤ) (prefixRoom clauseRoom : ℕ) (a : Admitted p c) (h : length p ≤ prefixRoom) (k : length c ≤ clauseRoom) where
-  prefix-lists : Lists (largest p) prefixRoom [] p
+  prefix-lists : Lists (largest p) prefixRoom [] (prefixOf p)
+  unfolding prefixWords
   prefix-lists =
       record {
-        range = λ w m. (admitted-prefix-word p c a w m .0, member-largest p w m);
-        distinct = admitted-prefix-distinct p c a;
+        range = λ n m.
+            let t = listed-member p n m in
+            rw (← t .2) (admitted-prefix-word p c a (t .0) (t .1) .0, member-largest p (t .0) (t .1));
+        distinct = rw (prefix-variables p) (admitted-prefix-distinct p c a);
         fresh = λ u m n. List·Memᴰ·not-nil m;
-        within = omega arith;
+        within = rw (prefix-words p) (omega arith);
       }
 
-  clauses-passes : Passes prefixRoom clauseRoom (largest p) (zeros c) p 0 [] c
+  prefix-lines : Takes prefixRoom clauseRoom (betweenSets (largest p) (zeros c) []) (prefixText 0 p) (betweenSets (largest p) (zeros c) (prefixOf p))
+  prefix-lines =
+      rw (prefix-words p) at
+      (prefix-taken prefixRoom clauseRoom (largest p) (zeros c) (prefixOf p) (largest-bounded p (prefix-bounded p c a)) prefix-lists)
+
+  clauses-passes : Passes prefixRoom clauseRoom (largest p) (zeros c) (prefixOf p) 0 [] c
   unfolding openFrom zeros
   clauses-passes =
       record { passes = clauses-pass p c a; count = omega arith; words = omega (arith, admitted-clauses-length p c a); room = omega arith }
 
-  clauses-read : AllRead prefixRoom clauseRoom (largest p) (zeros c) p (betweenSets (largest p) (zeros c) p) (clausesText c) c
+  clauses-read : AllRead prefixRoom clauseRoom (largest p) (zeros c) (prefixOf p) (betweenSets (largest p) (zeros c) (prefixOf p)) (clausesText c) c
   clauses-read =
-      clauses-reads prefixRoom clauseRoom (largest p) (zeros c) p
+      clauses-reads prefixRoom clauseRoom (largest p) (zeros c) (prefixOf p)
       (largest-bounded p (prefix-bounded p c a))
       (listed-largest p)
       0
-      (betweenSets (largest p) (zeros c) p)
+      (betweenSets (largest p) (zeros c) (prefixOf p))
       []
       c
-      (among-sets prefixRoom clauseRoom (largest p) (zeros c) p)
+      (among-sets prefixRoom clauseRoom (largest p) (zeros c) (prefixOf p))
       clauses-passes
 
   -- The whole text takes the reader from its start to where all is read.
@@ -97,9 +111,7 @@ module _ (p c : List ℤ) (prefixRoom clauseRoom : ℕ) (a : Admitted p c) (h : 
       rw (written-stream p c a)
       (takes-append prefixRoom clauseRoom
       (header-takes prefixRoom clauseRoom (largest p) (zeros c) (largest-bounded p (prefix-bounded p c a)) (admitted-count p c a))
-      (takes-append prefixRoom clauseRoom
-      (prefix-taken prefixRoom clauseRoom (largest p) (zeros c) p (largest-bounded p (prefix-bounded p c a)) prefix-lists)
-      (clauses-read .taken)))
+      (takes-append prefixRoom clauseRoom prefix-lines (clauses-read .taken)))
 
   tokens-written : tokens (written p c) ≡ tokensFrom 0 between (written p c)
   unfolding written headerText
@@ -112,7 +124,7 @@ module _ (p c : List ℤ) (prefixRoom clauseRoom : ℕ) (a : Admitted p c) (h : 
       ∙ text-taken .takes 0 []
 
   ending-written : (at : ℕ) → ending at (clauses-read .after) ≡ read p c (zeros c)
-  ending-written at = clauses-read .among .ends at ∙ rw (clauses-read .shut, le-ltb (zeros c) (zeros c) (omega arith))
+  ending-written at = clauses-read .among .ends at ∙ rw (clauses-read .shut, le-ltb (zeros c) (zeros c) (omega arith), prefix-words p)
 
   -- What is written is read as the tables that it was written from.
   pub written-read : reading (written p c) prefixRoom clauseRoom ≡ read p c (zeros c)

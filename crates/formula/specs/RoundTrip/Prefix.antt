@@ -9,7 +9,6 @@ use mathlib.Core.List.{
   [],
   _∷_,
   _++_,
-  map,
   append-assoc,
   append-nil,
   map-append,
@@ -21,19 +20,21 @@ use mathlib.Core.List.{
   Memᴰ·cast,
 }
 use native.Mathlib.Omega.{arith}
-use borrow.Author.Tests.{le-ltb, lt-leb}
+use borrow.Author.Tests.{lt-ltb, le-leb}
 use lib.ListN.{length, length-append}
 use lib.Dec.{eqb}
-use lib.IntN.{ℤ, pos, negsuc, natAbs}
-use Rattle.qbf.specs.Formula.{Distinct}
+use lib.IntN.{natAbs}
+use Rattle.qbf.specs.Formula.{Quantifier, existential, universal, Entry, entry, Prefix, listed, Distinct}
 use Rattle.formula.specs.Bounds.{variableBound, countBound}
-use Rattle.formula.specs.Tables.{listedIn}
+use Rattle.formula.specs.Prefix.{entryWord, prefixWords, entryFits}
+use Rattle.formula.specs.Prefix.Laws.{words-append}
+use Rattle.formula.specs.Tables.{isIn}
 use Rattle.formula.specs.Tables.Laws.{is-in-absent}
 use Rattle.formula.specs.Decimal.{decimal}
 use Rattle.formula.specs.Written.{headerText, letterOf}
 use Rattle.formula.specs.Writing.{lineEnd, lineTurn, entryText, prefixText}
 use Rattle.formula.specs.Token.{isBlank, isDigit, grow, numeral, spell, pWord, cnfWord, aWord, eWord}
-use Rattle.formula.specs.Text.{State, wantsP, wantsCnf, wantsV, wantsC, betweenSets, inSet, signed, variableRefusal, step}
+use Rattle.formula.specs.Text.{State, wantsP, wantsCnf, wantsV, wantsC, betweenSets, inSet, variableRefusal, step}
 use Rattle.formula.specs.RoundTrip.Scan.{Begins, begins-byte, grows-byte, begins-append, number-begins, Takes, takes-none, takes-append, takes-token}
 use Rattle.formula.specs.declared.token.Token.the-variants.{Natural, Word}
 
@@ -78,112 +79,123 @@ module _ (prefixRoom clauseRoom : ℕ) where
       (takes-append prefixRoom clauseRoom (takes-token prefixRoom clauseRoom 32 wantsCnf p-begins space-blank (λ at. refl))
       (takes-append prefixRoom clauseRoom (takes-token prefixRoom clauseRoom 32 wantsV cnf-begins space-blank (λ at. refl))
       (takes-append prefixRoom clauseRoom
-      (takes-token prefixRoom clauseRoom 32 (wantsC top) (number-begins top (omega arith)) space-blank (λ at. rw (le-ltb variableBound top h)))
-      (takes-token prefixRoom clauseRoom 10 (betweenSets top count []) (number-begins count k) feed-blank (λ at. rw (le-ltb countBound count k))))))
+      (takes-token prefixRoom clauseRoom 32 (wantsC top) (number-begins top (omega arith)) space-blank (λ at. rw (le-leb top variableBound h)))
+      (takes-token prefixRoom clauseRoom 10 (betweenSets top count []) (number-begins count k) feed-blank (λ at. rw (le-leb count countBound k))))))
 
--- A word's sign as the reader keeps it.
-unfoldable pub positive : ℤ → Bool
-positive (pos n) = true
-positive (negsuc n) = false
+-- Entries still to list after `done`: in range, each once, none of those done, and room for the words of all.
+pub record Lists (v room : ℕ) (done P : Prefix) : Type 0 where
+  pub range : (u : ℕ) → List·Memᴰ u (listed P) → (1 ≤ u) × (u ≤ v)
+  pub distinct : Distinct (listed P)
+  pub fresh : (u : ℕ) → List·Memᴰ u (listed done) → List·Memᴰ u (listed P) → ⊥
+  pub within : length (prefixWords done) + length (prefixWords P) ≤ room
 
-pub signed-word : (w : ℤ) → 1 ≤ natAbs w → signed (positive w) (natAbs w) ≡ w
-unfolding positive
-signed-word (pos n) h = refl
-signed-word (negsuc n) h = refl
-
--- Words still to list after `done`: in range, each once, none of those done, and room for all.
-pub record Lists (v room : ℕ) (done ws : List ℤ) : Type 0 where
-  pub range : (w : ℤ) → List·Memᴰ w ws → (1 ≤ natAbs w) × (natAbs w ≤ v)
-  pub distinct : Distinct (map natAbs ws)
-  pub fresh : (u : ℕ) → List·Memᴰ u (map natAbs done) → List·Memᴰ u (map natAbs ws) → ⊥
-  pub within : length done + length ws ≤ room
-
-lists-later : {v room : ℕ} {done : List ℤ} {w : ℤ} {ws : List ℤ} → Lists v room done (w ∷ ws) → Lists v room (done ++ (w ∷ [])) ws
-lists-later {v} {room} {done} {w} {ws} l =
+lists-later : {v room : ℕ} {done : Prefix} {x : Entry} {P : Prefix} → Lists v room done (x ∷ P) → Lists v room (done ++ (x ∷ [])) P
+unfolding prefixWords
+lists-later {v} {room} {done} {x} {P} l =
     record {
       range = λ u m. l .range u (List·Memᴰ·tail m);
       distinct = l .distinct .1;
-      fresh = λ u m k. apart u (List·Memᴰ·append-cases (map natAbs done) (rw (map-append natAbs done (w ∷ [])) at m)) k;
-      within = rw length-append (omega (arith, l .within));
+      fresh = λ u m k. apart u (List·Memᴰ·append-cases (listed done) (rw (map-append (λ (y : Entry). y .variable) done (x ∷ [])) at m)) k;
+      within = rw (words-append done (x ∷ []), length-append) (omega (arith, l .within));
     }
   where
-    apart : (u : ℕ) → List·Memᴰ u (map natAbs done) ⊎ List·Memᴰ u (natAbs w ∷ []) → List·Memᴰ u (map natAbs ws) → ⊥
+    apart : (u : ℕ) → List·Memᴰ u (listed done) ⊎ List·Memᴰ u (x .variable ∷ []) → List·Memᴰ u (listed P) → ⊥
     apart u (inl m) k = l .fresh u m (List·Memᴰ·tail k)
     apart u (inr m) k = l .distinct .0 (Memᴰ·cast (sym (List·Memᴰ·eq-of-singleton m)) k)
 
+-- An entry's word: its magnitude and its letter.
+word-variable : (q : Quantifier) (n : ℕ) → natAbs (entryWord (entry n q)) ≡ n
+unfolding entryWord
+word-variable existential n = refl
+word-variable universal zero = refl
+word-variable universal (suc n) = refl
+
+abbrev letter : Quantifier → ℕ
+letter existential = 101
+letter universal = 97
+
+word-letter : (q : Quantifier) (n : ℕ) → 1 ≤ n → letterOf (entryWord (entry n q)) ≡ letter q
+unfolding entryWord letterOf
+word-letter q zero h = absurd (omega arith)
+word-letter existential (suc n) h = refl
+word-letter universal (suc n) h = refl
+
 module _ (prefixRoom clauseRoom v c : ℕ) where
   -- The reader's state where the letter of the open line is `last`, none where that is 0.
-  data Line (done : List ℤ) : ℕ → State → Type 0 where
+  data Line (done : Prefix) : ℕ → State → Type 0 where
     none-open : Line done 0 (betweenSets v c done)
-    e-open : Line done 101 (inSet v c true true done)
-    a-open : Line done 97 (inSet v c false true done)
+    set-open : (q : Quantifier) → Line done (letter q) (inSet v c q true done)
 
   -- A line ends; a line begins; a variable is listed.
-  ends : (positive : Bool) (done : List ℤ) → Takes prefixRoom clauseRoom (inSet v c positive true done) (48 ∷ 10 ∷ []) (betweenSets v c done)
+  ends : (q : Quantifier) (done : Prefix) → Takes prefixRoom clauseRoom (inSet v c q true done) (48 ∷ 10 ∷ []) (betweenSets v c done)
   unfolding step
-  ends positive done = takes-token prefixRoom clauseRoom 10 (betweenSets v c done) zero-begins feed-blank (λ at. refl)
+  ends q done = takes-token prefixRoom clauseRoom 10 (betweenSets v c done) zero-begins feed-blank (λ at. refl)
 
-  begins-e : (done : List ℤ) → Takes prefixRoom clauseRoom (betweenSets v c done) (101 ∷ 32 ∷ []) (inSet v c true false done)
+  begins : (q : Quantifier) (done : Prefix) → Takes prefixRoom clauseRoom (betweenSets v c done) (letter q ∷ 32 ∷ []) (inSet v c q false done)
   unfolding step
-  begins-e done = takes-token prefixRoom clauseRoom 32 (inSet v c true false done) e-begins space-blank (λ at. refl)
-
-  begins-a : (done : List ℤ) → Takes prefixRoom clauseRoom (betweenSets v c done) (97 ∷ 32 ∷ []) (inSet v c false false done)
-  unfolding step
-  begins-a done = takes-token prefixRoom clauseRoom 32 (inSet v c false false done) a-begins space-blank (λ at. refl)
+  begins existential done = takes-token prefixRoom clauseRoom 32 (inSet v c existential false done) e-begins space-blank (λ at. refl)
+  begins universal done = takes-token prefixRoom clauseRoom 32 (inSet v c universal false done) a-begins space-blank (λ at. refl)
 
   lists-variable :
-      (positive filled : Bool) (done : List ℤ) (n : ℕ)
-      → 1 ≤ n → n ≤ v → v ≤ variableBound → listedIn done n ≡ false → length done < prefixRoom
-      → Takes prefixRoom clauseRoom (inSet v c positive filled done) (decimal n ++ (32 ∷ [])) (inSet v c positive true (done ++ (signed positive n ∷ [])))
-  unfolding step variableRefusal
-  lists-variable positive filled done zero p h b e r = absurd (omega arith)
-  lists-variable positive filled done (suc n) p h b e r =
+      (q : Quantifier) (filled : Bool) (done : Prefix) (n : ℕ)
+      → 1 ≤ n → n ≤ v → v ≤ variableBound → isIn n (listed done) ≡ false → length (prefixWords done) < prefixRoom
+      → Takes prefixRoom clauseRoom (inSet v c q filled done) (decimal n ++ (32 ∷ [])) (inSet v c q true (done ++ (entry n q ∷ [])))
+  unfolding step variableRefusal entryFits
+  lists-variable q filled done zero p h b e r = absurd (omega arith)
+  lists-variable q filled done (suc n) p h b e r =
       takes-token prefixRoom clauseRoom 32
-      (inSet v c positive true (done ++ (signed positive (suc n) ∷ [])))
+      (inSet v c q true (done ++ (entry (suc n) q ∷ [])))
       (number-begins (suc n) (omega arith))
       space-blank
-      (λ at. rw (le-ltb v (suc n) h, e, lt-leb prefixRoom (length done) r))
+      (λ at. rw (le-leb (suc n) v h, e, lt-ltb (length (prefixWords done)) prefixRoom r))
 
   -- What stands before a variable opens the line of its quantifier.
   turns :
-      (done : List ℤ) (w : ℤ) (last : ℕ) (s : State) → Line done last s
-      → (filled : Bool) × Takes prefixRoom clauseRoom s (lineTurn (eqb last (letterOf w)) last (letterOf w)) (inSet v c (positive w) filled done)
-  unfolding lineTurn lineEnd letterOf positive
-  turns done (pos n) last s none-open = (false, begins-e done)
-  turns done (pos n) last s e-open = (true, takes-none prefixRoom clauseRoom (inSet v c true true done))
-  turns done (pos n) last s a-open = (false, takes-append prefixRoom clauseRoom (ends false done) (begins-e done))
-  turns done (negsuc n) last s none-open = (false, begins-a done)
-  turns done (negsuc n) last s e-open = (false, takes-append prefixRoom clauseRoom (ends true done) (begins-a done))
-  turns done (negsuc n) last s a-open = (true, takes-none prefixRoom clauseRoom (inSet v c false true done))
+      (done : Prefix) (q : Quantifier) (last : ℕ) (s : State) → Line done last s
+      → (filled : Bool) × Takes prefixRoom clauseRoom s (lineTurn (eqb last (letter q)) last (letter q)) (inSet v c q filled done)
+  unfolding lineTurn lineEnd
+  turns done existential last s none-open = (false, begins existential done)
+  turns done universal last s none-open = (false, begins universal done)
+  turns done existential last s (set-open existential) = (true, takes-none prefixRoom clauseRoom (inSet v c existential true done))
+  turns done existential last s (set-open universal) = (false, takes-append prefixRoom clauseRoom (ends universal done) (begins existential done))
+  turns done universal last s (set-open existential) = (false, takes-append prefixRoom clauseRoom (ends existential done) (begins universal done))
+  turns done universal last s (set-open universal) = (true, takes-none prefixRoom clauseRoom (inSet v c universal true done))
 
-  -- The line of a word that was listed.
-  listed : (done : List ℤ) (w : ℤ) → Line done (letterOf w) (inSet v c (positive w) true done)
-  unfolding letterOf positive
-  listed done (pos n) = e-open
-  listed done (negsuc n) = a-open
-
-  closes : (done : List ℤ) (last : ℕ) (s : State) → Line done last s → Takes prefixRoom clauseRoom s (lineEnd last) (betweenSets v c done)
+  closes : (done : Prefix) (last : ℕ) (s : State) → Line done last s → Takes prefixRoom clauseRoom s (lineEnd last) (betweenSets v c done)
   unfolding lineEnd
   closes done last s none-open = takes-none prefixRoom clauseRoom (betweenSets v c done)
-  closes done last s e-open = ends true done
-  closes done last s a-open = ends false done
+  closes done last s (set-open existential) = ends existential done
+  closes done last s (set-open universal) = ends universal done
 
-  -- The prefix lines list the words in order.
+  -- An entry's text lists its variable.
+  entry-takes :
+      (done : Prefix) (q : Quantifier) (n last : ℕ) (s : State) → Line done last s
+      → 1 ≤ n → n ≤ v → v ≤ variableBound → isIn n (listed done) ≡ false → length (prefixWords done) < prefixRoom
+      → Takes prefixRoom clauseRoom s (entryText last (entryWord (entry n q))) (inSet v c q true (done ++ (entry n q ∷ [])))
+  unfolding entryText
+  entry-takes done q n last s o p h b e r =
+      let t = turns done q last s o in
+      rw (word-letter q n p, word-variable q n)
+      (takes-append prefixRoom clauseRoom (t .1) (lists-variable q (t .0) done n p h b e r))
+
+  -- The prefix lines list the entries in order.
   prefix-takes :
-      (done ws : List ℤ) (last : ℕ) (s : State) → v ≤ variableBound → Line done last s → Lists v prefixRoom done ws
-      → Takes prefixRoom clauseRoom s (prefixText last ws) (betweenSets v c (done ++ ws))
-  unfolding prefixText entryText
+      (done P : Prefix) (last : ℕ) (s : State) → v ≤ variableBound → Line done last s → Lists v prefixRoom done P
+      → Takes prefixRoom clauseRoom s (prefixText last (prefixWords P)) (betweenSets v c (done ++ P))
+  unfolding prefixText prefixWords
   prefix-takes done [] last s b o l = rw append-nil (closes done last s o)
-  prefix-takes done (w ∷ ws) last s b o l =
-      let t = turns done w last s o in
-      let r = l .range w (List·Memᴰ·head refl) in
-      let e : listedIn done (natAbs w) ≡ false = is-in-absent (natAbs w) (map natAbs done) (λ m. l .fresh (natAbs w) m (List·Memᴰ·head refl)) in
-      let g = lists-variable (positive w) (t .0) done (natAbs w) (r .0) (r .1) b e (omega (arith, l .within)) in
-      let later = prefix-takes (done ++ (w ∷ [])) ws (letterOf w) (inSet v c (positive w) true (done ++ (w ∷ []))) b (listed (done ++ (w ∷ [])) w) (lists-later l) in
-      takes-append prefixRoom clauseRoom
-      (takes-append prefixRoom clauseRoom (t .1) (rw (signed-word w (r .0)) at g))
-      (rw (append-assoc done (w ∷ []) ws) at later)
+  prefix-takes done (x ∷ P) last s b o l =
+      let n = x .variable in
+      let q = x .quantifier in
+      let r = l .range n (List·Memᴰ·head refl) in
+      let e : isIn n (listed done) ≡ false = is-in-absent n (listed done) (λ m. l .fresh n m (List·Memᴰ·head refl)) in
+      let first = entry-takes done q n last s o (r .0) (r .1) b e (omega (arith, l .within)) in
+      let later = prefix-takes (done ++ (x ∷ [])) P (letter q) (inSet v c q true (done ++ (x ∷ []))) b (set-open q) (lists-later l) in
+      takes-append prefixRoom clauseRoom first
+      (rw (word-letter q n (r .0)) (rw (append-assoc done (x ∷ []) P) at later))
 
   -- From an empty prefix.
-  pub prefix-taken : (ws : List ℤ) → v ≤ variableBound → Lists v prefixRoom [] ws → Takes prefixRoom clauseRoom (betweenSets v c []) (prefixText 0 ws) (betweenSets v c ws)
-  prefix-taken ws b l = prefix-takes [] ws 0 (betweenSets v c []) b none-open l
+  pub prefix-taken :
+      (P : Prefix) → v ≤ variableBound → Lists v prefixRoom [] P
+      → Takes prefixRoom clauseRoom (betweenSets v c []) (prefixText 0 (prefixWords P)) (betweenSets v c P)
+  prefix-taken P b l = prefix-takes [] P 0 (betweenSets v c []) b none-open l

@@ -452,7 +452,7 @@ admitted-tables p c a =
       prefix-range = P .range;
       prefix-distinct = P .distinct;
       clause-range = C .range;
-      clause-bound = λ w m z. is-in-sound (natAbs w) (map natAbs p) (C .bound w m z);
+      clause-bound = λ w m z. is-in-sound (natAbs w) (map natAbs p) (rw (prefix-variables p) at (C .bound w m z));
       clause-distinct = clauses-split {P = λ (D : List ℤ). Distinct (map natAbs D)} c (C .distinct) (C .later);
       closed = C .closed;
     }
@@ -468,7 +468,7 @@ tables-admitted p c t =
     clauses-complete (listedIn p) 0 [] c
     (record {
       range = t .clause-range;
-      bound = λ w m z. is-in-complete (natAbs w) (map natAbs p) (t .clause-bound w m z);
+      bound = λ w m z. rw (prefix-variables p) (is-in-complete (natAbs w) (map natAbs p) (t .clause-bound w m z));
       distinct = first-of-clauses {P = λ (D : List ℤ). Distinct (map natAbs D)} c tt (t .clause-distinct);
       fresh = λ v m k. List·Memᴰ·not-nil m;
       later = later-of-clauses {P = λ (D : List ℤ). Distinct (map natAbs D)} c (t .clause-distinct);

@@ -1,19 +1,22 @@
 -- What is read is admitted: the words that a text is read as pass the check of tables, and C is their number of clauses.
 -- A property of each state is kept by every token. Assumes nothing.
 use Prim.Native.Nat.{ℕ, zero, suc, _+_, _≤_, _<_}
-use mathlib.Core.Path.{_≡_, refl, _∙_}
+use mathlib.Core.Path.{_≡_, refl, ap, _∙_}
 use mathlib.Core.Bool.{Bool, true, false, not, or-comm}
 use mathlib.Core.Option.{Option, none, some}
 use mathlib.Core.List.{List, [], _∷_, _++_, append-assoc, append-nil}
 use native.Mathlib.Numerals.{add-one}
 use native.Mathlib.Omega.{arith}
-use borrow.Author.Tests.{ltb-false, leb-false, le-leb}
+use borrow.Author.Tests.{ltb-true, ltb-false, leb-true, le-leb}
 use lib.ListN.{length, length-append}
 use lib.Dec.{leb, ltb, eqb}
 use lib.IntN.{ℤ, pos}
 use Rattle.formula.specs.Bounds.{variableBound, countBound, matrixBound, textBound}
+use Rattle.qbf.specs.Formula.{Quantifier, existential, universal, entry, Prefix, listed}
 use Rattle.formula.specs.Word.{wordOf}
-use Rattle.formula.specs.Refusal.{refusal}
+use Rattle.formula.specs.Prefix.{entryWord, prefixWords, entryFits}
+use Rattle.formula.specs.Prefix.Laws.{words-listed, words-append}
+use Rattle.formula.specs.Refusal.{refusal, require}
 use Rattle.formula.specs.Tables.{
   isIn,
   zeros,
@@ -28,22 +31,22 @@ use Rattle.formula.specs.Tables.{
   Admitted,
 }
 use Rattle.formula.specs.Token.{pWord, cnfWord, aWord, eWord, Placed, tokens}
-use Rattle.formula.specs.Text.{read, refused, State, wantsP, wantsCnf, wantsV, wantsC, betweenSets, inSet, clauses, stopped, isWord, unless, refuse, signed, openClause, openFrom, isOpen, headerWord, headerNumber, opens, tooMany, setToken, putLiteral, clauseToken, clausesToken, clausesEnding, step, run, ending, ifShort, reading}
-use Rattle.formula.specs.Text.Laws.{refuse-none, variable-fine, literal-fine, closing-fine}
+use Rattle.formula.specs.Text.{read, refused, State, wantsP, wantsCnf, wantsV, wantsC, betweenSets, inSet, clauses, stopped, isWord, unless, signed, openClause, openFrom, isOpen, headerWord, headerNumber, opens, setToken, putLiteral, clauseToken, clausesToken, clausesEnding, step, run, ending, reading}
+use Rattle.formula.specs.Text.Laws.{variable-fine, literal-fine, closing-fine}
 use Rattle.formula.specs.Text.Distinct.{Apart, Ranged, ranged-in, apart-few}
-use Rattle.formula.specs.Stage.SetLaws.{signed-variable, listed-snoc}
-use Rattle.formula.specs.Stage.ClauseLaws.{open-literal, open-closing, zeros-literal, zeros-closing}
-use Rattle.formula.specs.declared.refusal.Reason.the-variants.{Headless, Oversized, BadToken}
+use Rattle.formula.specs.Text.Sets.Laws.{listed-snoc}
+use Rattle.formula.specs.Text.Clauses.Laws.{open-literal, open-closing, zeros-literal, zeros-closing}
+use Rattle.formula.specs.declared.refusal.Reason.the-variants.{Headless, Oversized, BadToken, Miscount}
 use Rattle.formula.specs.declared.refusal.Refusal.{Refusal}
 use Rattle.formula.specs.declared.token.Token.{Token}
 use Rattle.formula.specs.declared.token.Token.the-variants.{Natural, Negative, Word}
 
--- A variable with a sign, within the range, as a word of the prefix and of a clause.
-prefix-word : (at : ℕ) (seen : List ℕ) (positive : Bool) (n : ℕ) (next : ℕ → Option Refusal) → (n ≡ 0 → ⊥) → n ≤ variableBound → prefixWord at seen (wordOf (signed positive n)) next ≡ listing at (isIn n seen) (next n)
-unfolding wordOf
-prefix-word at seen positive zero next z h = absurd (z refl)
-prefix-word at seen true (suc n) next z h = rw (le-leb (suc n) variableBound h)
-prefix-word at seen false (suc n) next z h = rw (le-leb (suc n) variableBound h)
+-- A variable within the range as an entry of the prefix, and with a sign as a word of a clause.
+prefix-word : (at : ℕ) (seen : List ℕ) (q : Quantifier) (n : ℕ) (next : ℕ → Option Refusal) → (n ≡ 0 → ⊥) → n ≤ variableBound → prefixWord at seen (wordOf (entryWord (entry n q))) next ≡ listing at (isIn n seen) (next n)
+unfolding wordOf entryWord
+prefix-word at seen q zero next z h = absurd (z refl)
+prefix-word at seen existential (suc n) next z h = rw (le-leb (suc n) variableBound h)
+prefix-word at seen universal (suc n) next z h = rw (le-leb (suc n) variableBound h)
 
 clause-word : (known : ℕ → Bool) (at : ℕ) (seen : List ℕ) (positive : Bool) (n : ℕ) (next : List ℕ → Option Refusal) → (n ≡ 0 → ⊥) → n ≤ variableBound → clauseWord known at seen (wordOf (signed positive n)) next ≡ literalWord at (known n) (isIn n seen) (next (n ∷ seen))
 unfolding wordOf
@@ -54,55 +57,62 @@ clause-word known at seen false (suc n) next z h = rw (le-leb (suc n) variableBo
 length-snoc : (ws : List ℤ) (w : ℤ) → length (ws ++ (w ∷ [])) ≡ length ws + 1
 length-snoc ws w = length-append ws (w ∷ [])
 
--- The prefix words pass: what follows them is checked as if they were seen.
-pub record PrefixPasses (v : ℕ) (prefix : List ℤ) : Type 0 where
+-- The words of the entries pass: what follows them is checked as if their variables were seen.
+pub record PrefixPasses (v : ℕ) (P : Prefix) : Type 0 where
   pub seen : List ℕ
-  pub agrees : (n : ℕ) → isIn n seen ≡ listedIn prefix n
-  pub passes : (rest : List ℤ) → prefixRefusal 0 [] (prefix ++ rest) ≡ prefixRefusal (length prefix) seen rest
+  pub agrees : (n : ℕ) → isIn n seen ≡ isIn n (listed P)
+  pub passes : (rest : List ℤ) → prefixRefusal 0 [] (prefixWords P ++ rest) ≡ prefixRefusal (length (prefixWords P)) seen rest
   pub apart : Apart seen
   pub ranged : Ranged v seen
-  pub long : length prefix ≡ length seen
+  pub long : length (prefixWords P) ≡ length seen
 
 prefix-empty : (v : ℕ) → PrefixPasses v []
+unfolding prefixWords
 prefix-empty v = record { seen = []; agrees = λ n. refl; passes = λ rest. refl; apart = tt; ranged = tt; long = refl }
 
-prefix-more : (v : ℕ) (prefix : List ℤ) (positive : Bool) (n : ℕ) → v ≤ variableBound → PrefixPasses v prefix → (n ≡ 0 → ⊥) → n ≤ v → listedIn prefix n ≡ false → PrefixPasses v (prefix ++ (signed positive n ∷ []))
+-- One more entry is one more word.
+words-snoc : (P : Prefix) (n : ℕ) (q : Quantifier) → prefixWords (P ++ (entry n q ∷ [])) ≡ prefixWords P ++ (entryWord (entry n q) ∷ [])
+unfolding prefixWords
+words-snoc P n q = words-append P (entry n q ∷ [])
+
+prefix-more : (v : ℕ) (P : Prefix) (q : Quantifier) (n : ℕ) → v ≤ variableBound → PrefixPasses v P → (n ≡ 0 → ⊥) → n ≤ v → isIn n (listed P) ≡ false → PrefixPasses v (P ++ (entry n q ∷ []))
 unfolding isIn prefixRefusal
-prefix-more v prefix positive n b P z h f =
-    let absent : isIn n (P .seen) ≡ false = P .agrees n ∙ f in
+prefix-more v P q n b h z l f =
+    let absent : isIn n (h .seen) ≡ false = h .agrees n ∙ f in
+    let w = entryWord (entry n q) in
     record {
-      seen = n ∷ P .seen;
-      agrees = λ m. rw (listed-snoc m prefix (signed positive n), signed-variable, ← P .agrees m) (or-comm (eqb m n) (isIn m (P .seen)));
-      passes = λ rest. rw (append-assoc, P .passes (signed positive n ∷ rest), prefix-word (length prefix) (P .seen) positive n (λ u. prefixRefusal (length prefix + 1) (u ∷ P .seen) rest) z (omega (arith, b, h)), absent, length-snoc prefix (signed positive n));
-      apart = (absent, P .apart);
-      ranged = (omega (arith, z), h, P .ranged);
-      long = rw (length-snoc prefix (signed positive n), P .long) (add-one (length (P .seen)));
+      seen = n ∷ h .seen;
+      agrees = λ m. rw (listed-snoc m P n q, ← h .agrees m) (or-comm (eqb m n) (isIn m (h .seen)));
+      passes = λ rest. rw (words-snoc P n q, append-assoc, h .passes (w ∷ rest), prefix-word (length (prefixWords P)) (h .seen) q n (λ u. prefixRefusal (length (prefixWords P) + 1) (u ∷ h .seen) rest) z (omega (arith, b, l)), absent, length-snoc (prefixWords P) w);
+      apart = (absent, h .apart);
+      ranged = (omega (arith, z), l, h .ranged);
+      long = rw (words-snoc P n q, length-snoc (prefixWords P) w, h .long) (add-one (length (h .seen)));
     }
 
 -- The clause words pass: what follows them is checked with the open clause as seen.
-pub record ClausesPass (c : ℕ) (prefix words : List ℤ) : Type 0 where
-  pub passes : (rest : List ℤ) → clausesRefusal (listedIn prefix) 0 [] (words ++ rest) ≡ clausesRefusal (listedIn prefix) (length words) (openClause words) rest
+pub record ClausesPass (c : ℕ) (P : Prefix) (words : List ℤ) : Type 0 where
+  pub passes : (rest : List ℤ) → clausesRefusal (λ m. isIn m (listed P)) 0 [] (words ++ rest) ≡ clausesRefusal (λ m. isIn m (listed P)) (length words) (openClause words) rest
   pub short : length words ≤ matrixBound
   pub few : zeros words ≤ c
 
-clauses-empty : (c : ℕ) (prefix : List ℤ) → ClausesPass c prefix []
+clauses-empty : (c : ℕ) (P : Prefix) → ClausesPass c P []
 unfolding openFrom zeros
-clauses-empty c prefix = record { passes = λ rest. refl; short = omega arith; few = omega arith }
+clauses-empty c P = record { passes = λ rest. refl; short = omega arith; few = omega arith }
 
-clauses-literal : (c : ℕ) (prefix words : List ℤ) (positive : Bool) (n : ℕ) → ClausesPass c prefix words → (n ≡ 0 → ⊥) → n ≤ variableBound → listedIn prefix n ≡ true → isIn n (openClause words) ≡ false → length words < matrixBound → ClausesPass c prefix (words ++ (signed positive n ∷ []))
+clauses-literal : (c : ℕ) (P : Prefix) (words : List ℤ) (positive : Bool) (n : ℕ) → ClausesPass c P words → (n ≡ 0 → ⊥) → n ≤ variableBound → isIn n (listed P) ≡ true → isIn n (openClause words) ≡ false → length words < matrixBound → ClausesPass c P (words ++ (signed positive n ∷ []))
 unfolding clausesRefusal
-clauses-literal c prefix words positive n P z h known apart l =
+clauses-literal c P words positive n K z h known apart l =
     record {
-      passes = λ rest. rw (append-assoc, P .passes (signed positive n ∷ rest), clause-word (listedIn prefix) (length words) (openClause words) positive n (λ seen. clausesRefusal (listedIn prefix) (length words + 1) seen rest) z h, known, apart, length-snoc words (signed positive n), open-literal [] words positive n z);
+      passes = λ rest. rw (append-assoc, K .passes (signed positive n ∷ rest), clause-word (λ m. isIn m (listed P)) (length words) (openClause words) positive n (λ seen. clausesRefusal (λ m. isIn m (listed P)) (length words + 1) seen rest) z h, known, apart, length-snoc words (signed positive n), open-literal [] words positive n z);
       short = rw (length-snoc words (signed positive n)) (omega arith);
-      few = rw (zeros-literal words positive n z) (P .few);
+      few = rw (zeros-literal words positive n z) (K .few);
     }
 
-clauses-closing : (c : ℕ) (prefix words : List ℤ) → ClausesPass c prefix words → zeros words < c → length words < matrixBound → ClausesPass c prefix (words ++ (pos 0 ∷ []))
+clauses-closing : (c : ℕ) (P : Prefix) (words : List ℤ) → ClausesPass c P words → zeros words < c → length words < matrixBound → ClausesPass c P (words ++ (pos 0 ∷ []))
 unfolding clausesRefusal wordOf
-clauses-closing c prefix words P k l =
+clauses-closing c P words K k l =
     record {
-      passes = λ rest. rw (append-assoc, P .passes (pos 0 ∷ rest), length-snoc words (pos 0), open-closing [] words);
+      passes = λ rest. rw (append-assoc, K .passes (pos 0 ∷ rest), length-snoc words (pos 0), open-closing [] words);
       short = rw (length-snoc words (pos 0)) (omega arith);
       few = rw (zeros-closing words) k;
     }
@@ -113,76 +123,73 @@ Sound wantsP = Unit {0}
 Sound wantsCnf = Unit {0}
 Sound wantsV = Unit {0}
 Sound (wantsC v) = v ≤ variableBound
-Sound (betweenSets v c prefix) = (v ≤ variableBound) × (c ≤ countBound) × PrefixPasses v prefix
-Sound (inSet v c positive filled prefix) = (v ≤ variableBound) × (c ≤ countBound) × PrefixPasses v prefix
-Sound (clauses v c prefix words) =
-    (v ≤ variableBound) × (c ≤ countBound) × PrefixPasses v prefix × ClausesPass c prefix words
+Sound (betweenSets v c P) = (v ≤ variableBound) × (c ≤ countBound) × PrefixPasses v P
+Sound (inSet v c q filled P) = (v ≤ variableBound) × (c ≤ countBound) × PrefixPasses v P
+Sound (clauses v c P words) =
+    (v ≤ variableBound) × (c ≤ countBound) × PrefixPasses v P × ClausesPass c P words
 Sound (stopped r) = Unit {0}
 
 unless-sound : (x : Option Refusal) (s : State) → (x ≡ none → Sound s) → Sound (unless x s)
 unless-sound (some r) s h = tt
 unless-sound none s h = h refl
 
-word-sound : (w at : ℕ) (t : Token) (next : State) → Sound next → Sound (headerWord w at t next)
-word-sound w at t next h = unless-sound (refuse (not (isWord w t)) (refusal Headless at) none) next (λ e. h)
+require-sound : (b : Bool) (r : Refusal) (s : State) → (b ≡ true → Sound s) → Sound (require b (stopped r) s)
+require-sound true r s h = h refl
+require-sound false r s h = tt
 
 number-sound : (bound at : ℕ) (t : Token) (next : ℕ → State) → ((n : ℕ) → n ≤ bound → Sound (next n)) → Sound (headerNumber bound at t next)
-number-sound bound at (Natural n) next h =
-    unless-sound (refuse (ltb bound n) (refusal Oversized 0) none) (next n) λ e.
-    h n (ltb-false bound n (refuse-none (ltb bound n) (refusal Oversized 0) none e .0))
+number-sound bound at (Natural n) next h = require-sound (leb n bound) (refusal Oversized 0) (next n) (λ e. h n (leb-true n bound e))
 number-sound bound at (Negative n) next h = tt
 number-sound bound at (Word w) next h = tt
 
 module _ (prefixRoom clauseRoom : ℕ) where
-  set-sound : (at v c : ℕ) (positive filled : Bool) (prefix : List ℤ) (t : Token) → (v ≤ variableBound) × (c ≤ countBound) × PrefixPasses v prefix → Sound (setToken prefixRoom clauseRoom at v c positive filled prefix t)
-  set-sound at v c positive filled prefix (Natural zero) h =
-      unless-sound (refuse (not filled) (refusal BadToken at) none) (betweenSets v c prefix) (λ e. h)
-  set-sound at v c positive filled prefix (Natural (suc n)) h =
-      unless-sound _ (inSet v c positive true (prefix ++ (signed positive (suc n) ∷ []))) λ e.
-      let f = variable-fine at v (suc n) (listedIn prefix (suc n)) (length prefix) prefixRoom e in
-      (h .0, h .1, prefix-more v prefix positive (suc n) (h .0) (h .2) (λ z. omega arith) (f .inRange) (f .fresh))
-  set-sound at v c positive filled prefix (Negative n) h = tt
-  set-sound at v c positive filled prefix (Word w) h = tt
+  set-sound : (at v c : ℕ) (q : Quantifier) (filled : Bool) (P : Prefix) (t : Token) → (v ≤ variableBound) × (c ≤ countBound) × PrefixPasses v P → Sound (setToken prefixRoom clauseRoom at v c q filled P t)
+  set-sound at v c q filled P (Natural zero) h =
+      require-sound filled (refusal BadToken at) (betweenSets v c P) (λ e. h)
+  set-sound at v c q filled P (Natural (suc n)) h =
+      unless-sound _ (inSet v c q true (P ++ (entry (suc n) q ∷ []))) λ e.
+      let f = variable-fine at v (suc n) (isIn (suc n) (listed P)) (entryFits prefixRoom (length (prefixWords P))) e in
+      (h .0, h .1, prefix-more v P q (suc n) (h .0) (h .2) (λ z. omega arith) (f .inRange) (f .fresh))
+  set-sound at v c q filled P (Negative n) h = tt
+  set-sound at v c q filled P (Word w) h = tt
 
-  literal-sound : (at v c : ℕ) (prefix words : List ℤ) (positive : Bool) (n : ℕ) → Sound (clauses v c prefix words) → Sound (putLiteral prefixRoom clauseRoom at v c prefix words positive n)
-  literal-sound at v c prefix words positive n h =
-      unless-sound _ (clauses v c prefix (words ++ (signed positive n ∷ []))) λ e.
-      let f = literal-fine at v n (listedIn prefix n) (isIn n (openClause words)) (length words) clauseRoom e in
+  literal-sound : (at v c : ℕ) (P : Prefix) (words : List ℤ) (positive : Bool) (n : ℕ) → Sound (clauses v c P words) → Sound (putLiteral prefixRoom clauseRoom at v c P words positive n)
+  literal-sound at v c P words positive n h =
+      unless-sound _ (clauses v c P (words ++ (signed positive n ∷ []))) λ e.
+      let f = literal-fine at v n (isIn n (listed P)) (isIn n (openClause words)) (length words) clauseRoom e in
       let r = ranged-in v n (h .2 .seen) (h .2 .ranged) (h .2 .agrees n ∙ f .isBound) in
-      (h .0, h .1, h .2, clauses-literal c prefix words positive n (h .3) (λ z. omega (arith, r .0)) (omega (arith, h .0, r .1)) (f .isBound) (f .apart) (f .short))
+      (h .0, h .1, h .2, clauses-literal c P words positive n (h .3) (λ z. omega (arith, r .0)) (omega (arith, h .0, r .1)) (f .isBound) (f .apart) (f .short))
 
-  clause-sound : (at v c : ℕ) (prefix words : List ℤ) (t : Token) → zeros words < c → Sound (clauses v c prefix words) → Sound (clauseToken prefixRoom clauseRoom at v c prefix words t)
-  clause-sound at v c prefix words (Natural zero) k h =
-      unless-sound _ (clauses v c prefix (words ++ (pos 0 ∷ []))) λ e.
+  clause-sound : (at v c : ℕ) (P : Prefix) (words : List ℤ) (t : Token) → zeros words < c → Sound (clauses v c P words) → Sound (clauseToken prefixRoom clauseRoom at v c P words t)
+  clause-sound at v c P words (Natural zero) k h =
+      unless-sound _ (clauses v c P (words ++ (pos 0 ∷ []))) λ e.
       let f = closing-fine at (length words) clauseRoom e in
-      (h .0, h .1, h .2, clauses-closing c prefix words (h .3) k (f .short))
-  clause-sound at v c prefix words (Natural (suc n)) k h = literal-sound at v c prefix words true (suc n) h
-  clause-sound at v c prefix words (Negative n) k h = literal-sound at v c prefix words false n h
-  clause-sound at v c prefix words (Word w) k h = tt
+      (h .0, h .1, h .2, clauses-closing c P words (h .3) k (f .short))
+  clause-sound at v c P words (Natural (suc n)) k h = literal-sound at v c P words true (suc n) h
+  clause-sound at v c P words (Negative n) k h = literal-sound at v c P words false n h
+  clause-sound at v c P words (Word w) k h = tt
 
-  clauses-sound : (at v c : ℕ) (prefix words : List ℤ) (t : Token) → Sound (clauses v c prefix words) → Sound (clausesToken prefixRoom clauseRoom at v c prefix words t)
-  clauses-sound at v c prefix words t h = go (leb c (zeros words)) refl
-    where
-      go : (b : Bool) → leb c (zeros words) ≡ b → Sound (tooMany b at (clauseToken prefixRoom clauseRoom at v c prefix words t))
-      go true e = tt
-      go false e = clause-sound at v c prefix words t (leb-false c (zeros words) e) h
+  clauses-sound : (at v c : ℕ) (P : Prefix) (words : List ℤ) (t : Token) → Sound (clauses v c P words) → Sound (clausesToken prefixRoom clauseRoom at v c P words t)
+  clauses-sound at v c P words t h =
+      require-sound (ltb (zeros words) c) (refusal Miscount at) (clauseToken prefixRoom clauseRoom at v c P words t)
+      (λ e. clause-sound at v c P words t (ltb-true (zeros words) c e) h)
 
-  opens-sound : (e a : Bool) (v c : ℕ) (prefix : List ℤ) (later : State) → (v ≤ variableBound) × (c ≤ countBound) × PrefixPasses v prefix → Sound later → Sound (opens e a v c prefix later)
-  opens-sound true a v c prefix later h k = h
-  opens-sound false true v c prefix later h k = h
-  opens-sound false false v c prefix later h k = k
+  opens-sound : (e a : Bool) (v c : ℕ) (P : Prefix) (later : State) → (v ≤ variableBound) × (c ≤ countBound) × PrefixPasses v P → Sound later → Sound (opens e a v c P later)
+  opens-sound true a v c P later h k = h
+  opens-sound false true v c P later h k = h
+  opens-sound false false v c P later h k = k
 
   step-sound : (s : State) (t : Placed) → Sound s → Sound (step prefixRoom clauseRoom s t)
   unfolding step
-  step-sound wantsP t h = word-sound pWord (t .place) (t .token) wantsCnf tt
-  step-sound wantsCnf t h = word-sound cnfWord (t .place) (t .token) wantsV tt
+  step-sound wantsP t h = require-sound (isWord pWord (t .token)) (refusal Headless (t .place)) wantsCnf (λ e. tt)
+  step-sound wantsCnf t h = require-sound (isWord cnfWord (t .token)) (refusal Headless (t .place)) wantsV (λ e. tt)
   step-sound wantsV t h = number-sound variableBound (t .place) (t .token) wantsC (λ n k. k)
   step-sound (wantsC v) t h =
       number-sound countBound (t .place) (t .token) (λ c. betweenSets v c []) (λ n k. (h, k, prefix-empty v))
-  step-sound (betweenSets v c prefix) t h =
-      opens-sound (isWord eWord (t .token)) (isWord aWord (t .token)) v c prefix (clausesToken prefixRoom clauseRoom (t .place) v c prefix [] (t .token)) h (clauses-sound (t .place) v c prefix [] (t .token) (h .0, h .1, h .2, clauses-empty c prefix))
-  step-sound (inSet v c positive filled prefix) t h = set-sound (t .place) v c positive filled prefix (t .token) h
-  step-sound (clauses v c prefix words) t h = clauses-sound (t .place) v c prefix words (t .token) h
+  step-sound (betweenSets v c P) t h =
+      opens-sound (isWord eWord (t .token)) (isWord aWord (t .token)) v c P (clausesToken prefixRoom clauseRoom (t .place) v c P [] (t .token)) h (clauses-sound (t .place) v c P [] (t .token) (h .0, h .1, h .2, clauses-empty c P))
+  step-sound (inSet v c q filled P) t h = set-sound (t .place) v c q filled P (t .token) h
+  step-sound (clauses v c P words) t h = clauses-sound (t .place) v c P words (t .token) h
   step-sound (stopped r) t h = tt
 
   run-sound : (s : State) (ts : List Placed) → Sound s → Sound (run prefixRoom clauseRoom s ts)
@@ -191,18 +198,18 @@ module _ (prefixRoom clauseRoom : ℕ) where
   run-sound s (t ∷ ts) h = run-sound (step prefixRoom clauseRoom s t) ts (step-sound s t h)
 
 -- Tables whose prefix and clause words pass, with no clause open, are admitted.
-admits : (v c : ℕ) (prefix words : List ℤ) → Sound (clauses v c prefix words) → openClause words ≡ [] → Admitted prefix words
+admits : (v c : ℕ) (P : Prefix) (words : List ℤ) → Sound (clauses v c P words) → openClause words ≡ [] → Admitted (prefixWords P) words
 unfolding tablesRefusal prefixRefusal clausesRefusal
-admits v c prefix words h e =
-    let P = h .2 in
+admits v c P words h e =
+    let K = h .2 in
     let C = h .3 in
-    let few = apart-few v (P .seen) (P .apart) (P .ranged) in
-    let a : leb (length prefix) variableBound ≡ true = le-leb (length prefix) variableBound (omega (arith, few, P .long, h .0)) in
+    let few = apart-few v (K .seen) (K .apart) (K .ranged) in
+    let a : leb (length (prefixWords P)) variableBound ≡ true = le-leb (length (prefixWords P)) variableBound (omega (arith, few, K .long, h .0)) in
     let b : leb (length words) matrixBound ≡ true = le-leb (length words) matrixBound (C .short) in
     let d : leb (zeros words) countBound ≡ true = le-leb (zeros words) countBound (omega (arith, C .few, h .1)) in
-    let p : prefixRefusal 0 [] prefix ≡ none = rw append-nil at (P .passes []) in
-    let q : clausesRefusal (listedIn prefix) 0 [] words ≡ none = rw e at (rw append-nil at (C .passes [])) in
-    record { passes = rw (a, b, d, p) q }
+    let p : prefixRefusal 0 [] (prefixWords P) ≡ none = rw append-nil at (K .passes []) in
+    let q : clausesRefusal (λ m. isIn m (listed P)) 0 [] words ≡ none = rw e at (rw append-nil at (C .passes [])) in
+    record { passes = rw (a, b, d, p) (ap (λ (L : List ℕ). clausesRefusal (λ m. isIn m L) 0 [] words) (words-listed P) ∙ q) }
 
 pub record ReadAdmitted (prefix words : List ℤ) (count : ℕ) : Type 0 where
   pub admitted : Admitted prefix words
@@ -219,15 +226,15 @@ same-read prefix words p w c n e h =
 not-refused : (r : Refusal) (p w : List ℤ) (n : ℕ) → refused r ≡ read p w n → ReadAdmitted p w n
 not-refused r p w n e = let z : _≡_ {A = ℕ} 0 1 = cc in absurd (omega arith)
 
-clauses-admitted : (at v c : ℕ) (prefix words p w : List ℤ) (n : ℕ) → Sound (clauses v c prefix words) → clausesEnding at (isOpen (openClause words)) (ltb (zeros words) c) (read prefix words c) ≡ read p w n → ReadAdmitted p w n
-clauses-admitted at v c prefix words p w n h e = go (openClause words) (ltb (zeros words) c) refl refl e
+clauses-admitted : (at v c : ℕ) (P : Prefix) (words p w : List ℤ) (n : ℕ) → Sound (clauses v c P words) → clausesEnding at (isOpen (openClause words)) (ltb (zeros words) c) (read (prefixWords P) words c) ≡ read p w n → ReadAdmitted p w n
+clauses-admitted at v c P words p w n h e = go (openClause words) (ltb (zeros words) c) refl refl e
   where
-    go : (o : List ℕ) (m : Bool) → openClause words ≡ o → ltb (zeros words) c ≡ m → clausesEnding at (isOpen o) m (read prefix words c) ≡ read p w n → ReadAdmitted p w n
+    go : (o : List ℕ) (m : Bool) → openClause words ≡ o → ltb (zeros words) c ≡ m → clausesEnding at (isOpen o) m (read (prefixWords P) words c) ≡ read p w n → ReadAdmitted p w n
     go (x ∷ xs) m f g k = not-refused _ p w n k
     go [] true f g k = not-refused _ p w n k
     go [] false f g k =
         let q : c ≤ zeros words = ltb-false (zeros words) c g in
-        same-read prefix words p w c n k (record { admitted = admits v c prefix words h f; counted = omega (arith, h .3 .few) })
+        same-read (prefixWords P) words p w c n k (record { admitted = admits v c P words h f; counted = omega (arith, h .3 .few) })
 
 ending-admitted : (at : ℕ) (s : State) (p w : List ℤ) (n : ℕ) → Sound s → ending at s ≡ read p w n → ReadAdmitted p w n
 unfolding ending openFrom zeros
@@ -235,10 +242,10 @@ ending-admitted at wantsP p w n h e = not-refused _ p w n e
 ending-admitted at wantsCnf p w n h e = not-refused _ p w n e
 ending-admitted at wantsV p w n h e = not-refused _ p w n e
 ending-admitted at (wantsC v) p w n h e = not-refused _ p w n e
-ending-admitted at (betweenSets v c prefix) p w n h e =
-    clauses-admitted at v c prefix [] p w n (h .0, h .1, h .2, clauses-empty c prefix) e
-ending-admitted at (inSet v c positive filled prefix) p w n h e = not-refused _ p w n e
-ending-admitted at (clauses v c prefix words) p w n h e = clauses-admitted at v c prefix words p w n h e
+ending-admitted at (betweenSets v c P) p w n h e =
+    clauses-admitted at v c P [] p w n (h .0, h .1, h .2, clauses-empty c P) e
+ending-admitted at (inSet v c q filled P) p w n h e = not-refused _ p w n e
+ending-admitted at (clauses v c P words) p w n h e = clauses-admitted at v c P words p w n h e
 ending-admitted at (stopped r) p w n h e = not-refused r p w n e
 
 -- What is read passes the check of tables, and C is the number of its clauses.
@@ -246,6 +253,6 @@ pub read-admitted : (text : List ℕ) (prefixRoom clauseRoom : ℕ) (prefix word
 unfolding reading
 read-admitted text prefixRoom clauseRoom prefix words count e = go (leb (length text) textBound) e
   where
-    go : (b : Bool) → ifShort b (ending (length text) (run prefixRoom clauseRoom wantsP (tokens text))) ≡ read prefix words count → ReadAdmitted prefix words count
+    go : (b : Bool) → require b (refused (refusal Oversized 0)) (ending (length text) (run prefixRoom clauseRoom wantsP (tokens text))) ≡ read prefix words count → ReadAdmitted prefix words count
     go true f = ending-admitted (length text) _ prefix words count (run-sound prefixRoom clauseRoom wantsP (tokens text) tt) f
     go false f = not-refused _ prefix words count f

@@ -6,6 +6,7 @@ use mathlib.Core.Path.{_≡_, refl}
 use mathlib.Core.List.{List, [], _∷_}
 use lib.IntN.{pos, negsuc}
 use Rattle.formula.specs.Refusal.{refusal}
+use Rattle.formula.specs.Prefix.{entryWord, prefixWords, entryFits}
 use Rattle.formula.specs.Tables.{isIn, zeros}
 use Rattle.formula.specs.Token.{isDigit, isBlank, leadFrom, numeral, spell, grow, tokensFrom}
 use Rattle.formula.specs.Text.{
@@ -29,7 +30,7 @@ bytes (c then s) = code c ∷ bytes s
 
 -- With room for eight words in each table.
 unfoldable pub reads : String → Reading
-unfolding bytes isIn zeros isDigit isBlank leadFrom numeral spell grow tokensFrom openFrom variableRefusal literalRefusal closingRefusal step run ending reading
+unfolding bytes entryWord prefixWords entryFits isIn zeros isDigit isBlank leadFrom numeral spell grow tokensFrom openFrom variableRefusal literalRefusal closingRefusal step run ending reading
 reads s = reading (bytes s) 8 8
 
 -- 01's two texts: bytes that part nothing glue into one token; a line end closes nothing.

@@ -1,32 +1,40 @@
--- Laws of reading: what is known where a token is not refused. Assumes nothing.
+-- Laws of reading: what is known where a token is not refused, and how a token takes the state on. Assumes nothing.
 use Prim.Native.Nat.{ℕ, _≤_, _<_}
 use mathlib.Core.Path.{_≡_, refl}
 use mathlib.Core.Bool.{Bool, true, false, not}
-use mathlib.Core.Option.{Option, none}
+use mathlib.Core.Option.{Option, none, some}
+use mathlib.Core.List.{List, [], _∷_}
 use native.Mathlib.Omega.{arith}
-use borrow.Author.Tests.{ltb-false, leb-false, not-false}
+use borrow.Author.Tests.{ltb-true, leb-true, not-true}
 use lib.Dec.{ltb, leb}
+use lib.ListN.{length}
 use Rattle.formula.specs.Bounds.{matrixBound}
-use Rattle.formula.specs.Text.{refuse, variableRefusal, literalRefusal, closingRefusal}
+use Rattle.formula.specs.Refusal.{require}
+use Rattle.formula.specs.Token.{Placed, placed, nextToken}
+use Rattle.formula.specs.Token.Laws.{no-token, token-found}
+use Rattle.formula.specs.Text.{refused, State, stopped, variableRefusal, literalRefusal, closingRefusal, step, run, ending, readingFrom}
 use Rattle.formula.specs.declared.refusal.Refusal.{Refusal}
+use Rattle.formula.specs.declared.token.Token.{Token}
+use Rattle.formula.specs.declared.token.Next.the-variants.{End, Found}
 
-pub refuse-none : (b : Bool) (r : Refusal) (later : Option Refusal) → refuse b r later ≡ none → (b ≡ false) × (later ≡ none)
-refuse-none true r later e = let z : _≡_ {A = ℕ} 0 1 = cc in absurd (omega arith)
-refuse-none false r later e = (refl, e)
+-- A test that did not refuse.
+pub require-none : (b : Bool) (r : Refusal) (later : Option Refusal) → require b (some r) later ≡ none → (b ≡ true) × (later ≡ none)
+require-none true r later e = (refl, e)
+require-none false r later e = let z : _≡_ {A = ℕ} 0 1 = cc in absurd (omega arith)
 
 -- A variable that is listed.
-pub record VariableFine (v n : ℕ) (listed : Bool) (used room : ℕ) : Type 0 where
+pub record VariableFine (v n : ℕ) (known fits : Bool) : Type 0 where
   pub inRange : n ≤ v
-  pub fresh : listed ≡ false
-  pub fits : used < room
+  pub fresh : known ≡ false
+  pub room : fits ≡ true
 
-pub variable-fine : (at v n : ℕ) (listed : Bool) (used room : ℕ) → variableRefusal at v n listed used room ≡ none → VariableFine v n listed used room
+pub variable-fine : (at v n : ℕ) (known fits : Bool) → variableRefusal at v n known fits ≡ none → VariableFine v n known fits
 unfolding variableRefusal
-variable-fine at v n listed used room e =
-    let a = refuse-none (ltb v n) _ _ e in
-    let b = refuse-none listed _ _ (a .1) in
-    let d = refuse-none (leb room used) _ none (b .1) in
-    record { inRange = ltb-false v n (a .0); fresh = b .0; fits = leb-false room used (d .0) }
+variable-fine at v n known fits e =
+    let a = require-none (leb n v) _ _ e in
+    let b = require-none (not known) _ _ (a .1) in
+    let d = require-none fits _ none (b .1) in
+    record { inRange = leb-true n v (a .0); fresh = not-true known (b .0); room = d .0 }
 
 -- A literal that is written.
 pub record LiteralFine (v n : ℕ) (bound clash : Bool) (used room : ℕ) : Type 0 where
@@ -39,17 +47,17 @@ pub record LiteralFine (v n : ℕ) (bound clash : Bool) (used room : ℕ) : Type
 pub literal-fine : (at v n : ℕ) (bound clash : Bool) (used room : ℕ) → literalRefusal at v n bound clash used room ≡ none → LiteralFine v n bound clash used room
 unfolding literalRefusal
 literal-fine at v n bound clash used room e =
-    let a = refuse-none (ltb v n) _ _ e in
-    let b = refuse-none (leb matrixBound used) _ _ (a .1) in
-    let d = refuse-none (not bound) _ _ (b .1) in
-    let f = refuse-none clash _ _ (d .1) in
-    let g = refuse-none (leb room used) _ none (f .1) in
+    let a = require-none (leb n v) _ _ e in
+    let b = require-none (ltb used matrixBound) _ _ (a .1) in
+    let d = require-none bound _ _ (b .1) in
+    let f = require-none (not clash) _ _ (d .1) in
+    let g = require-none (ltb used room) _ none (f .1) in
     record {
-      inRange = ltb-false v n (a .0);
-      short = leb-false matrixBound used (b .0);
-      isBound = not-false bound (d .0);
-      apart = f .0;
-      fits = leb-false room used (g .0);
+      inRange = leb-true n v (a .0);
+      short = ltb-true used matrixBound (b .0);
+      isBound = d .0;
+      apart = not-true clash (f .0);
+      fits = ltb-true used room (g .0);
     }
 
 -- A closing 0 that is written.
@@ -60,6 +68,25 @@ pub record ClosingFine (used room : ℕ) : Type 0 where
 pub closing-fine : (at used room : ℕ) → closingRefusal at used room ≡ none → ClosingFine used room
 unfolding closingRefusal
 closing-fine at used room e =
-    let a = refuse-none (leb matrixBound used) _ _ e in
-    let b = refuse-none (leb room used) _ none (a .1) in
-    record { short = leb-false matrixBound used (a .0); fits = leb-false room used (b .0) }
+    let a = require-none (ltb used matrixBound) _ _ e in
+    let b = require-none (ltb used room) _ none (a .1) in
+    record { short = ltb-true used matrixBound (a .0); fits = ltb-true used room (b .0) }
+
+-- The text ends; a token; a refusal stays.
+module _ (prefixRoom clauseRoom : ℕ) (text : List ℕ) where
+  pub from-end : (s : State) (at : ℕ) → nextToken text at ≡ End → readingFrom prefixRoom clauseRoom text s at ≡ ending (length text) s
+  unfolding run
+  from-end s at e = rw (no-token text at e)
+
+  pub from-token : (s : State) (at : ℕ) (t : Token) (p n : ℕ) → nextToken text at ≡ Found t p n → readingFrom prefixRoom clauseRoom text s at ≡ readingFrom prefixRoom clauseRoom text (step prefixRoom clauseRoom s (placed t p)) n
+  unfolding run
+  from-token s at t p n e = rw (token-found text at t p n e .tokens)
+
+  run-stopped : (r : Refusal) (ts : List Placed) → run prefixRoom clauseRoom (stopped r) ts ≡ stopped r
+  unfolding run step
+  run-stopped r [] = refl
+  run-stopped r (t ∷ ts) = run-stopped r ts
+
+  pub from-stopped : (r : Refusal) (at : ℕ) → readingFrom prefixRoom clauseRoom text (stopped r) at ≡ refused r
+  unfolding ending
+  from-stopped r at = rw run-stopped

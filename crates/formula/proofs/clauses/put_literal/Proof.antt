@@ -7,8 +7,8 @@ use lib.Dec.{ltb, eqb}
 use Rattle.formula.specs.Bounds.{variableBound}
 use Rattle.formula.specs.Text.{literalRefusal}
 use Rattle.formula.specs.Text.Laws.{LiteralFine, literal-fine}
-use Rattle.formula.specs.Stage.{literalStep}
-use Rattle.formula.specs.Stage.ClauseLaws.{literal-none}
+use Rattle.formula.specs.Text.Clauses.{literalStep}
+use Rattle.formula.specs.Text.Clauses.Laws.{literal-none}
 use Rattle.formula.proofs.SignedWord.{signed-back}
 use borrow.Author.Needs.{needs}
 use Rattle.formula.proofs.clauses.put_literal.Statement.{statement}

@@ -1,11 +1,11 @@
--- `read_clauses` takes token after token; each need is one law of ClauseLaws. Assumes nothing.
+-- `read_clauses` takes token after token; each need is one law of Text.Clauses. Assumes nothing.
 use Prim.Native.Nat.{_-_}
 use mathlib.Core.Path.{sym, _∙_}
 use mathlib.Core.List.{[]}
 use native.Mathlib.Omega.{arith}
 use lib.ListN.{length}
 use Rattle.formula.specs.Token.Laws.{token-found}
-use Rattle.formula.specs.Stage.ClauseLaws.{ClausesSoFar, clauses-begin, clauses-end, clauses-over, clauses-refuse, clauses-literal, clauses-closed}
+use Rattle.formula.specs.Text.Clauses.Laws.{ClausesSoFar, clauses-begin, clauses-end, clauses-over, clauses-refuse, clauses-literal, clauses-closed}
 use borrow.Author.Needs.{needs}
 use Rattle.formula.proofs.clauses.read_clauses.Statement.{statement}
 use Rattle.formula.proofs.clauses.read_clauses.Tie as tie
@@ -29,11 +29,11 @@ returns c =
 
 returns-2 : tie.Need-returns-2 Inv-loop μ-loop
 returns-2 c =
-    let l = c .before .before .before .before .before .loop in
-    let args = c .before .before .before .before .before .before .before .args in
-    let g = c .before .before .token .given in
-    let e = sym (c .before .before .before .before .next-token .ensures) ∙ g .1 in
-    clauses-over (args .text .now) (args .from) (args .variables) (args .count) (args .clauses .now) (l .clauses) (args .marks .now) (l .marks) (l .at) (l .used) (l .closed) (l .start) (l .inv) (g .0 .0) (g .0 .1 .0) (g .0 .1 .1 .0) e (c .if1 .taken) []
+    let l = c .before .before .before .before .before .before .loop in
+    let args = c .before .before .before .before .before .before .before .before .args in
+    let g = c .before .before .before .token .given in
+    let e = sym (c .before .before .before .before .before .next-token .ensures) ∙ g .1 in
+    rw (c .new .ensures) (clauses-over (args .text .now) (args .from) (args .variables) (args .count) (args .clauses .now) (l .clauses) (args .marks .now) (l .marks) (l .at) (l .used) (l .closed) (l .start) (l .inv) (g .0 .0) (g .0 .1 .0) (g .0 .1 .1 .0) e (c .before .if1 .taken) [])
 
 clause-token-requires : tie.Need-clause-token-requires Inv-loop μ-loop
 clause-token-requires c κs =
@@ -98,6 +98,7 @@ read-clauses-spec =
     (λ c. search needs)
     returns
     (λ c. search needs)
+    (λ c κs. search needs)
     (λ c. search needs)
     returns-2
     clause-token-requires

@@ -1,26 +1,29 @@
 -- `header_clauses` reads C, within its bound. Assumes nothing.
 use mathlib.Core.Path.{sym, _∙_}
+use mathlib.Core.List.{[]}
 use borrow.Author.Needs.{needs}
-use borrow.Author.Tests.{leb-true, leb-false}
+use borrow.Author.Tests.{leb-true}
 use Rattle.formula.specs.Bounds.{countBound}
 use Rattle.formula.specs.Bounds.Laws.{fit-refused, clauses-made}
-use Rattle.formula.specs.Stage.Laws.{c-read}
+use Rattle.formula.specs.Text.{betweenSets}
+use Rattle.formula.specs.Text.Header.Laws.{c-read, within-read, above-read}
 use Rattle.formula.proofs.header.header_clauses.Statement.{statement}
 use Rattle.formula.proofs.header.header_clauses.Tie as tie
 
 returns : tie.Need-returns
 returns c =
     let args = c .before .before .before .before .before .args in
-    λ rp rc.
-    c-read rp rc (args .text .now) (args .variables .0) (args .at) _ (sym (c .before .r .given .1) ∙ c .before .before .before .header-number .ensures)
+    λ rp rc. c-read rp rc (args .text .now) (args .variables .0) (args .at) _ (sym (c .before .r .given .1) ∙ c .before .before .before .header-field .ensures)
 
 returns-2 : tie.Need-returns-2
 returns-2 c =
-    let args = c .before .before .before .before .before .before .before .before .args in
-    let n = c .before .before .before .before .value .given in
-    let large = leb-false (n .0 .0) countBound (fit-refused _ _ _ _ (sym (c .before .before .new .ensures) ∙ c .enum-told .given .1) (λ z. cc)) in
+    let args = c .before .before .before .before .before .before .before .before .before .args in
+    let n = c .before .before .before .before .before .value .given in
+    let large = fit-refused _ _ _ _ (sym (c .before .before .before .new .ensures) ∙ c .before .enum-told .given .1) (λ z. cc) in
     λ rp rc.
-    c-read rp rc (args .text .now) (args .variables .0) (args .at) _ (sym (n .1) ∙ c .before .before .before .before .before .before .header-number .ensures) .1 large
+    rw (c .new2 .ensures)
+    (c-read rp rc (args .text .now) (args .variables .0) (args .at) _ (sym (n .1) ∙ c .before .before .before .before .before .before .before .header-field .ensures)
+    ∙ above-read rp rc (args .text .now) countBound (n .0 .0) (n .0 .1 .0) (λ k. betweenSets (args .variables .0) k []) large)
 
 returns-3 : tie.Need-returns-3
 returns-3 c =
@@ -28,13 +31,13 @@ returns-3 c =
     let args = start .args in
     let n = c .before .before .before .before .before .value .given in
     let k = c .before .clauses .given in
-    let made = clauses-made (n .0 .0) (k .0 .0) (sym (c .before .before .before .new .ensures) ∙ k .1) in
-    let small = leb-true (n .0 .0) countBound (made .0) in (
+    let made = clauses-made (n .0 .0) (k .0 .0) (sym (c .before .before .before .new .ensures) ∙ k .1) in (
       (λ rp rc.
           rw (← made .1)
-          (c-read rp rc (args .text .now) (args .variables .0) (args .at) _ (sym (n .1) ∙ c .before .before .before .before .before .before .before .header-number .ensures) .0 small)),
+          (c-read rp rc (args .text .now) (args .variables .0) (args .at) _ (sym (n .1) ∙ c .before .before .before .before .before .before .before .header-field .ensures)
+          ∙ within-read rp rc (args .text .now) countBound (n .0 .0) (n .0 .1 .0) (λ k. betweenSets (args .variables .0) k []) (made .0))),
       start .pre,
-      rw (← made .1) small,
+      rw (← made .1) (leb-true (n .0 .0) countBound (made .0)),
     )
 
 pub header-clauses-spec : {M : Type 1} → statement M
@@ -46,6 +49,7 @@ header-clauses-spec =
     (λ c. search needs)
     (λ c κs. search needs)
     (λ c. search needs)
+    (λ c κs. search needs)
     (λ c. search needs)
     returns
     returns-2

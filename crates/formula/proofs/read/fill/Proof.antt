@@ -1,7 +1,7 @@
 -- `fill` asks for the length, then reads the header and the rest. Assumes nothing.
 use mathlib.Core.Path.{sym, _∙_}
 use lib.ListN.{length}
-use Rattle.formula.specs.Stage.FillLaws.{reading-from, reading-long}
+use Rattle.formula.specs.Text.Fill.Laws.{reading-from, reading-long}
 use Rattle.formula.specs.Bounds.Laws.{fit-made, fit-refused}
 use borrow.Author.Needs.{needs}
 use Rattle.formula.proofs.read.fill.Statement.{statement}
@@ -14,8 +14,8 @@ fill-tables-requires c κs =
 
 returns : tie.Need-returns
 returns c =
-    let args = c .before .before .before .before .args in
-    reading-long (args .text .now) _ _ (fit-refused _ _ _ _ (sym (c .before .before .new .ensures) ∙ c .enum-told .given .1) (λ z. cc))
+    let args = c .before .before .before .before .before .args in
+    rw (c .new2 .ensures) (reading-long (args .text .now) _ _ (fit-refused _ _ _ _ (sym (c .before .before .before .new .ensures) ∙ c .before .enum-told .given .1) (λ z. cc)))
 
 returns-2 : tie.Need-returns-2
 returns-2 c =
@@ -37,6 +37,7 @@ fill-spec =
     (tie.spec
     (λ c κs. search needs)
     (λ c. search needs)
+    (λ c κs. search needs)
     (λ c. search needs)
     (λ c κs. search needs)
     (λ c. search needs)

@@ -1,7 +1,8 @@
 -- `fill_tables` reads the sets, then the clauses. Assumes nothing.
 use mathlib.Core.Path.{_∙_}
 use lib.ListN.{length}
-use Rattle.formula.specs.Stage.FillLaws.{listed-none}
+use Rattle.formula.specs.Prefix.Laws.{prefix-words}
+use Rattle.formula.specs.Text.Fill.Laws.{listed-none}
 use borrow.Author.Needs.{needs}
 use Rattle.formula.proofs.read.fill_tables.Statement.{statement}
 use Rattle.formula.proofs.read.fill_tables.Tie as tie
@@ -32,7 +33,7 @@ returns-3 c =
     let args = c .before .before .before .before .before .before .before .before .before .before .before .before .before .before .before .args in
     let post = rw (c .before .before .before .before .before .before .before .before .used .given .1) at (c .before .before .before .before .before .before .before .before .before .before .before .read-sets .ensures) in
     let rest = rw (c .before .words .given .1) at (c .before .before .before .before .read-clauses .ensures (length (args .prefix .now)) _ (post .1)) in
-    (post .0 (args .count) (length (args .clauses .now)) ∙ rest .0, post .2, rest .1)
+    (post .0 (args .count) (length (args .clauses .now)) ∙ rw prefix-words at (rest .0), post .2, rest .1)
 
 pub fill-tables-spec : {M : Type 1} → statement M
 fill-tables-spec =

@@ -1,5 +1,5 @@
 -- `read_formula` fills the tables and clears them past the used part. Assumes nothing.
-use Rattle.formula.specs.Stage.FillLaws.{read-filled, read-refused}
+use Rattle.formula.specs.Text.Fill.Laws.{read-filled, read-refused}
 use borrow.Author.Needs.{needs}
 use Rattle.formula.proofs.read.read_formula.Statement.{statement}
 use Rattle.formula.proofs.read.read_formula.Tie as tie

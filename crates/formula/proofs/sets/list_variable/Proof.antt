@@ -1,50 +1,74 @@
--- `list_variable` refuses by its tests in order, or writes the word and the mark. Assumes nothing.
-use mathlib.Core.Path.{refl}
-use Prim.Native.Nat.{_≤_}
+-- `list_variable` refuses by its tests in order, or puts the entry and the mark. Assumes nothing.
+use Prim.Native.Nat.{_<_, _≤_}
+use mathlib.Core.Path.{_≡_, refl, sym, _∙_}
 use native.Mathlib.Omega.{arith}
-use Rattle.formula.specs.Bounds.{variableBound}
-use borrow.Author.Tests.{lt-ltb, le-ltb, le-leb, lt-leb}
-use Rattle.formula.specs.Text.{variableRefusal}
-use Rattle.formula.proofs.SignedWord.{signed-back}
 use borrow.Author.Needs.{needs}
+use borrow.Author.Tests.{lt-ltb, le-ltb, le-leb, lt-leb}
+use Rattle.formula.specs.Bounds.{variableBound, inRange}
+use Rattle.formula.specs.Bounds.Laws.{variable-made, variable-refused, above-range}
+use Rattle.formula.specs.Text.{variableRefusal}
 use Rattle.formula.proofs.sets.list_variable.Statement.{statement}
 use Rattle.formula.proofs.sets.list_variable.Tie as tie
 
 returns : tie.Need-returns
 unfolding variableRefusal
-returns c = record { answers = simp (lt-ltb _ _ (c .if1 .taken)); stores = tt }
+returns c = record { answers = rw (c .new3 .ensures) (simp (lt-leb _ _ (c .before .if1 .taken))); stores = tt }
 
 returns-2 : tie.Need-returns-2
 unfolding variableRefusal
-returns-2 c = record { answers = simp (le-ltb _ _ (c .before .before .if1 .left), lt-ltb _ _ (c .if2 .taken)); stores = tt }
+returns-2 c = record { answers = rw (c .new4 .ensures) (simp (le-leb _ _ (c .before .before .before .if1 .left), lt-ltb _ _ (c .before .if2 .taken))); stores = tt }
+
+put-entry-requires : tie.Need-put-entry-requires
+put-entry-requires c κs =
+    let k = c .before .before .before .before .before .before .before .variable .given in
+    let made = variable-made (inRange (c .before .before .before .before .before .before .before .before .before .before .args .n) variableBound) (c .before .before .before .before .before .before .before .before .before .before .args .n) (k .0 .0) (sym (c .before .before .before .before .before .before .before .before .before .new .ensures) ∙ k .1) in
+    (sym (c .before .before .entry-fits .ensures) ∙ c .before .if3 .taken, omega (arith, made .1))
 
 returns-3 : tie.Need-returns-3
 unfolding variableRefusal
-returns-3 c = record { answers = simp (le-ltb _ _ (c .before .before .before .if1 .left), le-ltb _ _ (c .before .if2 .left), le-leb _ _ (c .if3 .taken)); stores = tt }
+returns-3 c =
+    let k = c .before .before .before .before .before .before .before .before .before .variable .given in
+    let made = variable-made (inRange (c .before .before .before .before .before .before .before .before .before .before .before .before .args .n) variableBound) (c .before .before .before .before .before .before .before .before .before .before .before .before .args .n) (k .0 .0) (sym (c .before .before .before .before .before .before .before .before .before .before .before .new .ensures) ∙ k .1) in
+    let fits = sym (c .before .before .before .before .entry-fits .ensures) ∙ c .before .before .before .if3 .taken in
+    record {
+      answers = rw (c .before .put-entry .ensures .0) (simp (le-leb _ _ (c .before .before .before .before .before .before .before .if1 .left), le-ltb _ _ (c .before .before .before .before .before .if2 .left), fits));
+      stores = (rw (made .1) (c .before .put-entry .ensures .1), refl);
+    }
 
 returns-4 : tie.Need-returns-4
 unfolding variableRefusal
 returns-4 c =
-    let args = c .before .before .before .before .before .args in
-    let h : args .n ≤ variableBound = omega arith in
-    record {
-      answers = simp (le-ltb _ _ (c .before .before .before .before .if1 .left), le-ltb _ _ (c .before .before .if2 .left), lt-leb _ _ (c .before .if3 .left));
-      stores = (rw (c .signed-word .ensures, signed-back (args .positive) (args .n) h), refl, search needs, h);
-    }
+    let args = c .before .before .before .before .args in
+    let outside = variable-refused (inRange (args .n) variableBound) (args .n) (sym (c .before .before .before .new .ensures) ∙ c .before .enum-told .given .1) in
+    let above : args .variables < args .n = omega (arith, above-range (args .n) variableBound (c .before .before .before .before .pre .0) outside) in
+    record { answers = rw (c .new2 .ensures) (simp (lt-leb _ _ above)); stores = tt }
+
+returns-5 : tie.Need-returns-5
+unfolding variableRefusal
+returns-5 c =
+    let full = sym (c .before .before .entry-fits .ensures) ∙ c .before .if3 .left in
+    record { answers = rw (c .new5 .ensures) (simp (le-leb _ _ (c .before .before .before .before .before .if1 .left), le-ltb _ _ (c .before .before .before .if2 .left), full)); stores = tt }
 
 pub list-variable-spec : {M : Type 1} → statement M
 list-variable-spec =
     tie.close
     (tie.spec
+    (λ c κs. search needs)
+    (λ c. search needs)
+    (λ c κs. search needs)
+    (λ c. search needs)
+    (λ c κs. search needs)
     returns
     (λ c. search needs)
     (λ c. search needs)
+    (λ c κs. search needs)
     returns-2
-    returns-3
     (λ c κs. search needs)
     (λ c. search needs)
     (λ c. search needs)
+    put-entry-requires
     (λ c. search needs)
-    (λ c. search needs)
-    (λ c. search needs)
-    returns-4)
+    returns-3
+    (λ c κs. search needs)
+    returns-4
+    returns-5)

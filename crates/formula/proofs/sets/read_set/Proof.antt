@@ -1,31 +1,32 @@
--- `read_set` takes token after token of a set; each need is one law of SetLaws. Assumes nothing.
+-- `read_set` takes token after token of a set; each need is one law of Text.Sets. Assumes nothing.
 use Prim.Native.Nat.{_-_}
 use mathlib.Core.Path.{sym, _∙_}
 use mathlib.Core.List.{[]}
 use native.Mathlib.Omega.{arith}
 use lib.ListN.{length}
 use Rattle.formula.specs.Token.Laws.{token-found}
-use Rattle.formula.specs.Stage.SetLaws.{SetSoFar, set-begins, set-ends, set-closes, set-refuses, set-lists}
+use Rattle.formula.specs.Text.Sets.Laws.{SetSoFar, set-begins, set-ends, set-closes, set-refuses, set-lists}
 use borrow.Author.Needs.{needs}
+use Rattle.formula.specs.Prefix.{quantifierOf}
 use Rattle.formula.proofs.sets.read_set.Statement.{statement}
 use Rattle.formula.proofs.sets.read_set.Tie as tie
 
 abbrev Inv-loop : tie.InvT-loop
-Inv-loop text from variables positive prefix₀ used marks₀ at₀ n₀ prefix marks at n = SetSoFar text from variables positive used prefix₀ prefix marks at n
+Inv-loop text from variables existential prefix₀ used marks₀ at₀ n₀ prefix marks at n = SetSoFar text from variables (quantifierOf existential) used prefix₀ prefix marks at n
 
 abbrev μ-loop : tie.MeasureT-loop
-μ-loop text from variables positive prefix₀ used marks₀ at₀ n₀ prefix marks at n = length text - at
+μ-loop text from variables existential prefix₀ used marks₀ at₀ n₀ prefix marks at n = length text - at
 
 loop-holds : tie.Need-loop-holds Inv-loop μ-loop
 loop-holds c =
     let args = c .before .args in
-    set-begins (args .text .now) (args .from) (args .variables) (args .positive) (args .used) (args .prefix .now) (args .marks .now) (c .before .pre .1) (c .before .pre .2)
+    set-begins (args .text .now) (args .from) (args .variables) (quantifierOf (args .existential)) (args .used) (args .prefix .now) (args .marks .now) (c .before .pre .1) (c .before .pre .2)
 
 returns : tie.Need-returns Inv-loop μ-loop
 returns c =
-    let l = c .before .before .before .loop in
-    let args = c .before .before .before .before .before .args in
-    set-ends (args .text .now) (args .from) (args .variables) (args .positive) (args .used) (args .prefix .now) (l .prefix) (l .marks) (l .at) (l .n) (l .inv) (sym (c .before .before .next-token .ensures) ∙ c .enum-told .given .1) [] []
+    let l = c .before .before .before .before .loop in
+    let args = c .before .before .before .before .before .before .args in
+    rw (c .new .ensures) (set-ends (args .text .now) (args .from) (args .variables) (quantifierOf (args .existential)) (args .used) (args .prefix .now) (l .prefix) (l .marks) (l .at) (l .n) (l .inv) (sym (c .before .before .before .next-token .ensures) ∙ c .before .enum-told .given .1) [] [])
 
 set-token-requires : tie.Need-set-token-requires Inv-loop μ-loop
 set-token-requires c κs =
@@ -39,7 +40,7 @@ returns-2 c =
     let g = c .before .before .before .before .before .before .before .before .token .given in
     let e = sym (c .before .before .before .before .before .before .before .before .before .before .next-token .ensures) ∙ g .1 in
     let post = rw (c .before .r .given .1) at (c .before .before .before .before .set-token .ensures) in
-    set-refuses (args .text .now) (args .from) (args .variables) (args .positive) (args .used) (args .prefix .now) (l .prefix) (l .marks) (l .at) (l .n) (l .inv) (g .0 .0) (g .0 .1 .0) (g .0 .1 .1 .0) (c .before .r .given .0 .0) _ _ e post
+    set-refuses (args .text .now) (args .from) (args .variables) (quantifierOf (args .existential)) (args .used) (args .prefix .now) (l .prefix) (l .marks) (l .at) (l .n) (l .inv) (g .0 .0) (g .0 .1 .0) (g .0 .1 .1 .0) (c .before .r .given .0 .0) _ _ e post
 
 returns-3 : tie.Need-returns-3 Inv-loop μ-loop
 returns-3 c =
@@ -48,25 +49,25 @@ returns-3 c =
     let g = c .before .before .before .before .before .before .before .token .given in
     let e = sym (c .before .before .before .before .before .before .before .before .before .next-token .ensures) ∙ g .1 in
     let post = rw (c .enum-told2 .given .1) at (c .before .before .before .set-token .ensures) in
-    set-closes (args .text .now) (args .from) (args .variables) (args .positive) (args .used) (args .prefix .now) (l .prefix) (l .marks) (l .at) (l .n) (l .inv) (g .0 .0) (g .0 .1 .0) (g .0 .1 .1 .0) _ _ e post
+    set-closes (args .text .now) (args .from) (args .variables) (quantifierOf (args .existential)) (args .used) (args .prefix .now) (l .prefix) (l .marks) (l .at) (l .n) (l .inv) (g .0 .0) (g .0 .1 .0) (g .0 .1 .1 .0) _ _ e post
 
 loop-less : tie.Need-loop-less Inv-loop μ-loop
 loop-less c =
-    let l = c .before .before .before .before .before .before .before .before .before .before .loop in
-    let args = c .before .before .before .before .before .before .before .before .before .before .before .before .args in
-    let g = c .before .before .before .before .before .before .before .token .given in
-    let e = sym (c .before .before .before .before .before .before .before .before .before .next-token .ensures) ∙ g .1 in
+    let l = c .before .before .before .before .before .before .before .before .before .before .before .loop in
+    let args = c .before .before .before .before .before .before .before .before .before .before .before .before .before .args in
+    let g = c .before .before .before .before .before .before .before .before .token .given in
+    let e = sym (c .before .before .before .before .before .before .before .before .before .before .next-token .ensures) ∙ g .1 in
     let f = token-found (args .text .now) (l .at) (g .0 .0) (g .0 .1 .0) (g .0 .1 .1 .0) e in
     omega (arith, f .after, f .inside)
 
 loop-again : tie.Need-loop-again Inv-loop μ-loop
 loop-again c =
-    let l = c .before .before .before .before .before .before .before .before .before .before .loop in
-    let args = c .before .before .before .before .before .before .before .before .before .before .before .before .args in
-    let g = c .before .before .before .before .before .before .before .token .given in
-    let e = sym (c .before .before .before .before .before .before .before .before .before .next-token .ensures) ∙ g .1 in
-    let post = rw (c .enum-told3 .given .1) at (c .before .before .before .set-token .ensures) in
-    set-lists (args .text .now) (args .from) (args .variables) (args .positive) (args .used) (args .prefix .now) (l .prefix) (l .marks) (l .at) (l .n) (l .inv) (g .0 .0) (g .0 .1 .0) (g .0 .1 .1 .0) _ _ e (search needs) post
+    let l = c .before .before .before .before .before .before .before .before .before .before .before .loop in
+    let args = c .before .before .before .before .before .before .before .before .before .before .before .before .before .args in
+    let g = c .before .before .before .before .before .before .before .before .token .given in
+    let e = sym (c .before .before .before .before .before .before .before .before .before .before .next-token .ensures) ∙ g .1 in
+    let post = rw (c .before .more .given .1) at (c .before .before .before .before .set-token .ensures) in
+    set-lists (args .text .now) (args .from) (args .variables) (quantifierOf (args .existential)) (args .used) (args .prefix .now) (l .prefix) (l .marks) (l .at) (l .n) (l .inv) (g .0 .0) (g .0 .1 .0) (g .0 .1 .1 .0) (c .before .more .given .0 .0) _ _ e (search needs) post
 
 pub read-set-spec : {M : Type 1} → statement M
 read-set-spec =
@@ -77,6 +78,7 @@ read-set-spec =
     loop-holds
     (λ c κs. search needs)
     (λ c. search needs)
+    (λ c κs. search needs)
     (λ c. search needs)
     returns
     (λ c. search needs)
@@ -87,7 +89,6 @@ read-set-spec =
     (λ c. search needs)
     (λ c. search needs)
     returns-3
-    (λ c. search needs)
     (λ c. search needs)
     loop-less
     loop-again)

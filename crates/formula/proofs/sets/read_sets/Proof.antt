@@ -1,11 +1,11 @@
--- `read_sets` takes set after set; each need is one law of SetLaws. Assumes nothing.
+-- `read_sets` takes set after set; each need is one law of Text.Sets. Assumes nothing.
 use Prim.Native.Nat.{_-_}
-use mathlib.Core.Path.{refl, sym, _∙_}
+use mathlib.Core.Path.{sym, _∙_}
 use mathlib.Core.List.{[]}
 use native.Mathlib.Omega.{arith}
 use lib.ListN.{length}
 use Rattle.formula.specs.Token.Laws.{token-found}
-use Rattle.formula.specs.Stage.SetLaws.{SetsSoFar, sets-end, sets-natural, sets-negative, sets-word, sets-refuse, sets-on}
+use Rattle.formula.specs.Text.Sets.Laws.{SetsSoFar, sets-begin, sets-end, sets-natural, sets-negative, sets-word, sets-refuse, sets-on}
 use borrow.Author.Needs.{needs}
 use Rattle.formula.proofs.sets.read_sets.Statement.{statement}
 use Rattle.formula.proofs.sets.read_sets.Tie as tie
@@ -17,7 +17,9 @@ abbrev μ-loop : tie.MeasureT-loop
 μ-loop text from variables prefix₀ marks₀ at₀ used₀ prefix marks at used = length text - at
 
 loop-holds : tie.Need-loop-holds Inv-loop μ-loop
-loop-holds c = record { room = omega arith; same = refl; listed = c .before .pre .1; reads = λ n rc. refl }
+loop-holds c =
+    let args = c .before .args in
+    sets-begin (args .text .now) (args .from) (args .variables) (args .prefix .now) (args .marks .now) (c .before .pre .1)
 
 returns : tie.Need-returns Inv-loop μ-loop
 returns c =

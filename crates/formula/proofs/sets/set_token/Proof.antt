@@ -1,30 +1,31 @@
--- `set_token` answers by the token: each need is one law of SetLaws. Assumes nothing.
+-- `set_token` answers by the token: each need is one law of Text.Sets. Assumes nothing.
 use mathlib.Core.Path.{refl}
-use Rattle.formula.specs.Stage.SetLaws.{variable-post, closing-post}
+use Rattle.formula.specs.Text.Sets.Laws.{variable-post, closing-post}
 use borrow.Author.Needs.{needs}
+use Rattle.formula.specs.Prefix.{quantifierOf}
 use Rattle.formula.proofs.sets.set_token.Statement.{statement}
 use Rattle.formula.proofs.sets.set_token.Tie as tie
 
 list-variable-requires : tie.Need-list-variable-requires
-list-variable-requires c κs = (search needs, c .before .before .before .before .before .before .pre .2 .size)
+list-variable-requires c κs = (search needs, search needs, c .before .before .before .before .before .before .pre .2 .size)
 
 returns : tie.Need-returns
 returns c =
     let args = c .before .before .before .before .before .before .before .before .args in
     let pre = c .before .before .before .before .before .before .before .before .pre in
-    rw (c .before .before .before .before .before .before .token .given .1) (variable-post (args .place) (args .variables) (args .positive) (args .filled) (args .used) (args .prefix .now) (args .marks .now) (pre .0) (pre .1) (pre .2) _ _ _ _ (c .before .before .before .before .if1 .taken) (c .before .list-variable .ensures))
+    rw (c .before .before .before .before .before .before .token .given .1) (variable-post (args .place) (args .variables) (quantifierOf (args .existential)) (args .filled) (args .used) (args .prefix .now) (args .marks .now) (pre .0) (pre .1) (pre .2) _ _ _ _ (c .before .before .before .before .if1 .taken) (c .before .list-variable .ensures))
 
 returns-2 : tie.Need-returns-2
 returns-2 c =
     let args = c .before .before .before .before .before .args in
     let pre = c .before .before .before .before .before .pre in
-    rw (c .before .before .before .token .given .1, c .close-set .ensures) (closing-post (args .place) (args .variables) (args .positive) (args .filled) (args .used) (args .prefix .now) (args .marks .now) (pre .0) (pre .1) (pre .2) _ (c .before .if1 .left))
+    rw (c .before .before .before .token .given .1, c .close-set .ensures) (closing-post (args .place) (args .variables) (quantifierOf (args .existential)) (args .filled) (args .used) (args .prefix .now) (args .marks .now) (pre .0) (pre .1) (pre .2) _ (c .before .if1 .left))
 
 returns-3 : tie.Need-returns-3
-returns-3 c = rw (c .enum-told .given .1) (record { states = λ n rc. refl; stores = tt })
+returns-3 c = rw (c .new .ensures, c .before .enum-told .given .1) (record { states = λ n rc. refl; stores = tt })
 
 returns-4 : tie.Need-returns-4
-returns-4 c = rw (c .enum-told2 .given .1) (record { states = λ n rc. refl; stores = tt })
+returns-4 c = rw (c .new2 .ensures, c .before .enum-told2 .given .1) (record { states = λ n rc. refl; stores = tt })
 
 pub set-token-spec : {M : Type 1} → statement M
 set-token-spec =
@@ -34,7 +35,9 @@ set-token-spec =
     list-variable-requires
     (λ c κs. search needs)
     (λ c. search needs)
+    (λ c κs. search needs)
     (λ c. search needs)
+    (λ c κs. search needs)
     (λ c. search needs)
     returns
     returns-2

@@ -15,8 +15,9 @@ use Rattle.formula.specs.Clear.{clearFrom}
 use Rattle.formula.specs.Refusal.{refusal}
 use Rattle.formula.specs.Tables.{isIn}
 use Rattle.formula.specs.Token.{firstToken}
-use Rattle.formula.specs.Text.{padded, refused, wantsP, reading, ReadPost}
-use Rattle.formula.specs.Stage.{readingFrom, Listed, FillPost}
+use Rattle.formula.specs.Text.{padded, refused, wantsP, reading, readingFrom, ReadPost}
+use Rattle.formula.specs.Text.Sets.{Listed}
+use Rattle.formula.specs.Text.Fill.{FillPost}
 use Rattle.formula.specs.declared.refusal.Reason.the-variants.{Oversized as TooLong}
 use Rattle.formula.specs.declared.refusal.Refusal.{Refusal}
 use Rattle.formula.specs.declared.read.ReadAnswer.the-variants.{Read, Refused as Unread}

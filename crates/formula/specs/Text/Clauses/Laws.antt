@@ -8,16 +8,20 @@ use mathlib.Core.List.{List, [], _∷_, _++_}
 use native.Mathlib.Decide.{ℕ-discrete}
 use native.Mathlib.Numerals.{add-one}
 use native.Mathlib.Omega.{arith}
-use borrow.Author.Tests.{ltb-true, ltb-false, lt-ltb, le-ltb, le-leb, lt-leb, eq-eqb, ne-eqb}
+use borrow.Author.Tests.{ltb-true, leb-true, lt-ltb, le-ltb, eq-eqb, ne-eqb}
 use lib.ListN.{length, getD, set, take, length-set}
-use lib.Seq.{getD-set-same, getD-set-other, length-take-le}
+use lib.Seq.{getD-set-same, getD-set-other, take-suc-set, length-take-le}
 use lib.Dec.{ltb, leb, eqb}
 use lib.IntN.{ℤ, pos, negsuc}
 use Rattle.formula.specs.Bounds.{variableBound}
-use Rattle.formula.specs.Tables.{isIn, zeros, listedIn}
+use Rattle.qbf.specs.Formula.{Prefix, listed}
+use Rattle.formula.specs.Prefix.{prefixWords}
+use Rattle.formula.specs.Tables.{isIn, zeros}
 use Rattle.formula.specs.Text.{
+  readingFrom,
   read,
   clauses,
+  stopped,
   signed,
   openFrom,
   openClause,
@@ -26,15 +30,13 @@ use Rattle.formula.specs.Text.{
   literalRefusal,
   closingRefusal,
   putLiteral,
-  tooMany,
   clauseToken,
   clausesEnding,
   step,
   ending,
 }
-use Rattle.formula.specs.Stage.{
-  readingFrom,
-  Listed,
+use Rattle.formula.specs.Text.Sets.{Listed}
+use Rattle.formula.specs.Text.Clauses.{
   Marked,
   literalStep,
   LiteralPost,
@@ -46,11 +48,9 @@ use Rattle.formula.specs.Stage.{
   clausesEnd,
   ClausesPost,
 }
-use Rattle.formula.specs.Text.Laws.{literal-fine}
-use Rattle.formula.specs.Refusal.{refusal}
+use Rattle.formula.specs.Text.Laws.{literal-fine, from-end, from-token, from-stopped}
+use Rattle.formula.specs.Refusal.{refusal, require}
 use Rattle.formula.specs.Token.{nextToken}
-use Rattle.formula.specs.Stage.Laws.{from-end, from-token, from-stopped}
-use Rattle.formula.specs.Stage.SetLaws.{take-push}
 use Rattle.formula.specs.declared.refusal.Reason.the-variants.{Miscount}
 use Rattle.formula.specs.declared.refusal.Refusal.{Refusal}
 use Rattle.formula.specs.declared.token.Token.{Token}
@@ -59,6 +59,10 @@ use Rattle.formula.specs.declared.clauses.ClauseStep.{ClauseStep}
 use Rattle.formula.specs.declared.clauses.ClauseStep.the-variants.{Literal, Closed, Refused as NoStep}
 use Rattle.formula.specs.declared.token.Next.the-variants.{End, Found}
 use Rattle.formula.specs.declared.clauses.ClausesAnswer.the-variants.{Refused as NoClauses}
+
+-- One more word of a table.
+take-push : (xs : List ℤ) (n : ℕ) (w : ℤ) → n < length xs → take (n + 1) (set xs n w) ≡ take n xs ++ (w ∷ [])
+take-push xs n w h = rw add-one (take-suc-set xs n w h)
 
 -- One more word: a literal joins the open clause, 0 closes it.
 pub open-literal : (seen : List ℕ) (ws : List ℤ) (positive : Bool) (n : ℕ) → (n ≡ 0 → ⊥) → openFrom seen (ws ++ (signed positive n ∷ [])) ≡ n ∷ openFrom seen ws
@@ -94,9 +98,9 @@ zeros-closing (pos (suc m) ∷ ws) = zeros-closing ws
 zeros-closing (negsuc m ∷ ws) = zeros-closing ws
 
 -- The marks before the first clause, after a literal, after a closing 0.
-pub marked-begins : (marks : List ℕ) (prefix : List ℤ) → Listed marks prefix → Marked marks prefix [] 0
+pub marked-begins : (marks : List ℕ) (P : Prefix) → Listed marks P → Marked marks P [] 0
 unfolding isIn openFrom zeros
-marked-begins marks prefix L =
+marked-begins marks P L =
     record {
       size = L .size;
       nought = L .nought;
@@ -106,11 +110,11 @@ marked-begins marks prefix L =
       count = refl;
     }
 
-module _ (marks : List ℕ) (prefix words : List ℤ) (closed : ℕ) (M : Marked marks prefix words closed) where
+module _ (marks : List ℕ) (P : Prefix) (words : List ℤ) (closed : ℕ) (M : Marked marks P words closed) where
   pub marked-proper : (n : ℕ) → ltb 0 (getD marks n 0) ≡ true → n ≡ 0 → ⊥
   marked-proper n b e = let m : 0 < getD marks n 0 = ltb-true 0 (getD marks n 0) b in omega (arith, rw e at m, M .nought)
 
-  pub marked-literal : (positive : Bool) (n : ℕ) → n ≤ variableBound → ltb 0 (getD marks n 0) ≡ true → Marked (set marks n (closed + 2)) prefix (words ++ (signed positive n ∷ [])) closed
+  pub marked-literal : (positive : Bool) (n : ℕ) → n ≤ variableBound → ltb 0 (getD marks n 0) ≡ true → Marked (set marks n (closed + 2)) P (words ++ (signed positive n ∷ [])) closed
   unfolding isIn
   marked-literal positive n h b =
       record {
@@ -128,7 +132,7 @@ module _ (marks : List ℕ) (prefix words : List ℤ) (closed : ℕ) (M : Marked
       inside : n < length marks
       inside = omega (arith, M .size)
 
-      says : (v : ℕ) → v ≤ variableBound → Dec (v ≡ n) → listedIn prefix v ≡ ltb 0 (getD (set marks n (closed + 2)) v 0)
+      says : (v : ℕ) → v ≤ variableBound → Dec (v ≡ n) → isIn v (listed P) ≡ ltb 0 (getD (set marks n (closed + 2)) v 0)
       says v k (yes e) =
           rw (e, getD-set-same marks n (closed + 2) 0 inside, lt-ltb 0 (closed + 2) (omega arith)) (M .says n h ∙ b)
       says v k (no e) = rw (getD-set-other marks n v (closed + 2) 0 e) (M .says v k)
@@ -142,7 +146,7 @@ module _ (marks : List ℕ) (prefix words : List ℤ) (closed : ℕ) (M : Marked
       small v (yes e) = rw (e, getD-set-same marks n (closed + 2) 0 inside) (omega arith)
       small v (no e) = rw (getD-set-other marks n v (closed + 2) 0 e) (M .small v)
 
-  pub marked-closing : Marked marks prefix (words ++ (pos 0 ∷ [])) (closed + 1)
+  pub marked-closing : Marked marks P (words ++ (pos 0 ∷ [])) (closed + 1)
   unfolding isIn
   marked-closing =
       record {
@@ -157,11 +161,11 @@ module _ (marks : List ℕ) (prefix words : List ℤ) (closed : ℕ) (M : Marked
 -- Above V the marks are not asked.
 literal-refusal-marks : (at v n : ℕ) (bound bound′ clash clash′ : Bool) (used room : ℕ) → (n ≤ v → bound ≡ bound′) → (n ≤ v → clash ≡ clash′) → literalRefusal at v n bound clash used room ≡ literalRefusal at v n bound′ clash′ used room
 unfolding literalRefusal
-literal-refusal-marks at v n bound bound′ clash clash′ used room e f = go (ltb v n) refl
+literal-refusal-marks at v n bound bound′ clash clash′ used room e f = go (leb n v) refl
   where
-    go : (b : Bool) → ltb v n ≡ b → literalRefusal at v n bound clash used room ≡ literalRefusal at v n bound′ clash′ used room
-    go true g = rw g
-    go false g = rw (e (ltb-false v n g), f (ltb-false v n g))
+    go : (b : Bool) → leb n v ≡ b → literalRefusal at v n bound clash used room ≡ literalRefusal at v n bound′ clash′ used room
+    go true g = rw (e (leb-true n v g), f (leb-true n v g))
+    go false g = rw g
 
 pub literal-none : (x : Option Refusal) → Literal ≡ literalStep x → x ≡ none
 literal-none none e = refl
@@ -187,41 +191,41 @@ closing-some : (x : Option Refusal) (r : Refusal) → NoStep r ≡ closingStep x
 closing-some none r e = let z : _≡_ {A = ℕ} 0 1 = cc in absurd (omega arith)
 closing-some (some q) r e = cc
 
-module _ (place v used closed : ℕ) (table : List ℤ) (marks : List ℕ) (prefixRoom c : ℕ) (prefix : List ℤ) (small : v ≤ variableBound) (room : used ≤ length table) (M : Marked marks prefix (take used table) closed) where
+module _ (place v used closed : ℕ) (table : List ℤ) (marks : List ℕ) (prefixRoom c : ℕ) (P : Prefix) (small : v ≤ variableBound) (room : used ≤ length table) (M : Marked marks P (take used table) closed) where
   -- A literal is judged by the marks.
-  literal-judged : (positive : Bool) (n : ℕ) → putLiteral prefixRoom (length table) place v c prefix (take used table) positive n ≡ unless (literalRefusal place v n (ltb 0 (getD marks n 0)) (eqb (getD marks n 0) (closed + 2)) used (length table)) (clauses v c prefix (take used table ++ (signed positive n ∷ [])))
+  literal-judged : (positive : Bool) (n : ℕ) → putLiteral prefixRoom (length table) place v c P (take used table) positive n ≡ unless (literalRefusal place v n (ltb 0 (getD marks n 0)) (eqb (getD marks n 0) (closed + 2)) used (length table)) (clauses v c P (take used table ++ (signed positive n ∷ [])))
   literal-judged positive n =
-      rw (length-take-le used table room, literal-refusal-marks place v n (listedIn prefix n) (ltb 0 (getD marks n 0)) (isIn n (openClause (take used table))) (eqb (getD marks n 0) (closed + 2)) used (length table) (λ h. M .says n (omega (arith, small))) (λ h. M .holds n (omega (arith, small))))
+      rw (length-take-le used table room, literal-refusal-marks place v n (isIn n (listed P)) (ltb 0 (getD marks n 0)) (isIn n (openClause (take used table))) (eqb (getD marks n 0) (closed + 2)) used (length table) (λ h. M .says n (omega (arith, small))) (λ h. M .holds n (omega (arith, small))))
 
   -- What a literal, or a closing 0, does to the state, by its answer.
-  pub literal-states : (token : Token) (positive : Bool) (n : ℕ) (table′ : List ℤ) (marks′ : List ℕ) (answer : ClauseStep) → clauseToken prefixRoom (length table) place v c prefix (take used table) token ≡ putLiteral prefixRoom (length table) place v c prefix (take used table) positive n → LiteralPost n place v positive used closed table marks table′ marks′ answer → TokenStates token place v used closed table table′ marks′ prefixRoom c prefix answer
+  pub literal-states : (token : Token) (positive : Bool) (n : ℕ) (table′ : List ℤ) (marks′ : List ℕ) (answer : ClauseStep) → clauseToken prefixRoom (length table) place v c P (take used table) token ≡ putLiteral prefixRoom (length table) place v c P (take used table) positive n → LiteralPost n place v positive used closed table marks table′ marks′ answer → TokenStates token place v used closed table table′ marks′ prefixRoom c P answer
   literal-states token positive n table′ marks′ Literal e post =
       let q = literal-none (literalRefusal place v n (ltb 0 (getD marks n 0)) (eqb (getD marks n 0) (closed + 2)) used (length table)) (post .answers) in
       let f = literal-fine place v n (ltb 0 (getD marks n 0)) (eqb (getD marks n 0) (closed + 2)) used (length table) q in
       let stored = post .stores in
       let pushed : take (used + 1) table′ ≡ take used table ++ (signed positive n ∷ []) = rw (stored .0) (take-push table used (signed positive n) (stored .2)) in
-      let m = marked-literal marks prefix (take used table) closed M positive n (stored .3) (f .isBound) in
-      (rw pushed (e ∙ literal-judged positive n ∙ rw q), rw (pushed, stored .1) m, rw (pushed, open-literal [] (take used table) positive n (marked-proper marks prefix (take used table) closed M n (f .isBound))))
+      let m = marked-literal marks P (take used table) closed M positive n (stored .3) (f .isBound) in
+      (rw pushed (e ∙ literal-judged positive n ∙ rw q), rw (pushed, stored .1) m, rw (pushed, open-literal [] (take used table) positive n (marked-proper marks P (take used table) closed M n (f .isBound))))
   literal-states token positive n table′ marks′ Closed e post = absurd (literal-never (literalRefusal place v n (ltb 0 (getD marks n 0)) (eqb (getD marks n 0) (closed + 2)) used (length table)) (post .answers))
   literal-states token positive n table′ marks′ (NoStep r) e post =
       let q = literal-some (literalRefusal place v n (ltb 0 (getD marks n 0)) (eqb (getD marks n 0) (closed + 2)) used (length table)) r (post .answers) in
       e ∙ literal-judged positive n ∙ rw q
 
-  pub closing-states : (table′ : List ℤ) (answer : ClauseStep) → ClosingPost place used table table′ answer → TokenStates (Natural 0) place v used closed table table′ marks prefixRoom c prefix answer
+  pub closing-states : (table′ : List ℤ) (answer : ClauseStep) → ClosingPost place used table table′ answer → TokenStates (Natural 0) place v used closed table table′ marks prefixRoom c P answer
   closing-states table′ Closed post =
       let q = closing-none (closingRefusal place used (length table)) (post .answers) in
       let stored = post .stores in
       let pushed : take (used + 1) table′ ≡ take used table ++ (pos 0 ∷ []) = rw (stored .0) (take-push table used (pos 0) (stored .1)) in
-      (rw (pushed, length-take-le used table room, q), rw pushed (marked-closing marks prefix (take used table) closed M), rw (pushed, open-closing [] (take used table)))
+      (rw (pushed, length-take-le used table room, q), rw pushed (marked-closing marks P (take used table) closed M), rw (pushed, open-closing [] (take used table)))
   closing-states table′ Literal post = absurd (closing-never (closingRefusal place used (length table)) (post .answers))
   closing-states table′ (NoStep r) post =
       let q = closing-some (closingRefusal place used (length table)) r (post .answers) in
       rw (length-take-le used table room, q)
 
 -- A number that is not 0 is a literal.
-pub natural-literal : (prefixRoom place v c used : ℕ) (table prefix : List ℤ) (n : ℕ) → (n ≡ 0 → ⊥) → clauseToken prefixRoom (length table) place v c prefix (take used table) (Natural n) ≡ putLiteral prefixRoom (length table) place v c prefix (take used table) true n
-natural-literal prefixRoom place v c used table prefix zero z = absurd (z refl)
-natural-literal prefixRoom place v c used table prefix (suc n) z = refl
+pub natural-literal : (prefixRoom place v c used : ℕ) (table : List ℤ) (P : Prefix) (n : ℕ) → (n ≡ 0 → ⊥) → clauseToken prefixRoom (length table) place v c P (take used table) (Natural n) ≡ putLiteral prefixRoom (length table) place v c P (take used table) true n
+natural-literal prefixRoom place v c used table P zero z = absurd (z refl)
+natural-literal prefixRoom place v c used table P (suc n) z = refl
 
 -- What a literal, or a closing 0, leaves in the tables.
 pub literal-stores : (n place v : ℕ) (positive : Bool) (used closed : ℕ) (table : List ℤ) (marks : List ℕ) (table′ : List ℤ) (marks′ : List ℕ) (answer : ClauseStep) → length marks ≡ variableBound + 1 → LiteralPost n place v positive used closed table marks table′ marks′ answer → TokenStores used table marks′ answer
@@ -236,10 +240,10 @@ closing-stores place used table table′ marks Literal h post = absurd (closing-
 closing-stores place used table table′ marks (NoStep r) h post = tt
 
 -- Among the clauses, at the place `at`: `used` words are used, `closed` clauses are closed, the open one from `start` on.
-pub record ClausesRead (text : List ℕ) (from v c : ℕ) (room : ℕ) (table : List ℤ) (marks : List ℕ) (at used closed start prefixRoom : ℕ) (prefix : List ℤ) : Type 0 where
-  pub marked : Marked marks prefix (take used table) closed
+pub record ClausesRead (text : List ℕ) (from v c : ℕ) (room : ℕ) (table : List ℤ) (marks : List ℕ) (at used closed start prefixRoom : ℕ) (P : Prefix) : Type 0 where
+  pub marked : Marked marks P (take used table) closed
   pub opened : isOpen (openClause (take used table)) ≡ ltb start used
-  pub reads : readingFrom prefixRoom room text (clauses v c prefix []) from ≡ readingFrom prefixRoom room text (clauses v c prefix (take used table)) at
+  pub reads : readingFrom prefixRoom room text (clauses v c P []) from ≡ readingFrom prefixRoom room text (clauses v c P (take used table)) at
 
 pub record ClausesSoFar (text : List ℕ) (from v c : ℕ) (table₀ table : List ℤ) (marks₀ marks : List ℕ) (at used closed start : ℕ) : Type 0 where
   pub room : used ≤ length table
@@ -247,7 +251,7 @@ pub record ClausesSoFar (text : List ℕ) (from v c : ℕ) (table₀ table : Lis
   pub size : length marks ≡ variableBound + 1
   pub begun : start ≤ used
   pub few : closed ≤ c
-  pub sofar : (prefixRoom : ℕ) (prefix : List ℤ) → Listed marks₀ prefix → ClausesRead text from v c (length table₀) table marks at used closed start prefixRoom prefix
+  pub sofar : (prefixRoom : ℕ) (P : Prefix) → Listed marks₀ P → ClausesRead text from v c (length table₀) table marks at used closed start prefixRoom P
 
 pub clauses-begin : (text : List ℕ) (from v c : ℕ) (table : List ℤ) (marks : List ℕ) → length marks ≡ variableBound + 1 → ClausesSoFar text from v c table table marks marks from 0 0 0
 unfolding openFrom
@@ -258,35 +262,35 @@ clauses-begin text from v c table marks h =
       size = h;
       begun = omega arith;
       few = omega arith;
-      sofar = λ rp prefix L. record { marked = marked-begins marks prefix L; opened = refl; reads = refl };
+      sofar = λ rp P L. record { marked = marked-begins marks P L; opened = refl; reads = refl };
     }
 
 module _ (text : List ℕ) (from v c : ℕ) (table₀ table : List ℤ) (marks₀ marks : List ℕ) (at used closed start : ℕ) (I : ClausesSoFar text from v c table₀ table marks₀ marks at used closed start) where
-  pub clauses-end : nextToken text at ≡ End → (prefixRoom : ℕ) (prefix : List ℤ) → Listed marks₀ prefix → ClausesPost text from v c prefixRoom prefix table₀ table (clausesEnd (length text) (ltb start used) (ltb closed c) used)
+  pub clauses-end : nextToken text at ≡ End → (prefixRoom : ℕ) (P : Prefix) → Listed marks₀ P → ClausesPost text from v c prefixRoom P table₀ table (clausesEnd (length text) (ltb start used) (ltb closed c) used)
   unfolding ending
-  clauses-end e rp prefix L =
-      let R = I .sofar rp prefix L in
-      go (ltb start used) (ltb closed c) (R .reads ∙ from-end rp (length table₀) text (clauses v c prefix (take used table)) at e ∙ rw (R .opened, R .marked .count))
+  clauses-end e rp P L =
+      let R = I .sofar rp P L in
+      go (ltb start used) (ltb closed c) (R .reads ∙ from-end rp (length table₀) text (clauses v c P (take used table)) at e ∙ rw (R .opened, R .marked .count))
     where
-      go : (o m : Bool) → readingFrom rp (length table₀) text (clauses v c prefix []) from ≡ clausesEnding (length text) o m (read prefix (take used table) c) → ClausesPost text from v c rp prefix table₀ table (clausesEnd (length text) o m used)
+      go : (o m : Bool) → readingFrom rp (length table₀) text (clauses v c P []) from ≡ clausesEnding (length text) o m (read (prefixWords P) (take used table) c) → ClausesPost text from v c rp P table₀ table (clausesEnd (length text) o m used)
       go true m e = e
       go false true e = e
       go false false e = (e, I .room)
 
   -- The token at hand goes to a clause, or is one too many.
-  clauses-step : (t : Token) (p k : ℕ) (b : Bool) → nextToken text at ≡ Found t p k → leb c closed ≡ b → (prefixRoom : ℕ) (prefix : List ℤ) → Listed marks₀ prefix → readingFrom prefixRoom (length table₀) text (clauses v c prefix []) from ≡ readingFrom prefixRoom (length table₀) text (tooMany b p (clauseToken prefixRoom (length table₀) p v c prefix (take used table) t)) k
+  clauses-step : (t : Token) (p k : ℕ) (b : Bool) → nextToken text at ≡ Found t p k → ltb closed c ≡ b → (prefixRoom : ℕ) (P : Prefix) → Listed marks₀ P → readingFrom prefixRoom (length table₀) text (clauses v c P []) from ≡ readingFrom prefixRoom (length table₀) text (require b (stopped (refusal Miscount p)) (clauseToken prefixRoom (length table₀) p v c P (take used table) t)) k
   unfolding step
-  clauses-step t p k b e f rp prefix L =
-      let R = I .sofar rp prefix L in
-      R .reads ∙ from-token rp (length table₀) text (clauses v c prefix (take used table)) at t p k e ∙ rw (R .marked .count, f)
+  clauses-step t p k b e f rp P L =
+      let R = I .sofar rp P L in
+      R .reads ∙ from-token rp (length table₀) text (clauses v c P (take used table)) at t p k e ∙ rw (R .marked .count, f)
 
-  pub clauses-over : (t : Token) (p k : ℕ) → nextToken text at ≡ Found t p k → c ≤ closed → (table′ : List ℤ) (prefixRoom : ℕ) (prefix : List ℤ) → Listed marks₀ prefix → ClausesPost text from v c prefixRoom prefix table₀ table′ (NoClauses (refusal Miscount p))
-  clauses-over t p k e h table′ rp prefix L =
-      clauses-step t p k true e (le-leb c closed h) rp prefix L ∙ from-stopped rp (length table₀) text (refusal Miscount p) k
+  pub clauses-over : (t : Token) (p k : ℕ) → nextToken text at ≡ Found t p k → c ≤ closed → (table′ : List ℤ) (prefixRoom : ℕ) (P : Prefix) → Listed marks₀ P → ClausesPost text from v c prefixRoom P table₀ table′ (NoClauses (refusal Miscount p))
+  clauses-over t p k e h table′ rp P L =
+      clauses-step t p k false e (le-ltb closed c h) rp P L ∙ from-stopped rp (length table₀) text (refusal Miscount p) k
 
-  pub clauses-refuse : (t : Token) (p k : ℕ) (r : Refusal) (table′ : List ℤ) (marks′ : List ℕ) → nextToken text at ≡ Found t p k → closed < c → ClauseTokenPost t p v used closed table marks table′ marks′ (NoStep r) → (prefixRoom : ℕ) (prefix : List ℤ) → Listed marks₀ prefix → ClausesPost text from v c prefixRoom prefix table₀ table′ (NoClauses r)
-  clauses-refuse t p k r table′ marks′ e h post rp prefix L =
-      clauses-step t p k false e (lt-leb c closed h) rp prefix L ∙ rw (← I .same, post .states rp c prefix (I .sofar rp prefix L .marked)) (from-stopped rp (length table) text r k)
+  pub clauses-refuse : (t : Token) (p k : ℕ) (r : Refusal) (table′ : List ℤ) (marks′ : List ℕ) → nextToken text at ≡ Found t p k → closed < c → ClauseTokenPost t p v used closed table marks table′ marks′ (NoStep r) → (prefixRoom : ℕ) (P : Prefix) → Listed marks₀ P → ClausesPost text from v c prefixRoom P table₀ table′ (NoClauses r)
+  clauses-refuse t p k r table′ marks′ e h post rp P L =
+      clauses-step t p k true e (lt-ltb closed c h) rp P L ∙ rw (← I .same, post .states rp c P (I .sofar rp P L .marked)) (from-stopped rp (length table) text r k)
 
   pub clauses-literal : (t : Token) (p k : ℕ) (table′ : List ℤ) (marks′ : List ℕ) → nextToken text at ≡ Found t p k → closed < c → length table′ ≡ length table → ClauseTokenPost t p v used closed table marks table′ marks′ Literal → ClausesSoFar text from v c table₀ table′ marks₀ marks′ k (used + 1) closed start
   clauses-literal t p k table′ marks′ e h l post =
@@ -296,15 +300,15 @@ module _ (text : List ℕ) (from v c : ℕ) (table₀ table : List ℤ) (marks�
         size = post .stores .1;
         begun = omega (arith, I .begun);
         few = I .few;
-        sofar = λ rp prefix L. more rp prefix L (post .states rp c prefix (I .sofar rp prefix L .marked));
+        sofar = λ rp P L. more rp P L (post .states rp c P (I .sofar rp P L .marked));
       }
     where
-      more : (rp : ℕ) (prefix : List ℤ) → Listed marks₀ prefix → TokenStates t p v used closed table table′ marks′ rp c prefix Literal → ClausesRead text from v c (length table₀) table′ marks′ k (used + 1) closed start rp prefix
-      more rp prefix L s =
+      more : (rp : ℕ) (P : Prefix) → Listed marks₀ P → TokenStates t p v used closed table table′ marks′ rp c P Literal → ClausesRead text from v c (length table₀) table′ marks′ k (used + 1) closed start rp P
+      more rp P L s =
           record {
             marked = s .1;
             opened = s .2 ∙ sym (lt-ltb start (used + 1) (omega (arith, I .begun)));
-            reads = clauses-step t p k false e (lt-leb c closed h) rp prefix L ∙ rw (← I .same, s .0);
+            reads = clauses-step t p k true e (lt-ltb closed c h) rp P L ∙ rw (← I .same, s .0);
           }
 
   pub clauses-closed : (t : Token) (p k : ℕ) (table′ : List ℤ) (marks′ : List ℕ) → nextToken text at ≡ Found t p k → closed < c → length table′ ≡ length table → ClauseTokenPost t p v used closed table marks table′ marks′ Closed → ClausesSoFar text from v c table₀ table′ marks₀ marks′ k (used + 1) (closed + 1) (used + 1)
@@ -315,13 +319,13 @@ module _ (text : List ℕ) (from v c : ℕ) (table₀ table : List ℤ) (marks�
         size = post .stores .1;
         begun = omega arith;
         few = omega arith;
-        sofar = λ rp prefix L. more rp prefix L (post .states rp c prefix (I .sofar rp prefix L .marked));
+        sofar = λ rp P L. more rp P L (post .states rp c P (I .sofar rp P L .marked));
       }
     where
-      more : (rp : ℕ) (prefix : List ℤ) → Listed marks₀ prefix → TokenStates t p v used closed table table′ marks′ rp c prefix Closed → ClausesRead text from v c (length table₀) table′ marks′ k (used + 1) (closed + 1) (used + 1) rp prefix
-      more rp prefix L s =
+      more : (rp : ℕ) (P : Prefix) → Listed marks₀ P → TokenStates t p v used closed table table′ marks′ rp c P Closed → ClausesRead text from v c (length table₀) table′ marks′ k (used + 1) (closed + 1) (used + 1) rp P
+      more rp P L s =
           record {
             marked = s .1;
             opened = s .2 ∙ sym (le-ltb (used + 1) (used + 1) (omega arith));
-            reads = clauses-step t p k false e (lt-leb c closed h) rp prefix L ∙ rw (← I .same, s .0);
+            reads = clauses-step t p k true e (lt-ltb closed c h) rp P L ∙ rw (← I .same, s .0);
           }

@@ -1,0 +1,93 @@
+-- What the functions that read the clauses of a text answer and leave in the clause table and in the marks. Laws are in
+-- Clauses/Laws.antt.
+pub mod Laws
+use Prim.Native.Nat.{ℕ, _+_, _≤_, _<_}
+use mathlib.Core.Path.{_≡_}
+use mathlib.Core.Bool.{Bool, true, false, not}
+use mathlib.Core.Option.{Option, none, some}
+use mathlib.Core.List.{List, []}
+use lib.IntN.{ℤ, pos}
+use lib.ListN.{length, getD, set, take}
+use lib.Dec.{ltb, eqb}
+use Rattle.qbf.specs.Formula.{Prefix, listed}
+use Rattle.formula.specs.Bounds.{variableBound}
+use Rattle.formula.specs.Refusal.{refusal, require}
+use Rattle.formula.specs.Prefix.{prefixWords}
+use Rattle.formula.specs.Tables.{isIn, zeros}
+use Rattle.formula.specs.Text.{read, refused, clauses, stopped, signed, openClause, isOpen, literalRefusal, closingRefusal, clauseToken, readingFrom}
+use Rattle.formula.specs.declared.refusal.Reason.the-variants.{Unfinished, Miscount}
+use Rattle.formula.specs.declared.refusal.Refusal.{Refusal}
+use Rattle.formula.specs.declared.token.Token.{Token}
+use Rattle.formula.specs.declared.clauses.ClauseStep.{ClauseStep}
+use Rattle.formula.specs.declared.clauses.ClauseStep.the-variants.{Literal, Closed, Refused as NoStep}
+use Rattle.formula.specs.declared.clauses.ClausesAnswer.{ClausesAnswer}
+use Rattle.formula.specs.declared.clauses.ClausesAnswer.the-variants.{Clauses, Refused as NoClauses}
+
+-- The marks of the variables while clauses are read, `closed` of them being closed: 0 where no set lists the variable,
+-- closed + 2 where the open clause holds it.
+pub record Marked (marks : List ℕ) (P : Prefix) (words : List ℤ) (closed : ℕ) : Type 0 where
+  pub size : length marks ≡ variableBound + 1
+  pub nought : getD marks 0 0 ≡ 0
+  pub says : (v : ℕ) → v ≤ variableBound → isIn v (listed P) ≡ ltb 0 (getD marks v 0)
+  pub holds : (v : ℕ) → v ≤ variableBound → isIn v (openClause words) ≡ eqb (getD marks v 0) (closed + 2)
+  pub small : (v : ℕ) → getD marks v 0 ≤ closed + 2
+  pub count : zeros words ≡ closed
+
+-- A literal of the variable n: refused, or written and marked.
+abbrev pub literalStep : Option Refusal → ClauseStep
+literalStep none = Literal
+literalStep (some r) = NoStep r
+
+abbrev pub LiteralStores : (n : ℕ) (positive : Bool) (used closed : ℕ) (table : List ℤ) (marks : List ℕ) (table′ : List ℤ) (marks′ : List ℕ) → ClauseStep → Type 0
+LiteralStores n positive used closed table marks table′ marks′ Literal =
+    (table′ ≡ set table used (signed positive n)) × (marks′ ≡ set marks n (closed + 2)) × (used < length table) × (n ≤ variableBound)
+LiteralStores n positive used closed table marks table′ marks′ Closed = Unit {0}
+LiteralStores n positive used closed table marks table′ marks′ (NoStep r) = Unit {0}
+
+pub record LiteralPost (n place variables : ℕ) (positive : Bool) (used closed : ℕ) (table : List ℤ) (marks : List ℕ) (table′ : List ℤ) (marks′ : List ℕ) (answer : ClauseStep) : Type 0 where
+  pub answers : answer ≡ literalStep (literalRefusal place variables n (ltb 0 (getD marks n 0)) (eqb (getD marks n 0) (closed + 2)) used (length table))
+  pub stores : LiteralStores n positive used closed table marks table′ marks′ answer
+
+-- A clause's closing 0: refused, or written.
+abbrev pub closingStep : Option Refusal → ClauseStep
+closingStep none = Closed
+closingStep (some r) = NoStep r
+
+abbrev pub ClosingStores : (used : ℕ) (table table′ : List ℤ) → ClauseStep → Type 0
+ClosingStores used table table′ Literal = Unit {0}
+ClosingStores used table table′ Closed = (table′ ≡ set table used (pos 0)) × (used < length table)
+ClosingStores used table table′ (NoStep r) = Unit {0}
+
+pub record ClosingPost (place used : ℕ) (table table′ : List ℤ) (answer : ClauseStep) : Type 0 where
+  pub answers : answer ≡ closingStep (closingRefusal place used (length table))
+  pub stores : ClosingStores used table table′ answer
+
+-- A token of a clause: where the state goes, and what the marks then say; a word was left, or it is refused.
+abbrev pub TokenStates : (token : Token) (place v used closed : ℕ) (table table′ : List ℤ) (marks′ : List ℕ) (prefixRoom c : ℕ) (P : Prefix) → ClauseStep → Type 0
+TokenStates token place v used closed table table′ marks′ prefixRoom c P Literal =
+    (clauseToken prefixRoom (length table) place v c P (take used table) token ≡ clauses v c P (take (used + 1) table′)) × Marked marks′ P (take (used + 1) table′) closed × (isOpen (openClause (take (used + 1) table′)) ≡ true)
+TokenStates token place v used closed table table′ marks′ prefixRoom c P Closed =
+    (clauseToken prefixRoom (length table) place v c P (take used table) token ≡ clauses v c P (take (used + 1) table′)) × Marked marks′ P (take (used + 1) table′) (closed + 1) × (isOpen (openClause (take (used + 1) table′)) ≡ false)
+TokenStates token place v used closed table table′ marks′ prefixRoom c P (NoStep r) =
+    clauseToken prefixRoom (length table) place v c P (take used table) token ≡ stopped r
+
+abbrev pub TokenStores : (used : ℕ) (table : List ℤ) (marks′ : List ℕ) → ClauseStep → Type 0
+TokenStores used table marks′ Literal = (used < length table) × (length marks′ ≡ variableBound + 1)
+TokenStores used table marks′ Closed = (used < length table) × (length marks′ ≡ variableBound + 1)
+TokenStores used table marks′ (NoStep r) = Unit {0}
+
+pub record ClauseTokenPost (token : Token) (place v used closed : ℕ) (table : List ℤ) (marks : List ℕ) (table′ : List ℤ) (marks′ : List ℕ) (answer : ClauseStep) : Type 0 where
+  pub states : (prefixRoom c : ℕ) (P : Prefix) → Marked marks P (take used table) closed → TokenStates token place v used closed table table′ marks′ prefixRoom c P answer
+  pub stores : TokenStores used table marks′ answer
+
+-- The text ends, after `size` bytes.
+abbrev pub clausesEnd : (size : ℕ) (clauseOpen missing : Bool) (used : ℕ) → ClausesAnswer
+clausesEnd size clauseOpen missing used =
+    require (not clauseOpen) (NoClauses (refusal Unfinished size)) (require (not missing) (NoClauses (refusal Miscount size)) (Clauses used))
+
+-- The clauses, from the byte after the sets on.
+abbrev pub ClausesPost : (text : List ℕ) (at v c prefixRoom : ℕ) (P : Prefix) (table table′ : List ℤ) → ClausesAnswer → Type 0
+ClausesPost text at v c prefixRoom P table table′ (Clauses n) =
+    (readingFrom prefixRoom (length table) text (clauses v c P []) at ≡ read (prefixWords P) (take n table′) c) × (n ≤ length table′)
+ClausesPost text at v c prefixRoom P table table′ (NoClauses r) =
+    readingFrom prefixRoom (length table) text (clauses v c P []) at ≡ refused r

@@ -1,0 +1,86 @@
+-- What the functions that read the quantifier sets of a text answer and leave in the prefix table and in the marks. What
+-- the table holds is said as entries. Laws are in Sets/Laws.antt.
+pub mod Laws
+use Prim.Native.Nat.{ℕ, _+_, _≤_, _<_}
+use mathlib.Core.Path.{_≡_}
+use mathlib.Core.Bool.{Bool, true, false}
+use mathlib.Core.Option.{Option, none, some}
+use mathlib.Core.List.{List, []}
+use lib.IntN.{ℤ}
+use lib.ListN.{length, getD, set, take}
+use lib.Dec.{ltb}
+use Rattle.qbf.specs.Formula.{Quantifier, entry, Prefix, listed}
+use Rattle.formula.specs.Bounds.{variableBound}
+use Rattle.formula.specs.Refusal.{refusal, require}
+use Rattle.formula.specs.Prefix.{prefixOf, entryFits, putEntry, usedAfter}
+use Rattle.formula.specs.Tables.{isIn}
+use Rattle.formula.specs.Text.{refused, betweenSets, inSet, clauses, stopped, variableRefusal, setToken, readingFrom}
+use Rattle.formula.specs.declared.refusal.Reason.the-variants.{BadToken}
+use Rattle.formula.specs.declared.refusal.Refusal.{Refusal}
+use Rattle.formula.specs.declared.token.Token.{Token}
+use Rattle.formula.specs.declared.sets.SetStep.{SetStep}
+use Rattle.formula.specs.declared.sets.SetStep.the-variants.{Listed as Lists, Closed as Closes, Refused as NoListing}
+use Rattle.formula.specs.declared.sets.SetsAnswer.{SetsAnswer}
+use Rattle.formula.specs.declared.sets.SetsAnswer.the-variants.{Sets, Refused as NoSets}
+
+-- The marks of the variables that the entries list: 1 for each, 0 for every other.
+pub record Listed (marks : List ℕ) (P : Prefix) : Type 0 where
+  pub size : length marks ≡ variableBound + 1
+  pub nought : getD marks 0 0 ≡ 0
+  pub says : (v : ℕ) → v ≤ variableBound → isIn v (listed P) ≡ ltb 0 (getD marks v 0)
+  pub small : (v : ℕ) → getD marks v 0 ≤ 1
+
+-- A variable n of a set: refused, or written and marked, `more` words being used then.
+abbrev pub listing : ℕ → Option Refusal → SetStep
+listing more none = Lists more
+listing more (some r) = NoListing r
+
+abbrev pub ListingStores : (n : ℕ) (q : Quantifier) (used : ℕ) (prefix : List ℤ) (marks : List ℕ) (prefix′ : List ℤ) (marks′ : List ℕ) → SetStep → Type 0
+ListingStores n q used prefix marks prefix′ marks′ (Lists more) = (prefix′ ≡ putEntry prefix used (entry n q)) × (marks′ ≡ set marks n 1)
+ListingStores n q used prefix marks prefix′ marks′ Closes = Unit {0}
+ListingStores n q used prefix marks prefix′ marks′ (NoListing r) = Unit {0}
+
+pub record ListingPost (n place variables : ℕ) (q : Quantifier) (used : ℕ) (prefix : List ℤ) (marks : List ℕ) (prefix′ : List ℤ) (marks′ : List ℕ) (answer : SetStep) : Type 0 where
+  pub answers : answer ≡ listing (usedAfter used) (variableRefusal place variables n (ltb 0 (getD marks n 0)) (entryFits (length prefix) used))
+  pub stores : ListingStores n q used prefix marks prefix′ marks′ answer
+
+-- A set's closing 0.
+abbrev pub setClosing : (filled : Bool) (place : ℕ) → SetStep
+setClosing filled place = require filled (NoListing (refusal BadToken place)) Closes
+
+-- A token of a set: where the state goes, and what stands in the prefix table and in the marks.
+abbrev pub SetStates : (token : Token) (place v : ℕ) (q : Quantifier) (filled : Bool) (used : ℕ) (prefix prefix′ : List ℤ) (c clauseRoom : ℕ) → SetStep → Type 0
+SetStates token place v q filled used prefix prefix′ c clauseRoom (Lists more) =
+    setToken (length prefix) clauseRoom place v c q filled (prefixOf (take used prefix)) token ≡ inSet v c q true (prefixOf (take more prefix′))
+SetStates token place v q filled used prefix prefix′ c clauseRoom Closes =
+    setToken (length prefix) clauseRoom place v c q filled (prefixOf (take used prefix)) token ≡ betweenSets v c (prefixOf (take used prefix))
+SetStates token place v q filled used prefix prefix′ c clauseRoom (NoListing r) =
+    setToken (length prefix) clauseRoom place v c q filled (prefixOf (take used prefix)) token ≡ stopped r
+
+abbrev pub SetStores : (used : ℕ) (prefix : List ℤ) (marks : List ℕ) (prefix′ : List ℤ) (marks′ : List ℕ) → SetStep → Type 0
+SetStores used prefix marks prefix′ marks′ (Lists more) = (used < more) × (more ≤ length prefix) × Listed marks′ (prefixOf (take more prefix′))
+SetStores used prefix marks prefix′ marks′ Closes = (prefix′ ≡ prefix) × (marks′ ≡ marks)
+SetStores used prefix marks prefix′ marks′ (NoListing r) = Unit {0}
+
+pub record SetTokenPost (token : Token) (place v : ℕ) (q : Quantifier) (filled : Bool) (used : ℕ) (prefix : List ℤ) (marks : List ℕ) (prefix′ : List ℤ) (marks′ : List ℕ) (answer : SetStep) : Type 0 where
+  pub states : (c clauseRoom : ℕ) → SetStates token place v q filled used prefix prefix′ c clauseRoom answer
+  pub stores : SetStores used prefix marks prefix′ marks′ answer
+
+-- A set, from the byte after its letter on.
+abbrev pub SetPost : (text : List ℕ) (at v : ℕ) (q : Quantifier) (used : ℕ) (prefix prefix′ : List ℤ) (marks′ : List ℕ) → SetsAnswer → Type 0
+SetPost text at v q used prefix prefix′ marks′ (Sets n next) =
+    ((c clauseRoom : ℕ) → readingFrom (length prefix) clauseRoom text (inSet v c q false (prefixOf (take used prefix))) at ≡ readingFrom (length prefix) clauseRoom text (betweenSets v c (prefixOf (take n prefix′))) next)
+    × Listed marks′ (prefixOf (take n prefix′))
+    × (n ≤ length prefix′)
+    × (at ≤ next)
+SetPost text at v q used prefix prefix′ marks′ (NoSets r) =
+    (c clauseRoom : ℕ) → readingFrom (length prefix) clauseRoom text (inSet v c q false (prefixOf (take used prefix))) at ≡ refused r
+
+-- The sets, from the byte after the header on: what follows them is read as clauses.
+abbrev pub SetsPost : (text : List ℕ) (at v : ℕ) (prefix prefix′ : List ℤ) (marks′ : List ℕ) → SetsAnswer → Type 0
+SetsPost text at v prefix prefix′ marks′ (Sets n next) =
+    ((c clauseRoom : ℕ) → readingFrom (length prefix) clauseRoom text (betweenSets v c []) at ≡ readingFrom (length prefix) clauseRoom text (clauses v c (prefixOf (take n prefix′)) []) next)
+    × Listed marks′ (prefixOf (take n prefix′))
+    × (n ≤ length prefix′)
+SetsPost text at v prefix prefix′ marks′ (NoSets r) =
+    (c clauseRoom : ℕ) → readingFrom (length prefix) clauseRoom text (betweenSets v c []) at ≡ refused r
