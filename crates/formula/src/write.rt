@@ -192,10 +192,7 @@ fn finish(text: &mut [u8], used: usize) -> WriteAnswer
         return WriteAnswer::Written(used);
     }
     clear::clear_bytes(text, 0);
-    WriteAnswer::Refused(Refusal {
-        reason: Reason::NoRoom,
-        place: 0,
-    })
+    WriteAnswer::Refused(Refusal::new(Reason::NoRoom, 0))
 }
 
 // Writes the tables as a text, or says why not: the tables' refusals, then 3 at 0 where the text is too short.

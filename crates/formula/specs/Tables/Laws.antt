@@ -17,6 +17,7 @@ use Rattle.qbf.specs.Literal.{Literal, Clause}
 use Rattle.qbf.specs.Formula.{Entry, Distinct, Proper, listed, variables}
 use Rattle.formula.specs.Bounds.{variableBound, countBound, matrixBound}
 use Rattle.formula.specs.Word.{wordOf}
+pub use Rattle.formula.specs.Word.Laws.{Kind, closing, large, signed, kind}
 use Rattle.formula.specs.Refusal.{refusal}
 use Rattle.formula.specs.Decode.{literalOf, putFirst, clausesOf, firstClause, laterWords, clauseOf, formulaOf}
 use Rattle.formula.specs.Prefix.{entryOf, prefixOf, Entries}
@@ -60,25 +61,6 @@ is-in-absent v xs h = go (isIn v xs) refl
 
 pub absent-is-in : (v : ℕ) (xs : List ℕ) → isIn v xs ≡ false → List·Memᴰ v xs → ⊥
 absent-is-in v xs e m = false≢true (sym e ∙ is-in-complete v xs m)
-
--- The three things a word can be to the check: 0, too large, a variable with a sign.
-pub data Kind (w : ℤ) : Type 0 where
-  closing : w ≡ pos 0 → Kind w
-  large : variableBound < natAbs w → Kind w
-  signed : 1 ≤ natAbs w → natAbs w ≤ variableBound → Kind w
-
-pub kind : (w : ℤ) → Kind w
-kind (pos zero) = closing refl
-kind (pos (suc n)) = go (leb (suc n) variableBound) refl
-  where
-    go : (b : Bool) → leb (suc n) variableBound ≡ b → Kind (pos (suc n))
-    go true e = signed (omega arith) (leb-true (suc n) variableBound e)
-    go false e = large (leb-false (suc n) variableBound e)
-kind (negsuc n) = go (leb (suc n) variableBound) refl
-  where
-    go : (b : Bool) → leb (suc n) variableBound ≡ b → Kind (negsuc n)
-    go true e = signed (omega arith) (leb-true (suc n) variableBound e)
-    go false e = large (leb-false (suc n) variableBound e)
 
 -- How each kind is judged in the prefix.
 module _ (at : ℕ) (seen : List ℕ) (next : ℕ → Option Refusal) where

@@ -13,47 +13,47 @@ use Rattle.formula.proofs.tables.check_tables.Tie as tie
 
 returns : tie.Need-returns
 returns c =
-    let a = c .before .before .before .args in
-    let e : leb (length (a .prefix .now)) variableBound ≡ false = fit-refused _ _ _ _ (sym (c .before .before .new .ensures) ∙ c .enum-told .given .1) (λ z. cc) in
-    sym (sizes-refused (a .prefix .now) (a .clauses .now) (rw e))
+    let a = c .before .before .before .before .args in
+    let e : leb (length (a .prefix .now)) variableBound ≡ false = fit-refused _ _ _ _ (sym (c .before .before .new2 .ensures) ∙ c .enum-told .given .1) (λ z. cc) in
+    rw (c .before .before .before .new .ensures) (sym (sizes-refused (a .prefix .now) (a .clauses .now) (rw e)))
 
 -- the number of variables, within its bound
-variables-at : (c : tie.After-known-told) → (leb (length (c .before .before .before .before .args .prefix .now)) variableBound ≡ true) × (length (c .before .before .before .before .args .prefix .now) ≡ c .before .variables .given .0 .0 .0)
+variables-at : (c : tie.After-known-told) → (leb (length (c .before .before .before .before .before .args .prefix .now)) variableBound ≡ true) × (length (c .before .before .before .before .before .args .prefix .now) ≡ c .before .variables .given .0 .0 .0)
 variables-at c =
-    variables-made (length (c .before .before .before .before .args .prefix .now)) (c .before .variables .given .0 .0) (sym (c .before .before .before .new .ensures) ∙ c .before .variables .given .1)
+    variables-made (length (c .before .before .before .before .before .args .prefix .now)) (c .before .variables .given .0 .0) (sym (c .before .before .before .new2 .ensures) ∙ c .before .variables .given .1)
 
 returns-2 : tie.Need-returns-2
 returns-2 c =
-    let a = c .before .before .before .before .before .before .before .args in
-    let e : leb (length (a .clauses .now)) matrixBound ≡ false = fit-refused _ _ _ _ (sym (c .before .before .new2 .ensures) ∙ c .enum-told3 .given .1) (λ z. cc) in
-    sym (sizes-refused (a .prefix .now) (a .clauses .now) (rw (variables-at (c .before .before .before) .0, e)))
+    let a = c .before .before .before .before .before .before .before .before .args in
+    let e : leb (length (a .clauses .now)) matrixBound ≡ false = fit-refused _ _ _ _ (sym (c .before .before .new3 .ensures) ∙ c .enum-told3 .given .1) (λ z. cc) in
+    rw (c .before .before .before .before .before .before .before .new .ensures) (sym (sizes-refused (a .prefix .now) (a .clauses .now) (rw (variables-at (c .before .before .before) .0, e))))
 
 -- the clause words, within their bound
-words-at : (c : tie.After-enum-told2) → leb (length (c .before .before .before .before .before .before .before .args .clauses .now)) matrixBound ≡ true
-words-at c = fit-made _ _ _ _ (sym (c .before .before .new2 .ensures) ∙ c .enum-told2 .given .1) (λ z. cc) .0
+words-at : (c : tie.After-enum-told2) → leb (length (c .before .before .before .before .before .before .before .before .args .clauses .now)) matrixBound ≡ true
+words-at c = fit-made _ _ _ _ (sym (c .before .before .new3 .ensures) ∙ c .enum-told2 .given .1) (λ z. cc) .0
 
 returns-3 : tie.Need-returns-3
 returns-3 c =
     let k = c .before .before .before in
-    let a = c .before .before .before .before .before .before .before .before .before .before .before .args in
-    let e = fit-refused _ _ _ _ (sym (c .before .before .new3 .ensures) ∙ c .enum-told4 .given .1) (λ z. cc) in
+    let a = c .before .before .before .before .before .before .before .before .before .before .before .before .args in
+    let e = fit-refused _ _ _ _ (sym (c .before .before .new4 .ensures) ∙ c .enum-told4 .given .1) (λ z. cc) in
     let many : leb (zeros (a .clauses .now)) countBound ≡ false = rw (k .count-zeros .ensures) at e in
-    sym (sizes-refused (a .prefix .now) (a .clauses .now) (rw (variables-at (k .before .before .before .before) .0, words-at (k .before), many)))
+    rw (c .before .before .before .before .before .before .before .before .before .before .before .new .ensures) (sym (sizes-refused (a .prefix .now) (a .clauses .now) (rw (variables-at (k .before .before .before .before) .0, words-at (k .before), many))))
 
 -- the number of clauses, within its bound; then the sizes fit
-clauses-at : (c : tie.After-known-told2) → (leb (zeros (c .before .before .before .before .before .before .before .before .before .before .before .before .args .clauses .now)) countBound ≡ true) × (zeros (c .before .before .before .before .before .before .before .before .before .before .before .before .args .clauses .now) ≡ c .before .count .given .0 .0 .0)
+clauses-at : (c : tie.After-known-told2) → (leb (zeros (c .before .before .before .before .before .before .before .before .before .before .before .before .before .args .clauses .now)) countBound ≡ true) × (zeros (c .before .before .before .before .before .before .before .before .before .before .before .before .before .args .clauses .now) ≡ c .before .count .given .0 .0 .0)
 clauses-at c =
     let k = c .before .before .before .before in
-    let e = clauses-made (k .count-zeros .result) (c .before .count .given .0 .0) (sym (c .before .before .before .new3 .ensures) ∙ c .before .count .given .1) in
+    let e = clauses-made (k .count-zeros .result) (c .before .count .given .0 .0) (sym (c .before .before .before .new4 .ensures) ∙ c .before .count .given .1) in
     rw (k .count-zeros .ensures) at e
 
-sizes : (c : tie.After-known-told2) → sized (c .before .before .before .before .before .before .before .before .before .before .before .before .args .prefix .now) (c .before .before .before .before .before .before .before .before .before .before .before .before .args .clauses .now) ≡ true
+sizes : (c : tie.After-known-told2) → sized (c .before .before .before .before .before .before .before .before .before .before .before .before .before .args .prefix .now) (c .before .before .before .before .before .before .before .before .before .before .before .before .before .args .clauses .now) ≡ true
 sizes c = let k = c .before .before .before .before in rw (variables-at (k .before .before .before .before) .0, words-at (k .before), clauses-at c .0)
 
 returns-4 : tie.Need-returns-4
 returns-4 c =
     let w = c .before .before .before in
-    let a = w .before .before .before .before .before .before .before .before .before .before .before .before .before .args in
+    let a = w .before .before .before .before .before .before .before .before .before .before .before .before .before .before .args in
     sym
     (words-refused
     (a .prefix .now)
@@ -65,7 +65,7 @@ returns-4 c =
 returns-5 : tie.Need-returns-5
 returns-5 c =
     let w = c .before .before in
-    let a = w .before .before .before .before .before .before .before .before .before .before .before .before .before .args in
+    let a = w .before .before .before .before .before .before .before .before .before .before .before .before .before .before .args in
     let k = w .before in
     rw (← variables-at (k .before .before .before .before .before .before .before .before) .1, ← clauses-at k .1)
     (sym (words-admitted (a .prefix .now) (a .clauses .now) (sizes k) (sym (w .check-words .ensures) ∙ c .enum-told5 .given .1)))
@@ -74,6 +74,7 @@ pub check-tables-spec : {M : Type 1} → statement M
 check-tables-spec =
     tie.close
     (tie.spec
+    (λ c κs. search needs)
     (λ c κs. search needs)
     (λ c. search needs)
     (λ c. search needs)
