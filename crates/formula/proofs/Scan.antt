@@ -19,6 +19,8 @@ use Rattle.qbf.specs.Connectives.{and-both, or-left, or-right}
 use Rattle.formula.specs.Bounds.{variableBound, inRange}
 use Rattle.formula.specs.Word.{wordOf}
 use Rattle.formula.specs.Refusal.{refusal}
+use Rattle.formula.specs.Prefix.{entryCount}
+use Rattle.formula.specs.Prefix.Laws.{prefix-variables}
 use Rattle.formula.specs.Decode.Laws.{magnitude-same, magnitude-negated}
 use Rattle.formula.specs.Tables.{isIn, zeros, prefixWord, prefixRefusal, literalWord, clauseWord, clausesEnd, clausesRefusal, listedIn, sized, firstRefusal, tablesRefusal, answerTables, tablesAnswer}
 use Rattle.formula.specs.Tables.Laws.{zeros-cons, prefix-word-zero, prefix-word-large, prefix-word-variable, clause-word-zero, clause-word-large, clause-word-literal}
@@ -99,8 +101,11 @@ variables-before-take v ws (suc n) h =
 pub marks-listed : (marks : List ℕ) (ws : List ℤ) (n : ℕ) → n ≤ length ws → length ws ≤ n → Marks marks (variablesBefore ws n) → marked marks ≡ listedIn ws
 marks-listed marks ws n h k m = λ j v. at v j
   where
-    at : (v : ℕ) → marked marks v ≡ isIn v (map natAbs ws)
-    at v = m .says v ∙ variables-before-take v ws n h ∙ ap (λ (l : List ℤ). isIn v (map natAbs l)) (take-all n ws k)
+    at : (v : ℕ) → marked marks v ≡ listedIn ws v
+    at v =
+        m .says v ∙ variables-before-take v ws n h
+        ∙ ap (λ (l : List ℤ). isIn v (map natAbs l)) (take-all n ws k)
+        ∙ ap (isIn v) (sym (prefix-variables ws))
 
 -- The run of literals, by the word at a place.
 module _ (known : ℕ → Bool) (ws : List ℤ) (i : ℕ) (h : i < length ws) where
@@ -420,14 +425,14 @@ module _ (p c : List ℤ) (e : sized p c ≡ true) where
   unfolding tablesRefusal wordsRefusal
   words-refused r h = rw e (go (firstRefusal (prefixRefusal 0 [] p) (clausesRefusal (listedIn p) 0 [] c)) h)
     where
-      go : (a : Option Refusal) → checkOf a ≡ Refused r → answerTables a (length p) (zeros c) ≡ TablesRefused r
+      go : (a : Option Refusal) → checkOf a ≡ Refused r → answerTables a (entryCount p) (zeros c) ≡ TablesRefused r
       go none k = let z : _≡_ {A = ℕ} 0 1 = cc in absurd (omega arith)
       go (some s) k = let q : s ≡ r = cc in ap TablesRefused q
 
-  pub words-admitted : checkOf (wordsRefusal p c) ≡ Passed → tablesAnswer p c ≡ TablesAdmitted (length p) (zeros c)
+  pub words-admitted : checkOf (wordsRefusal p c) ≡ Passed → tablesAnswer p c ≡ TablesAdmitted (entryCount p) (zeros c)
   unfolding tablesRefusal wordsRefusal
   words-admitted h = rw e (go (firstRefusal (prefixRefusal 0 [] p) (clausesRefusal (listedIn p) 0 [] c)) h)
     where
-      go : (a : Option Refusal) → checkOf a ≡ Passed → answerTables a (length p) (zeros c) ≡ TablesAdmitted (length p) (zeros c)
+      go : (a : Option Refusal) → checkOf a ≡ Passed → answerTables a (entryCount p) (zeros c) ≡ TablesAdmitted (entryCount p) (zeros c)
       go none k = refl
       go (some s) k = let z : _≡_ {A = ℕ} 0 1 = cc in absurd (omega arith)

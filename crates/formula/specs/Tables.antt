@@ -9,13 +9,15 @@ use Prim.Native.Nat.{ℕ, zero, suc, _+_}
 use mathlib.Core.Path.{_≡_}
 use mathlib.Core.Bool.{Bool, true, false, _||_, _&&_}
 use mathlib.Core.Option.{Option, none, some}
-use mathlib.Core.List.{List, [], _∷_, map}
+use mathlib.Core.List.{List, [], _∷_}
 use lib.ListN.{length}
 use lib.Dec.{leb, eqb}
-use lib.IntN.{ℤ, pos, negsuc, natAbs}
+use lib.IntN.{ℤ, pos, negsuc}
+use Rattle.qbf.specs.Formula.{listed}
 use Rattle.formula.specs.Bounds.{variableBound, countBound, matrixBound}
 use Rattle.formula.specs.Word.{wordOf}
 use Rattle.formula.specs.Refusal.{refusal}
+use Rattle.formula.specs.Prefix.{prefixOf, entryCount}
 use Rattle.formula.specs.declared.literal.Word.{Word}
 use Rattle.formula.specs.declared.literal.Word.the-variants.{Zero, TooLarge, Positive, Negative}
 use Rattle.formula.specs.declared.refusal.Refusal.{Refusal}
@@ -76,9 +78,9 @@ unfoldable pub clausesRefusal : (ℕ → Bool) → ℕ → List ℕ → List ℤ
 clausesRefusal known at seen [] = clausesEnd at seen
 clausesRefusal known at seen (w ∷ ws) = clauseWord known at seen (wordOf w) (λ seen′. clausesRefusal known (at + 1) seen′ ws)
 
--- The variables that the prefix words list: a word's variable is its magnitude.
+-- The variables that the prefix lists.
 abbrev pub listedIn : List ℤ → ℕ → Bool
-listedIn prefix v = isIn v (map natAbs prefix)
+listedIn prefix v = isIn v (listed (prefixOf prefix))
 
 -- Lengths and clause count are within their bounds.
 abbrev pub sized : List ℤ → List ℤ → Bool
@@ -103,7 +105,7 @@ answerTables (some r) variables count = Refused r
 
 -- What `check_tables` answers: the number of variables and of clauses, or the refusal.
 abbrev pub tablesAnswer : List ℤ → List ℤ → TablesAnswer
-tablesAnswer prefix clauses = answerTables (tablesRefusal prefix clauses) (length prefix) (zeros clauses)
+tablesAnswer prefix clauses = answerTables (tablesRefusal prefix clauses) (entryCount prefix) (zeros clauses)
 
 -- The tables pass the check.
 pub record Admitted (prefix clauses : List ℤ) : Type 0 where

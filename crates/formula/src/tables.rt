@@ -11,6 +11,7 @@ use crate::literal::Literal;
 use crate::literal::LiteralFit;
 use crate::literal::Variable;
 use crate::literal::Word;
+use crate::prefix;
 use crate::refusal::Reason;
 use crate::refusal::Refusal;
 ghost use mathlib.Core.Path.{_≡_};
@@ -182,7 +183,7 @@ pub fn check_tables(prefix: &[i32], clauses: &[i32]) -> TablesAnswer
     ensures { λ r. ⌜ r ≡ tablesAnswer (now (prefix .entry)) (now (clauses .entry)) ⌝ }
 {
     let oversized = Refusal::new(Reason::Oversized, 0);
-    let VariableCountFit::Within(variables) = VariableCount::new(prefix.len()) else {
+    let VariableCountFit::Within(_) = VariableCount::new(prefix.len()) else {
         return TablesAnswer::Refused(oversized);
     };
     let MatrixFit::Within(_) = MatrixLength::new(clauses.len()) else {
@@ -194,7 +195,7 @@ pub fn check_tables(prefix: &[i32], clauses: &[i32]) -> TablesAnswer
     match check_words(prefix, clauses) {
         Check::Refused(r) => TablesAnswer::Refused(r),
         Check::Passed => TablesAnswer::Admitted {
-            variables: variables.0,
+            variables: prefix::entry_count(prefix),
             clauses: count.0,
         },
     }

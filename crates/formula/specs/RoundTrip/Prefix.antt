@@ -27,6 +27,8 @@ use lib.Dec.{eqb}
 use lib.IntN.{ℤ, pos, negsuc, natAbs}
 use Rattle.qbf.specs.Formula.{Distinct}
 use Rattle.formula.specs.Bounds.{variableBound, countBound}
+use Rattle.formula.specs.Prefix.{entryOf, prefixOf}
+use Rattle.formula.specs.Prefix.Laws.{entry-variable, prefix-variables}
 use Rattle.formula.specs.Tables.{listedIn}
 use Rattle.formula.specs.Tables.Laws.{is-in-absent}
 use Rattle.formula.specs.Decimal.{decimal}
@@ -147,7 +149,7 @@ module _ (prefixRoom clauseRoom v c : ℕ) where
   -- What stands before a variable opens the line of its quantifier.
   turns :
       (done : List ℤ) (w : ℤ) (last : ℕ) (s : State) → Line done last s
-      → (filled : Bool) × Takes prefixRoom clauseRoom s (lineTurn (eqb last (letterOf w)) last (letterOf w)) (inSet v c (positive w) filled done)
+      → (filled : Bool) × Takes prefixRoom clauseRoom s (lineTurn (eqb last (letterOf (entryOf w .quantifier))) last (letterOf (entryOf w .quantifier))) (inSet v c (positive w) filled done)
   unfolding lineTurn lineEnd letterOf positive
   turns done (pos n) last s none-open = (false, begins-e done)
   turns done (pos n) last s e-open = (true, takes-none prefixRoom clauseRoom (inSet v c true true done))
@@ -157,7 +159,7 @@ module _ (prefixRoom clauseRoom v c : ℕ) where
   turns done (negsuc n) last s a-open = (true, takes-none prefixRoom clauseRoom (inSet v c false true done))
 
   -- The line of a word that was listed.
-  listed : (done : List ℤ) (w : ℤ) → Line done (letterOf w) (inSet v c (positive w) true done)
+  listed : (done : List ℤ) (w : ℤ) → Line done (letterOf (entryOf w .quantifier)) (inSet v c (positive w) true done)
   unfolding letterOf positive
   listed done (pos n) = e-open
   listed done (negsuc n) = a-open
@@ -171,19 +173,20 @@ module _ (prefixRoom clauseRoom v c : ℕ) where
   -- The prefix lines list the words in order.
   prefix-takes :
       (done ws : List ℤ) (last : ℕ) (s : State) → v ≤ variableBound → Line done last s → Lists v prefixRoom done ws
-      → Takes prefixRoom clauseRoom s (prefixText last ws) (betweenSets v c (done ++ ws))
+      → Takes prefixRoom clauseRoom s (prefixText last (prefixOf ws)) (betweenSets v c (done ++ ws))
   unfolding prefixText entryText
   prefix-takes done [] last s b o l = rw append-nil (closes done last s o)
   prefix-takes done (w ∷ ws) last s b o l =
       let t = turns done w last s o in
       let r = l .range w (List·Memᴰ·head refl) in
-      let e : listedIn done (natAbs w) ≡ false = is-in-absent (natAbs w) (map natAbs done) (λ m. l .fresh (natAbs w) m (List·Memᴰ·head refl)) in
+      let e : listedIn done (natAbs w) ≡ false = rw (prefix-variables done) (is-in-absent (natAbs w) (map natAbs done) (λ m. l .fresh (natAbs w) m (List·Memᴰ·head refl))) in
       let g = lists-variable (positive w) (t .0) done (natAbs w) (r .0) (r .1) b e (omega (arith, l .within)) in
-      let later = prefix-takes (done ++ (w ∷ [])) ws (letterOf w) (inSet v c (positive w) true (done ++ (w ∷ []))) b (listed (done ++ (w ∷ [])) w) (lists-later l) in
-      takes-append prefixRoom clauseRoom
+      let later = prefix-takes (done ++ (w ∷ [])) ws (letterOf (entryOf w .quantifier)) (inSet v c (positive w) true (done ++ (w ∷ []))) b (listed (done ++ (w ∷ [])) w) (lists-later l) in
+      rw (entry-variable w)
+      (takes-append prefixRoom clauseRoom
       (takes-append prefixRoom clauseRoom (t .1) (rw (signed-word w (r .0)) at g))
-      (rw (append-assoc done (w ∷ []) ws) at later)
+      (rw (append-assoc done (w ∷ []) ws) at later))
 
   -- From an empty prefix.
-  pub prefix-taken : (ws : List ℤ) → v ≤ variableBound → Lists v prefixRoom [] ws → Takes prefixRoom clauseRoom (betweenSets v c []) (prefixText 0 ws) (betweenSets v c ws)
+  pub prefix-taken : (ws : List ℤ) → v ≤ variableBound → Lists v prefixRoom [] ws → Takes prefixRoom clauseRoom (betweenSets v c []) (prefixText 0 (prefixOf ws)) (betweenSets v c ws)
   prefix-taken ws b l = prefix-takes [] ws 0 (betweenSets v c []) b none-open l

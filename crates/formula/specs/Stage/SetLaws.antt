@@ -15,6 +15,8 @@ use lib.Dec.{ltb, eqb}
 use lib.IntN.{ℤ, natAbs}
 use Rattle.formula.specs.Bounds.{variableBound}
 use Rattle.formula.specs.Refusal.{refusal}
+use Rattle.formula.specs.Prefix.{entryOf}
+use Rattle.formula.specs.Prefix.Laws.{entry-variable}
 use Rattle.formula.specs.Tables.{isIn, zeros, listedIn}
 use Rattle.formula.specs.Token.{aWord, eWord, placed, nextToken}
 use Rattle.formula.specs.Token.Laws.{token-found}
@@ -42,8 +44,8 @@ take-push xs n w h = rw add-one (take-suc-set xs n w h)
 -- One more word of the prefix lists its variable.
 pub listed-snoc : (v : ℕ) (ws : List ℤ) (w : ℤ) → listedIn (ws ++ (w ∷ [])) v ≡ (listedIn ws v || eqb v (natAbs w))
 unfolding isIn
-listed-snoc v [] w = or-false (eqb v (natAbs w))
-listed-snoc v (x ∷ ws) w = go (eqb v (natAbs x)) (listed-snoc v ws w)
+listed-snoc v [] w = rw (entry-variable w) (or-false (eqb v (natAbs w)))
+listed-snoc v (x ∷ ws) w = go (eqb v (entryOf x .variable)) (listed-snoc v ws w)
   where
     go : (b : Bool) → listedIn (ws ++ (w ∷ [])) v ≡ (listedIn ws v || eqb v (natAbs w)) → (b || listedIn (ws ++ (w ∷ [])) v) ≡ ((b || listedIn ws v) || eqb v (natAbs w))
     go true e = refl

@@ -73,6 +73,59 @@ word-of-literal w v s e l h =
     in-range (pos (suc n)) q l h = rw (le-leb (suc n) variableBound (omega arith))
     in-range (negsuc n) q l h = rw (le-leb (suc n) variableBound (omega arith))
 
+-- The word that was recognised, back from its case.
+apart : {v w : Word} {A : Type 0} → v ≡ w → ((v ≡ w) → _≡_ {A = ℕ} 0 1) → A
+apart e f = let z = f e in absurd (omega arith)
+
+pub zero-word : (w : ℤ) → wordOf w ≡ Zero → w ≡ pos 0
+unfolding wordOf
+zero-word (pos zero) e = refl
+zero-word (pos (suc n)) e = go (leb (suc n) variableBound) e
+  where
+    go : (b : Bool) → positive b (suc n) ≡ Zero → pos (suc n) ≡ pos 0
+    go true f = apart f (λ h. cc)
+    go false f = apart f (λ h. cc)
+zero-word (negsuc n) e = go (leb (suc n) variableBound) e
+  where
+    go : (b : Bool) → negative b (suc n) ≡ Zero → negsuc n ≡ pos 0
+    go true f = apart f (λ h. cc)
+    go false f = apart f (λ h. cc)
+
+pub positive-word : (w : ℤ) (v : Variable) → wordOf w ≡ Positive v → w ≡ pos (v .0)
+unfolding wordOf
+positive-word (pos zero) v e = apart e (λ h. cc)
+positive-word (pos (suc n)) v e = go (leb (suc n) variableBound) e
+  where
+    go : (b : Bool) → positive b (suc n) ≡ Positive v → pos (suc n) ≡ pos (v .0)
+    go true f = let same : _≡_ {A = Variable} (record { 0 = suc n }) v = cc in ap (λ (x : Variable). pos (x .0)) same
+    go false f = apart f (λ h. cc)
+positive-word (negsuc n) v e = go (leb (suc n) variableBound) e
+  where
+    go : (b : Bool) → negative b (suc n) ≡ Positive v → negsuc n ≡ pos (v .0)
+    go true f = apart f (λ h. cc)
+    go false f = apart f (λ h. cc)
+
+pub negative-word : (w : ℤ) (v : Variable) → wordOf w ≡ Negative v → w ≡ negℤ (pos (v .0))
+unfolding wordOf
+negative-word (pos zero) v e = apart e (λ h. cc)
+negative-word (pos (suc n)) v e = go (leb (suc n) variableBound) e
+  where
+    go : (b : Bool) → positive b (suc n) ≡ Negative v → pos (suc n) ≡ negℤ (pos (v .0))
+    go true f = apart f (λ h. cc)
+    go false f = apart f (λ h. cc)
+negative-word (negsuc n) v e = go (leb (suc n) variableBound) e
+  where
+    go : (b : Bool) → negative b (suc n) ≡ Negative v → negsuc n ≡ negℤ (pos (v .0))
+    go true f = let same : _≡_ {A = Variable} (record { 0 = suc n }) v = cc in ap (λ (x : Variable). negℤ (pos (x .0))) same
+    go false f = apart f (λ h. cc)
+
+-- A word within the range is not too large.
+pub not-too-large : (w : ℤ) {A : Type 0} → natAbs w ≤ variableBound → wordOf w ≡ TooLarge → A
+unfolding wordOf
+not-too-large (pos zero) h e = apart e (λ f. cc)
+not-too-large (pos (suc n)) h e = apart (rw (le-leb (suc n) variableBound h) at e) (λ f. cc)
+not-too-large (negsuc n) h e = apart (rw (le-leb (suc n) variableBound h) at e) (λ f. cc)
+
 -- A variable that was recognised is in range, with either sign.
 pub positive-bounded : (w : ℤ) (v : Variable) → wordOf w ≡ Positive v → (1 ≤ v .0) × (v .0 ≤ variableBound)
 positive-bounded w v e = go (recognised w)
