@@ -1,5 +1,5 @@
--- Laws of the parts of the check of tables: the magnitude of a word, one word of each scan by its place, marks against lists
--- of variables, and one whole clause judged by where its literals end and where they clash. Assumes nothing.
+-- Laws of the parts of the check of tables: one word of each scan by its place, marks against lists of variables, and one whole
+-- clause judged by where its literals end and where they clash. Assumes nothing.
 use Prim.Native.Nat.{ℕ, zero, suc, _+_, _≤_, _<_}
 use mathlib.Core.Path.{_≡_, refl, ap, sym, _∙_, subst}
 use mathlib.Core.Logic.{_⊎_, inl, inr}
@@ -19,58 +19,17 @@ use Rattle.qbf.specs.Connectives.{and-both, or-left, or-right}
 use Rattle.formula.specs.Bounds.{variableBound, inRange}
 use Rattle.formula.specs.Word.{wordOf}
 use Rattle.formula.specs.Refusal.{refusal}
-use Rattle.formula.specs.Decode.Laws.{magnitude-same, magnitude-negated}
+use Rattle.formula.specs.Prefix.{entryCount}
 use Rattle.formula.specs.Prefix.Laws.{prefix-variables}
+use Rattle.formula.specs.Decode.Laws.{magnitude-same, magnitude-negated}
 use Rattle.formula.specs.Tables.{isIn, zeros, prefixWord, prefixRefusal, literalWord, clauseWord, clausesEnd, clausesRefusal, listedIn, sized, firstRefusal, tablesRefusal, answerTables, tablesAnswer}
-use Rattle.formula.specs.Tables.Laws.{Kind, closing, large, signed, kind, zeros-cons, prefix-word-zero, prefix-word-large, prefix-word-variable, clause-word-zero, clause-word-large, clause-word-literal}
-use Rattle.formula.specs.Tables.Scan.{magnitudeOf, marked, Marks, variablesBefore, further, plainRun, clashFree, ClauseStep, checkOf, wordsRefusal}
+use Rattle.formula.specs.Tables.Laws.{zeros-cons, prefix-word-zero, prefix-word-large, prefix-word-variable, clause-word-zero, clause-word-large, clause-word-literal}
+use Rattle.formula.specs.Tables.Scan.{marked, Marks, variablesBefore, further, plainRun, clashFree, ClauseStep, checkOf, wordsRefusal}
 use Rattle.formula.specs.declared.refusal.Refusal.{Refusal}
 use Rattle.formula.specs.declared.tables.TablesAnswer.the-variants.{Admitted as TablesAdmitted, Refused as TablesRefused}
 use Rattle.formula.specs.declared.tables.Check.the-variants.{Passed, Refused}
 use Rattle.formula.specs.declared.tables.ClauseCheck.the-variants.{Closed, Refused as Stopped}
 use Rattle.formula.specs.declared.refusal.Reason.the-variants.{Oversized, OutOfRange, BoundTwice, Unbound, Clash, Unfinished}
-
--- The magnitude of each kind of word.
-magnitude-large-is : (w : ℤ) → variableBound < natAbs w → magnitudeOf (wordOf w) ≡ 1025
-unfolding wordOf magnitudeOf
-magnitude-large-is (pos zero) h = absurd (not-suc-le-zero h)
-magnitude-large-is (pos (suc n)) h = rw (lt-leb (suc n) variableBound h)
-magnitude-large-is (negsuc n) h = rw (lt-leb (suc n) variableBound h)
-
-magnitude-signed-is : (w : ℤ) → 1 ≤ natAbs w → natAbs w ≤ variableBound → magnitudeOf (wordOf w) ≡ natAbs w
-unfolding wordOf magnitudeOf
-magnitude-signed-is (pos zero) l h = absurd (not-suc-le-zero l)
-magnitude-signed-is (pos (suc n)) l h = rw (le-leb (suc n) variableBound h)
-magnitude-signed-is (negsuc n) l h = rw (le-leb (suc n) variableBound h)
-
-magnitude-zero-is : (w : ℤ) → w ≡ pos 0 → magnitudeOf (wordOf w) ≡ 0
-unfolding wordOf magnitudeOf
-magnitude-zero-is w e = rw e
-
--- What tests on the magnitude say of the word.
-pub magnitude-zero : (w : ℤ) → magnitudeOf (wordOf w) < 1 → w ≡ pos 0
-magnitude-zero w h = go (kind w)
-  where
-    go : Kind w → w ≡ pos 0
-    go (closing e) = e
-    go (large l) = let e = magnitude-large-is w l in absurd (omega arith)
-    go (signed l u) = let e = magnitude-signed-is w l u in absurd (omega arith)
-
-pub magnitude-large : (w : ℤ) → 1024 < magnitudeOf (wordOf w) → variableBound < natAbs w
-magnitude-large w h = go (kind w)
-  where
-    go : Kind w → variableBound < natAbs w
-    go (closing e) = let z = magnitude-zero-is w e in absurd (omega arith)
-    go (large l) = l
-    go (signed l u) = let e = magnitude-signed-is w l u in absurd (omega arith)
-
-pub magnitude-signed : (w : ℤ) → 1 ≤ magnitudeOf (wordOf w) → magnitudeOf (wordOf w) ≤ 1024 → magnitudeOf (wordOf w) ≡ natAbs w
-magnitude-signed w h k = go (kind w)
-  where
-    go : Kind w → magnitudeOf (wordOf w) ≡ natAbs w
-    go (closing e) = let z = magnitude-zero-is w e in absurd (omega arith)
-    go (large l) = let e = magnitude-large-is w l in absurd (omega arith)
-    go (signed l u) = magnitude-signed-is w l u
 
 -- Zeros, by the word at a place.
 module _ (ws : List ℤ) (i : ℕ) (h : i < length ws) where
@@ -144,8 +103,9 @@ marks-listed marks ws n h k m = λ j v. at v j
   where
     at : (v : ℕ) → marked marks v ≡ listedIn ws v
     at v =
-        rw (prefix-variables ws)
-        (m .says v ∙ variables-before-take v ws n h ∙ ap (λ (l : List ℤ). isIn v (map natAbs l)) (take-all n ws k))
+        m .says v ∙ variables-before-take v ws n h
+        ∙ ap (λ (l : List ℤ). isIn v (map natAbs l)) (take-all n ws k)
+        ∙ ap (isIn v) (sym (prefix-variables ws))
 
 -- The run of literals, by the word at a place.
 module _ (known : ℕ → Bool) (ws : List ℤ) (i : ℕ) (h : i < length ws) where
@@ -465,14 +425,14 @@ module _ (p c : List ℤ) (e : sized p c ≡ true) where
   unfolding tablesRefusal wordsRefusal
   words-refused r h = rw e (go (firstRefusal (prefixRefusal 0 [] p) (clausesRefusal (listedIn p) 0 [] c)) h)
     where
-      go : (a : Option Refusal) → checkOf a ≡ Refused r → answerTables a (length p) (zeros c) ≡ TablesRefused r
+      go : (a : Option Refusal) → checkOf a ≡ Refused r → answerTables a (entryCount p) (zeros c) ≡ TablesRefused r
       go none k = let z : _≡_ {A = ℕ} 0 1 = cc in absurd (omega arith)
       go (some s) k = let q : s ≡ r = cc in ap TablesRefused q
 
-  pub words-admitted : checkOf (wordsRefusal p c) ≡ Passed → tablesAnswer p c ≡ TablesAdmitted (length p) (zeros c)
+  pub words-admitted : checkOf (wordsRefusal p c) ≡ Passed → tablesAnswer p c ≡ TablesAdmitted (entryCount p) (zeros c)
   unfolding tablesRefusal wordsRefusal
   words-admitted h = rw e (go (firstRefusal (prefixRefusal 0 [] p) (clausesRefusal (listedIn p) 0 [] c)) h)
     where
-      go : (a : Option Refusal) → checkOf a ≡ Passed → answerTables a (length p) (zeros c) ≡ TablesAdmitted (length p) (zeros c)
+      go : (a : Option Refusal) → checkOf a ≡ Passed → answerTables a (entryCount p) (zeros c) ≡ TablesAdmitted (entryCount p) (zeros c)
       go none k = refl
       go (some s) k = let z : _≡_ {A = ℕ} 0 1 = cc in absurd (omega arith)

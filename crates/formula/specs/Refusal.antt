@@ -1,9 +1,12 @@
 -- The reasons of 01's table ("What the checker says no with"): the number and the word of each. Laws are in Refusal/Laws.antt.
 pub mod Laws
-use Prim.Native.Nat.{ℕ, _-_}
-use mathlib.Core.Bool.{Bool, true, false}
+use Prim.Native.Nat.{ℕ, _-_, _≤_}
+use mathlib.Core.Path.{_≡_}
+use mathlib.Core.Bool.{Bool, true, false, _&&_}
 use mathlib.Core.List.{List, [], _∷_}
-use lib.ListN.{getD}
+use lib.ListN.{length, getD, take}
+use lib.Dec.{eqb}
+use Rattle.formula.specs.declared.refusal.ReasonWord.{ReasonWord}
 use Rattle.formula.specs.declared.refusal.Reason.{Reason}
 use Rattle.formula.specs.declared.refusal.Refusal.{Refusal}
 use Rattle.formula.specs.declared.refusal.Reason.the-variants.{
@@ -123,3 +126,30 @@ reasonAt n = rowAt n .reason
 
 abbrev pub word : Reason → List ℕ
 word r = rowAt (number r) .bytes
+
+-- A word filled up with dots: the bytes before the first.
+abbrev pub beforeDot : Bool → ℕ → List ℕ → List ℕ
+beforeDot true b later = []
+beforeDot false b later = b ∷ later
+
+unfoldable pub wordIn : List ℕ → List ℕ
+wordIn [] = []
+wordIn (b ∷ bs) = beforeDot (eqb b 46) b (wordIn bs)
+
+-- Two lists of bytes are the same.
+unfoldable pub same : List ℕ → List ℕ → Bool
+same [] [] = true
+same [] (c ∷ cs) = false
+same (b ∷ bs) [] = false
+same (b ∷ bs) (c ∷ cs) = eqb b c && same bs cs
+
+-- A list of words filled up with dots to 14 bytes, each the word of the table's row at its place.
+unfoldable pub filled : List (List ℕ) → List Named → Bool
+filled ws [] = true
+filled [] (x ∷ xs) = false
+filled (w ∷ ws) (x ∷ xs) = (eqb (length w) 14 && same (wordIn w) (x .bytes)) && filled ws xs
+
+-- What `Reason::word` answers: the bytes stand first, and no word has more than 14.
+pub record Spells (r : ReasonWord) (bytes : List ℕ) : Type 0 where
+  pub spelled : take (r .length) (r .bytes) ≡ bytes
+  pub short : r .length ≤ 14

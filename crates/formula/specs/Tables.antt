@@ -15,9 +15,9 @@ use lib.Dec.{leb, eqb}
 use lib.IntN.{ℤ, pos, negsuc}
 use Rattle.qbf.specs.Formula.{listed}
 use Rattle.formula.specs.Bounds.{variableBound, countBound, matrixBound}
-use Rattle.formula.specs.Prefix.{prefixOf}
 use Rattle.formula.specs.Word.{wordOf}
 use Rattle.formula.specs.Refusal.{refusal}
+use Rattle.formula.specs.Prefix.{prefixOf, entryCount}
 use Rattle.formula.specs.declared.literal.Word.{Word}
 use Rattle.formula.specs.declared.literal.Word.the-variants.{Zero, TooLarge, Positive, Negative}
 use Rattle.formula.specs.declared.refusal.Refusal.{Refusal}
@@ -78,7 +78,7 @@ unfoldable pub clausesRefusal : (ℕ → Bool) → ℕ → List ℕ → List ℤ
 clausesRefusal known at seen [] = clausesEnd at seen
 clausesRefusal known at seen (w ∷ ws) = clauseWord known at seen (wordOf w) (λ seen′. clausesRefusal known (at + 1) seen′ ws)
 
--- The variables that the prefix words list.
+-- The variables that the prefix lists.
 abbrev pub listedIn : List ℤ → ℕ → Bool
 listedIn prefix v = isIn v (listed (prefixOf prefix))
 
@@ -105,7 +105,7 @@ answerTables (some r) variables count = Refused r
 
 -- What `check_tables` answers: the number of variables and of clauses, or the refusal.
 abbrev pub tablesAnswer : List ℤ → List ℤ → TablesAnswer
-tablesAnswer prefix clauses = answerTables (tablesRefusal prefix clauses) (length prefix) (zeros clauses)
+tablesAnswer prefix clauses = answerTables (tablesRefusal prefix clauses) (entryCount prefix) (zeros clauses)
 
 -- The tables pass the check.
 pub record Admitted (prefix clauses : List ℤ) : Type 0 where

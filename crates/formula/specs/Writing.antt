@@ -1,4 +1,4 @@
--- The written text as the writer's loops go through it, word by word, and what its inner functions ask and promise. That
+-- The written text as the writer's loops go through it, entry by entry and word by word, and what its inner functions ask and promise. That
 -- it is the text of Written.antt is the law `written-stream` of Written/Lines.antt.
 use Prim.Native.Nat.{ℕ, zero, suc, _≤_}
 use mathlib.Core.Path.{_≡_}
@@ -8,6 +8,7 @@ use mathlib.Core.List.{List, [], _∷_, _++_}
 use lib.ListN.{length, getD}
 use lib.Dec.{leb, eqb}
 use lib.IntN.{ℤ, pos, negsuc, natAbs}
+use Rattle.qbf.specs.Formula.{Prefix}
 use Rattle.formula.specs.Bounds.{variableBound}
 use Rattle.formula.specs.Clear.{clearFrom}
 use Rattle.formula.specs.Decimal.{decimal}
@@ -25,13 +26,13 @@ unfoldable pub lineTurn : Bool → ℕ → ℕ → List ℕ
 lineTurn true last letter = []
 lineTurn false last letter = lineEnd last ++ (letter ∷ 32 ∷ [])
 
--- A prefix word, where the open line's letter is `last`.
-unfoldable pub entryText : ℕ → ℤ → List ℕ
-entryText last w = lineTurn (eqb last (letterOf w)) last (letterOf w) ++ (decimal (natAbs w) ++ (32 ∷ []))
+-- A variable of a quantifier with this letter, where the open line's letter is `last`.
+unfoldable pub entryText : ℕ → ℕ → ℕ → List ℕ
+entryText last letter variable = lineTurn (eqb last letter) last letter ++ (decimal variable ++ (32 ∷ []))
 
-unfoldable pub prefixText : ℕ → List ℤ → List ℕ
+unfoldable pub prefixText : ℕ → Prefix → List ℕ
 prefixText last [] = lineEnd last
-prefixText last (w ∷ ws) = entryText last w ++ prefixText (letterOf w) ws
+prefixText last (x ∷ P) = entryText last (letterOf (x .quantifier)) (x .variable) ++ prefixText (letterOf (x .quantifier)) P
 
 -- A clause word: a literal with the space behind it, or the 0 that ends its line.
 unfoldable pub wordText : ℤ → List ℕ
@@ -43,7 +44,7 @@ unfoldable pub clausesText : List ℤ → List ℕ
 clausesText [] = []
 clausesText (w ∷ ws) = wordText w ++ clausesText ws
 
--- Every magnitude is within the bound on variables: what the inner functions of the writer ask of a table.
+-- Every magnitude is within the bound on variables: what the inner functions of the writer ask of the clause table.
 pub record Bounded (ws : List ℤ) : Type 0 where
   pub bounded : (i : ℕ) → natAbs (getD ws i (pos 0)) ≤ variableBound
 

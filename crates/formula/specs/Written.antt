@@ -3,7 +3,6 @@
 -- Bytes: 10 LF, 32 space, 45 minus, 48 the digit 0, 97 `a`, 101 `e`. Then what `write_formula` answers and leaves in the text.
 pub mod Lines
 pub mod Laws
-pub mod Words
 pub mod Length
 pub mod Room
 pub mod Example
@@ -14,8 +13,10 @@ use mathlib.Core.Option.{Option, none, some}
 use mathlib.Core.List.{List, [], _∷_, _++_, flatMap}
 use lib.ListN.{length, replicate}
 use lib.Dec.{leb, eqb}
-use lib.IntN.{ℤ, pos, negsuc, natAbs}
+use lib.IntN.{ℤ, pos, negsuc}
+use Rattle.qbf.specs.Formula.{Quantifier, existential, universal, Entry, Prefix}
 use Rattle.formula.specs.Refusal.{refusal}
+use Rattle.formula.specs.Prefix.{prefixOf}
 use Rattle.formula.specs.Decode.{clausesOf}
 use Rattle.formula.specs.Tables.{zeros, tablesRefusal, firstRefusal}
 use Rattle.formula.specs.Decimal.{decimal}
@@ -25,42 +26,42 @@ use Rattle.formula.specs.declared.write.WriteAnswer.{WriteAnswer}
 use Rattle.formula.specs.declared.write.WriteAnswer.the-variants.{Written, Refused}
 
 -- V: the largest variable number of the prefix, 0 if it has none.
-unfoldable pub largest : List ℤ → ℕ
+unfoldable pub largest : Prefix → ℕ
 largest [] = 0
-largest (w ∷ ws) = max (natAbs w) (largest ws)
+largest (x ∷ P) = max (x .variable) (largest P)
 
 -- `p cnf V C` and LF.
 unfoldable pub headerText : ℕ → ℕ → List ℕ
 headerText top count = (112 ∷ 32 ∷ 99 ∷ 110 ∷ 102 ∷ 32 ∷ []) ++ (decimal top ++ (32 ∷ (decimal count ++ (10 ∷ []))))
 
--- The letter of a prefix word's quantifier.
-unfoldable pub letterOf : ℤ → ℕ
-letterOf (pos v) = 101
-letterOf (negsuc n) = 97
+-- The letter of a quantifier.
+unfoldable pub letterOf : Quantifier → ℕ
+letterOf existential = 101
+letterOf universal = 97
 
 -- The runs of a prefix: neighbours of one quantifier, as many as stand together. No run is empty, so the second case of
 -- `joinRun` is never met.
-abbrev pub joinIf : Bool → ℤ → List ℤ → List (List ℤ) → List (List ℤ)
-joinIf true w run later = (w ∷ run) ∷ later
-joinIf false w run later = (w ∷ []) ∷ (run ∷ later)
+abbrev pub joinIf : Bool → Entry → Prefix → List Prefix → List Prefix
+joinIf true x run later = (x ∷ run) ∷ later
+joinIf false x run later = (x ∷ []) ∷ (run ∷ later)
 
-abbrev pub joinRun : ℤ → List (List ℤ) → List (List ℤ)
-joinRun w [] = (w ∷ []) ∷ []
-joinRun w ([] ∷ later) = (w ∷ []) ∷ later
-joinRun w ((u ∷ run) ∷ later) = joinIf (eqb (letterOf w) (letterOf u)) w (u ∷ run) later
+abbrev pub joinRun : Entry → List Prefix → List Prefix
+joinRun x [] = (x ∷ []) ∷ []
+joinRun x ([] ∷ later) = (x ∷ []) ∷ later
+joinRun x ((y ∷ run) ∷ later) = joinIf (eqb (letterOf (x .quantifier)) (letterOf (y .quantifier))) x (y ∷ run) later
 
-unfoldable pub runs : List ℤ → List (List ℤ)
+unfoldable pub runs : Prefix → List Prefix
 runs [] = []
-runs (w ∷ ws) = joinRun w (runs ws)
+runs (x ∷ P) = joinRun x (runs P)
 
 -- A run's line: its letter, its variables, 0.
-unfoldable pub variablesText : List ℤ → List ℕ
+unfoldable pub variablesText : Prefix → List ℕ
 variablesText [] = 48 ∷ 10 ∷ []
-variablesText (w ∷ ws) = decimal (natAbs w) ++ (32 ∷ variablesText ws)
+variablesText (x ∷ run) = decimal (x .variable) ++ (32 ∷ variablesText run)
 
-unfoldable pub runLine : List ℤ → List ℕ
+unfoldable pub runLine : Prefix → List ℕ
 runLine [] = []
-runLine (w ∷ ws) = letterOf w ∷ 32 ∷ variablesText (w ∷ ws)
+runLine (x ∷ run) = letterOf (x .quantifier) ∷ 32 ∷ variablesText (x ∷ run)
 
 -- A clause's line: its literals, 0.
 unfoldable pub literalText : ℤ → List ℕ
@@ -74,7 +75,8 @@ clauseLine (w ∷ C) = literalText w ++ (32 ∷ clauseLine C)
 -- The whole text: the header, a line for each run, a line for each clause.
 unfoldable pub written : List ℤ → List ℤ → List ℕ
 written prefix clauses =
-    headerText (largest prefix) (zeros clauses) ++ (flatMap runLine (runs prefix) ++ flatMap clauseLine (clausesOf clauses))
+    headerText (largest (prefixOf prefix)) (zeros clauses)
+    ++ (flatMap runLine (runs (prefixOf prefix)) ++ flatMap clauseLine (clausesOf clauses))
 
 abbrev pub ifRoom : Bool → Option Refusal
 ifRoom true = none

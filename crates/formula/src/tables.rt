@@ -11,6 +11,7 @@ use crate::literal::Literal;
 use crate::literal::LiteralFit;
 use crate::literal::Variable;
 use crate::literal::Word;
+use crate::prefix;
 use crate::refusal::Reason;
 use crate::refusal::Refusal;
 ghost use mathlib.Core.Path.{_≡_};
@@ -20,9 +21,8 @@ ghost use Prim.Native.Nat.{_+_, _≤_, _<_};
 ghost use lib.ListN.{length, drop};
 ghost use lib.IntN.{ℤ, natAbs};
 ghost use Rattle.formula.specs.Bounds.{variableBound, inRange};
-ghost use Rattle.formula.specs.Word.{wordOf};
 ghost use Rattle.formula.specs.Tables.{zeros, prefixRefusal, clausesRefusal, listedIn, tablesAnswer};
-ghost use Rattle.formula.specs.Tables.Scan.{magnitudeOf, marked, Marks, checkOf, plainRun, clashFree, ClauseStep, wordsRefusal};
+ghost use Rattle.formula.specs.Tables.Scan.{marked, Marks, checkOf, plainRun, clashFree, ClauseStep, wordsRefusal};
 
 // Admitted, with the number of variables and of clauses; or the refusal.
 pub enum TablesAnswer {
@@ -40,18 +40,6 @@ enum Check {
 enum ClauseCheck {
     Closed(usize),
     Refused(Refusal),
-}
-
-// A word's magnitude, 1,025 for each above 1,024.
-fn magnitude(word: i32) -> usize
-    ensures { λ r. ⌜ r ≡ magnitudeOf (wordOf word) ⌝ }
-{
-    match Word::of(word) {
-        Word::Zero => 0,
-        Word::TooLarge => 1_025,
-        Word::Positive(v) => v.0,
-        Word::Negative(v) => v.0,
-    }
 }
 
 // The number of 0 words.
@@ -77,24 +65,15 @@ fn check_prefix(prefix: &[i32], listed: &mut [u8]) -> Check
 {
     let mut i = 0;
     while i < prefix.len() {
-        let v = magnitude(prefix[i]);
+        let v = Word::variable(prefix[i]);
         if v < 1 {
-            return Check::Refused(Refusal {
-                reason: Reason::OutOfRange,
-                place: i,
-            });
+            return Check::Refused(Refusal::new(Reason::OutOfRange, i));
         }
         if Variable::MAX < v {
-            return Check::Refused(Refusal {
-                reason: Reason::OutOfRange,
-                place: i,
-            });
+            return Check::Refused(Refusal::new(Reason::OutOfRange, i));
         }
         if listed[v] == 1 {
-            return Check::Refused(Refusal {
-                reason: Reason::BoundTwice,
-                place: i,
-            });
+            return Check::Refused(Refusal::new(Reason::BoundTwice, i));
         }
         listed[v] = 1;
         i += 1;
@@ -109,7 +88,7 @@ fn literals_end(clauses: &[i32], from: usize, listed: &[u8]) -> usize
 {
     let mut i = from;
     while i < clauses.len() {
-        let v = magnitude(clauses[i]);
+        let v = Word::variable(clauses[i]);
         if v < 1 {
             return i;
         }
@@ -158,31 +137,19 @@ fn check_clause(clauses: &[i32], from: usize, listed: &[u8]) -> ClauseCheck
     let end = literals_end(clauses, from, listed);
     let clash = find_clash(&clauses[from..end]);
     if clash < end - from {
-        return ClauseCheck::Refused(Refusal {
-            reason: Reason::Clash,
-            place: from + clash,
-        });
+        return ClauseCheck::Refused(Refusal::new(Reason::Clash, from + clash));
     }
     if clauses.len() <= end {
-        return ClauseCheck::Refused(Refusal {
-            reason: Reason::Unfinished,
-            place: end,
-        });
+        return ClauseCheck::Refused(Refusal::new(Reason::Unfinished, end));
     }
-    let v = magnitude(clauses[end]);
+    let v = Word::variable(clauses[end]);
     if v < 1 {
         return ClauseCheck::Closed(end + 1);
     }
     if Variable::MAX < v {
-        return ClauseCheck::Refused(Refusal {
-            reason: Reason::OutOfRange,
-            place: end,
-        });
+        return ClauseCheck::Refused(Refusal::new(Reason::OutOfRange, end));
     }
-    ClauseCheck::Refused(Refusal {
-        reason: Reason::Unbound,
-        place: end,
-    })
+    ClauseCheck::Refused(Refusal::new(Reason::Unbound, end))
 }
 
 // The clause words, clause by clause.
@@ -215,11 +182,8 @@ fn check_words(prefix: &[i32], clauses: &[i32]) -> Check
 pub fn check_tables(prefix: &[i32], clauses: &[i32]) -> TablesAnswer
     ensures { λ r. ⌜ r ≡ tablesAnswer (now (prefix .entry)) (now (clauses .entry)) ⌝ }
 {
-    let oversized = Refusal {
-        reason: Reason::Oversized,
-        place: 0,
-    };
-    let VariableCountFit::Within(variables) = VariableCount::new(prefix.len()) else {
+    let oversized = Refusal::new(Reason::Oversized, 0);
+    let VariableCountFit::Within(_) = VariableCount::new(prefix.len()) else {
         return TablesAnswer::Refused(oversized);
     };
     let MatrixFit::Within(_) = MatrixLength::new(clauses.len()) else {
@@ -231,7 +195,7 @@ pub fn check_tables(prefix: &[i32], clauses: &[i32]) -> TablesAnswer
     match check_words(prefix, clauses) {
         Check::Refused(r) => TablesAnswer::Refused(r),
         Check::Passed => TablesAnswer::Admitted {
-            variables: variables.0,
+            variables: prefix::entry_count(prefix),
             clauses: count.0,
         },
     }

@@ -2,6 +2,8 @@
 use crate::clear;
 use crate::decimal;
 use crate::literal::Word;
+use crate::prefix;
+use crate::prefix::Entry;
 use crate::refusal::Reason;
 use crate::refusal::Refusal;
 use crate::tables;
@@ -13,6 +15,7 @@ ghost use lib.ListN.{length};
 ghost use lib.Dec.{eqb};
 ghost use lib.IntN.{natAbs};
 ghost use Rattle.formula.specs.Bounds.{variableBound};
+ghost use Rattle.formula.specs.Prefix.{prefixOf, entryCount, entryAt, Entries};
 ghost use Rattle.formula.specs.Decimal.{decimal};
 ghost use Rattle.formula.specs.Store.{Stores};
 ghost use Rattle.formula.specs.Tables.{zeros, Admitted};
@@ -25,29 +28,27 @@ pub enum WriteAnswer {
     Refused(Refusal),
 }
 
-// The variable of a word.
-fn variable(word: i32) -> usize
-    requires { ⌜ natAbs word ≤ variableBound ⌝ }
-    ensures { λ r. ⌜ r ≡ natAbs word ⌝ }
+// The number of the variable of the entry at a place.
+fn variable_at(prefix: &[i32], place: usize) -> usize
+    requires { ⌜ Entries (now prefix) ⌝ }
+    requires { ⌜ place < entryCount (now prefix) ⌝ }
+    ensures { λ r. ⌜ r ≡ entryAt (now (prefix .entry)) place .variable ⌝ }
 {
-    match Word::of(word) {
-        Word::Zero => 0,
-        Word::TooLarge => 0,
-        Word::Positive(v) => v.0,
-        Word::Negative(v) => v.0,
+    match prefix::entry_at(prefix, place) {
+        Entry::Existential(v) => v.0,
+        Entry::Universal(v) => v.0,
     }
 }
 
-// The letter of a prefix word's quantifier.
-fn letter(word: i32) -> u8
-    requires { ⌜ natAbs word ≤ variableBound ⌝ }
-    ensures { λ r. ⌜ r ≡ letterOf word ⌝ }
+// The letter of its quantifier.
+fn letter_at(prefix: &[i32], place: usize) -> u8
+    requires { ⌜ Entries (now prefix) ⌝ }
+    requires { ⌜ place < entryCount (now prefix) ⌝ }
+    ensures { λ r. ⌜ r ≡ letterOf (entryAt (now (prefix .entry)) place .quantifier) ⌝ }
 {
-    match Word::of(word) {
-        Word::Zero => b'e',
-        Word::TooLarge => b'e',
-        Word::Positive(_) => b'e',
-        Word::Negative(_) => b'a',
+    match prefix::entry_at(prefix, place) {
+        Entry::Existential(_) => b'e',
+        Entry::Universal(_) => b'a',
     }
 }
 
@@ -58,20 +59,22 @@ fn larger(a: usize, b: usize) -> usize
     if a < b { b } else { a }
 }
 
-// The largest variable number of a prefix.
+// The largest variable number of a prefix, 0 if it has no entry.
 fn largest_variable(prefix: &[i32]) -> usize
-    requires { ⌜ Bounded (now prefix) ⌝ }
-    ensures { λ r. ⌜ r ≡ largest (now (prefix .entry)) ⌝ }
+    requires { ⌜ Entries (now prefix) ⌝ }
+    ensures { λ r. ⌜ r ≡ largest (prefixOf (now (prefix .entry))) ⌝ }
 {
+    let count = prefix::entry_count(prefix);
     let mut top = 0;
     let mut i = 0;
-    while i < prefix.len() {
-        top = larger(top, variable(prefix[i]));
+    while i < count {
+        top = larger(top, variable_at(prefix, i));
         i += 1;
     }
     top
 }
 
+// The header line, from V and C.
 fn write_header(text: &mut [u8], top: usize, count: usize) -> usize
     requires { ⌜ length (headerText top count) < 2 ^ 64 ⌝ }
     ensures { λ r. ⌜ Stores (now (text .entry)) 0 (headerText top count) (now (text .exit)) r ⌝ }
@@ -116,31 +119,36 @@ fn write_spaced(text: &mut [u8], at: usize, n: usize) -> usize
     decimal::put(text, next, b' ')
 }
 
-fn write_entry(text: &mut [u8], at: usize, last: u8, word: i32) -> usize
-    requires { ⌜ natAbs word ≤ variableBound ⌝ }
-    requires { ⌜ at + length (entryText last word) < 2 ^ 64 ⌝ }
-    ensures { λ r. ⌜ Stores (now (text .entry)) at (entryText last word) (now (text .exit)) r ⌝ }
+// A variable, on the line of its quantifier's letter.
+fn write_entry(text: &mut [u8], at: usize, last: u8, letter: u8, variable: usize) -> usize
+    requires { ⌜ at + length (entryText last letter variable) < 2 ^ 64 ⌝ }
+    ensures { λ r. ⌜ Stores (now (text .entry)) at (entryText last letter variable) (now (text .exit)) r ⌝ }
 {
-    let next = turn_line(text, at, last, letter(word));
-    write_spaced(text, next, variable(word))
+    let next = turn_line(text, at, last, letter);
+    write_spaced(text, next, variable)
 }
 
+// The prefix lines: entries of one quantifier that stand together share a line.
 fn write_prefix(prefix: &[i32], text: &mut [u8], at: usize) -> usize
-    requires { ⌜ Bounded (now prefix) ⌝ }
-    requires { ⌜ at + length (prefixText 0 (now prefix)) < 2 ^ 64 ⌝ }
-    ensures { λ r. ⌜ Stores (now (text .entry)) at (prefixText 0 (now (prefix .entry))) (now (text .exit)) r ⌝ }
+    requires { ⌜ Entries (now prefix) ⌝ }
+    requires { ⌜ at + length (prefixText 0 (prefixOf (now prefix))) < 2 ^ 64 ⌝ }
+    ensures { λ r. ⌜ Stores (now (text .entry)) at (prefixText 0 (prefixOf (now (prefix .entry)))) (now (text .exit)) r ⌝ }
 {
+    let count = prefix::entry_count(prefix);
     let mut next = at;
     let mut last = 0;
     let mut i = 0;
-    while i < prefix.len() {
-        next = write_entry(text, next, last, prefix[i]);
-        last = letter(prefix[i]);
+    while i < count {
+        let letter = letter_at(prefix, i);
+        let variable = variable_at(prefix, i);
+        next = write_entry(text, next, last, letter, variable);
+        last = letter;
         i += 1;
     }
     end_line(text, next, last)
 }
 
+// A clause word: a literal and a space, or the end of its line.
 fn write_word(text: &mut [u8], at: usize, word: i32) -> usize
     requires { ⌜ natAbs word ≤ variableBound ⌝ }
     requires { ⌜ at + length (wordText word) < 2 ^ 64 ⌝ }
@@ -157,6 +165,7 @@ fn write_word(text: &mut [u8], at: usize, word: i32) -> usize
     }
 }
 
+// The clause lines.
 fn write_clauses(clauses: &[i32], text: &mut [u8], at: usize) -> usize
     requires { ⌜ Bounded (now clauses) ⌝ }
     requires { ⌜ at + length (clausesText (now clauses)) < 2 ^ 64 ⌝ }
@@ -192,10 +201,7 @@ fn finish(text: &mut [u8], used: usize) -> WriteAnswer
         return WriteAnswer::Written(used);
     }
     clear::clear_bytes(text, 0);
-    WriteAnswer::Refused(Refusal {
-        reason: Reason::NoRoom,
-        place: 0,
-    })
+    WriteAnswer::Refused(Refusal::new(Reason::NoRoom, 0))
 }
 
 // Writes the tables as a text, or says why not: the tables' refusals, then 3 at 0 where the text is too short.

@@ -4,19 +4,20 @@ use Prim.Native.Nat.{ℕ, zero, suc, _+_, _≤_, _<_}
 use mathlib.Core.Path.{_≡_, refl, ap, sym, _∙_}
 use mathlib.Core.Logic.{_⊎_, inl, inr}
 use mathlib.Core.Bool.{Bool, true, false, _&&_, _||_, false≢true}
-use mathlib.Core.List.{List, [], _∷_, _++_, map, List·Memᴰ, List·Memᴰ·head, List·Memᴰ·tail, List·Memᴰ·not-nil, List·Memᴰ·cases-cons}
+use mathlib.Core.List.{List, [], _∷_, _++_, map, List·Memᴰ, List·Memᴰ·head, List·Memᴰ·tail, List·Memᴰ·not-nil, List·Memᴰ·cases-cons, Memᴰ·map, Memᴰ·of-map}
 use native.Mathlib.Numerals.{add-one}
 use native.Mathlib.Nat.{le-of-suc-le-suc, not-suc-le-zero}
 use native.Mathlib.Omega.{arith}
 use borrow.Author.Tests.{ltb-true, eqb-true, eq-eqb}
 use lib.ListN.{length, getD, set, take, drop}
-use lib.Dec.{leb, eqb}
+use lib.Dec.{eqb}
 use lib.Seq.{drop-cons, take-suc-set}
-use lib.IntN.{ℤ, pos, negsuc, natAbs}
+use lib.IntN.{ℤ, pos, negsuc, negℤ, natAbs}
 use Rattle.qbf.specs.Formula.{Quantifier, existential, universal, Entry, entry, Prefix, listed}
 use Rattle.qbf.specs.Connectives.{and-both, or-either, or-right}
 use Rattle.formula.specs.Bounds.{variableBound}
 use Rattle.formula.specs.Word.{wordOf}
+use Rattle.formula.specs.Word.Laws.{positive-word, negative-word, negative-bounded}
 use Rattle.formula.specs.Prefix.{entryOf, prefixOf, signedBy, entryWord, prefixWords, entryCount, entryAt, laterEntries, entryFits, putEntry, usedAfter, shownBy, entryShown, isQuantifier, quantifies, Entries}
 use Rattle.formula.specs.declared.literal.Variable.{Variable}
 use Rattle.formula.specs.declared.literal.Word.the-variants.{Positive, Negative}
@@ -109,34 +110,31 @@ entry-word (w ∷ ws) zero h = refl
 entry-word (w ∷ ws) (suc i) h = entry-word ws i (le-of-suc-le-suc h)
 
 pub entry-positive : (w : ℤ) (v : Variable) → wordOf w ≡ Positive v → Existential v ≡ entryShown (entryOf w)
-unfolding wordOf
-entry-positive (pos zero) v e = let z : _≡_ {A = ℕ} 0 1 = cc in absurd (omega arith)
-entry-positive (pos (suc n)) v e = go (leb (suc n) variableBound) refl
-  where
-    go : (b : Bool) → leb (suc n) variableBound ≡ b → Existential v ≡ Existential (record { 0 = suc n })
-    go true q = let k = rw q at e in cc
-    go false q = let k = rw q at e in let z : _≡_ {A = ℕ} 0 1 = cc in absurd (omega arith)
-entry-positive (negsuc n) v e = go (leb (suc n) variableBound) refl
-  where
-    go : (b : Bool) → leb (suc n) variableBound ≡ b → Existential v ≡ Universal (record { 0 = suc n })
-    go true q = let k = rw q at e in let z : _≡_ {A = ℕ} 0 1 = cc in absurd (omega arith)
-    go false q = let k = rw q at e in let z : _≡_ {A = ℕ} 0 1 = cc in absurd (omega arith)
+entry-positive w v e = rw (positive-word w v e)
 
 pub entry-negative : (w : ℤ) (v : Variable) → wordOf w ≡ Negative v → Universal v ≡ entryShown (entryOf w)
-unfolding wordOf
-entry-negative (pos zero) v e = let z : _≡_ {A = ℕ} 0 1 = cc in absurd (omega arith)
-entry-negative (pos (suc n)) v e = go (leb (suc n) variableBound) refl
+entry-negative w v e = rw (negative-word w v e) (shown (v .0) (negative-bounded w v e .0))
   where
-    go : (b : Bool) → leb (suc n) variableBound ≡ b → Universal v ≡ Existential (record { 0 = suc n })
-    go true q = let k = rw q at e in let z : _≡_ {A = ℕ} 0 1 = cc in absurd (omega arith)
-    go false q = let k = rw q at e in let z : _≡_ {A = ℕ} 0 1 = cc in absurd (omega arith)
-entry-negative (negsuc n) v e = go (leb (suc n) variableBound) refl
-  where
-    go : (b : Bool) → leb (suc n) variableBound ≡ b → Universal v ≡ Universal (record { 0 = suc n })
-    go true q = let k = rw q at e in cc
-    go false q = let k = rw q at e in let z : _≡_ {A = ℕ} 0 1 = cc in absurd (omega arith)
+    shown : (n : ℕ) → 1 ≤ n → Universal (record { 0 = n }) ≡ entryShown (entryOf (negℤ (pos n)))
+    shown zero l = absurd (not-suc-le-zero l)
+    shown (suc n) l = refl
 
--- A word of a table of entries is a variable's.
+-- A word of the table is that of an entry, and an entry that of a word; the words of a table of entries are variables'.
+pub word-entry : {w : ℤ} {ws : List ℤ} → List·Memᴰ w ws → List·Memᴰ (entryOf w) (prefixOf ws)
+word-entry m = Memᴰ·map entryOf m
+
+pub entry-from : (ws : List ℤ) {x : Entry} → List·Memᴰ x (prefixOf ws) → (w : ℤ) × List·Memᴰ w ws × (entryOf w ≡ x)
+entry-from ws m = Memᴰ·of-map entryOf ws m
+
+pub words-ranged : (ws : List ℤ) → ((w : ℤ) → List·Memᴰ w ws → (1 ≤ natAbs w) × (natAbs w ≤ variableBound)) → Entries ws
+words-ranged ws h = record { ranged = λ x m. of-word x (entry-from ws m) }
+  where
+    of-word : (x : Entry) → ((w : ℤ) × List·Memᴰ w ws × (entryOf w ≡ x)) → (1 ≤ x .variable) × (x .variable ≤ variableBound)
+    of-word x t = rw (← t .2, entry-variable (t .0)) (h (t .0) (t .1))
+
+pub ranged-words : (ws : List ℤ) → Entries ws → (w : ℤ) → List·Memᴰ w ws → (1 ≤ natAbs w) × (natAbs w ≤ variableBound)
+ranged-words ws h w m = rw (← entry-variable w) (h .ranged (entryOf w) (word-entry m))
+
 pub entry-ranged : (ws : List ℤ) → Entries ws → (i : ℕ) → i < length ws → (1 ≤ natAbs (getD ws i (pos 0))) × (natAbs (getD ws i (pos 0)) ≤ variableBound)
 entry-ranged ws h i l =
     rw (← entry-variable (getD ws i (pos 0)), ← entry-word ws i l)

@@ -10,23 +10,23 @@ use borrow.Author.Tests.{le-leb, le-ltb}
 use lib.ListN.{length, take, replicate}
 use lib.Seq.{take-at}
 use lib.Dec.{leb}
-use lib.IntN.{ℤ, natAbs}
-use Rattle.qbf.specs.Formula.{listed}
+use lib.IntN.{ℤ}
+use Rattle.qbf.specs.Formula.{Entry, Prefix, listed}
 use Rattle.formula.specs.Bounds.{textBound}
 use Rattle.formula.specs.Prefix.{prefixOf, prefixWords}
-use Rattle.formula.specs.Prefix.Laws.{prefix-variables, prefix-words}
-use Rattle.formula.specs.Tables.{zeros, prefixRefusal, clausesRefusal, listedIn, sized, firstRefusal, ifSized, tablesRefusal, Admitted}
+use Rattle.formula.specs.Prefix.Laws.{prefix-words}
+use Rattle.formula.specs.Tables.{isIn, zeros, prefixRefusal, clausesRefusal, listedIn, sized, firstRefusal, ifSized, tablesRefusal, Admitted}
 use Rattle.formula.specs.Tables.Laws.{
   is-in-sound,
   admitted-clauses-length,
   admitted-count,
-  admitted-prefix-word,
+  admitted-entries,
   admitted-prefix-distinct,
 }
 use Rattle.formula.specs.Written.{written, headerText, largest, ifRoom, writingRefusal, answerWriting, textAfter, Writes}
-use Rattle.formula.specs.Writing.{prefixText, clausesText}
+use Rattle.formula.specs.Writing.{clausesText}
 use Rattle.formula.specs.Written.Lines.{written-stream}
-use Rattle.formula.specs.Written.Length.{prefix-bounded, largest-bounded, written-fits}
+use Rattle.formula.specs.Written.Length.{largest-bounded, written-fits}
 use Rattle.formula.specs.Token.{isBlank, leadFrom, between, tokensFrom, tokens}
 use Rattle.formula.specs.Text.{read, wantsP, betweenSets, openFrom, run, ending, reading, ReadPost}
 use Rattle.formula.specs.RoundTrip.{ReadBack}
@@ -38,22 +38,19 @@ use Rattle.formula.specs.declared.read.ReadAnswer.{ReadAnswer}
 use Rattle.formula.specs.declared.write.WriteAnswer.the-variants.{Written}
 
 -- No variable of the prefix is above V.
-member-largest : (ws : List ℤ) (w : ℤ) → List·Memᴰ w ws → natAbs w ≤ largest ws
+member-largest : (P : Prefix) (x : Entry) → List·Memᴰ x P → x .variable ≤ largest P
 unfolding largest
-member-largest [] w m = absurd (List·Memᴰ·not-nil m)
-member-largest (u ∷ ws) w m = go (List·Memᴰ·cases-cons m) (λ k. member-largest ws w k)
+member-largest [] x m = absurd (List·Memᴰ·not-nil m)
+member-largest (y ∷ P) x m = go (List·Memᴰ·cases-cons m) (λ k. member-largest P x k)
   where
-    go : (w ≡ u) ⊎ List·Memᴰ w ws → (List·Memᴰ w ws → natAbs w ≤ largest ws) → natAbs w ≤ max (natAbs u) (largest ws)
-    go (inl e) later = omega (arith, ap natAbs e)
+    go : (x ≡ y) ⊎ List·Memᴰ x P → (List·Memᴰ x P → x .variable ≤ largest P) → x .variable ≤ max (y .variable) (largest P)
+    go (inl e) later = omega (arith, ap (λ (z : Entry). z .variable) e)
     go (inr k) later = omega (arith, later k)
 
-listed-member : (ws : List ℤ) (n : ℕ) → List·Memᴰ n (listed (prefixOf ws)) → (w : ℤ) × List·Memᴰ w ws × (natAbs w ≡ n)
-listed-member ws n m = Memᴰ·of-map natAbs ws (rw (prefix-variables ws) at m)
-
-listed-largest : (ws : List ℤ) (n : ℕ) → listedIn ws n ≡ true → n ≤ largest ws
-listed-largest ws n h =
-    let t = listed-member ws n (is-in-sound n (listed (prefixOf ws)) h) in
-    omega (arith, t .2, member-largest ws (t .0) (t .1))
+listed-largest : (P : Prefix) (n : ℕ) → isIn n (listed P) ≡ true → n ≤ largest P
+listed-largest P n h =
+    let t = Memᴰ·of-map (λ (x : Entry). x .variable) P (is-in-sound n (listed P) h) in
+    omega (arith, t .2, member-largest P (t .0) (t .1))
 
 -- The part of the check that judges the clause words.
 clauses-pass : (p c : List ℤ) → Admitted p c → clausesRefusal (listedIn p) 0 [] c ≡ none
@@ -71,38 +68,33 @@ unfolding leadFrom isBlank
 tokens-p bytes = refl
 
 module _ (p c : List ℤ) (prefixRoom clauseRoom : ℕ) (a : Admitted p c) (h : length p ≤ prefixRoom) (k : length c ≤ clauseRoom) where
-  prefix-lists : Lists (largest p) prefixRoom [] (prefixOf p)
+  prefix-lists : Lists (largest (prefixOf p)) prefixRoom [] (prefixOf p)
   unfolding prefixWords
   prefix-lists =
       record {
         range = λ n m.
-            let t = listed-member p n m in
-            rw (← t .2) (admitted-prefix-word p c a (t .0) (t .1) .0, member-largest p (t .0) (t .1));
-        distinct = rw (prefix-variables p) (admitted-prefix-distinct p c a);
+            let t = Memᴰ·of-map (λ (x : Entry). x .variable) (prefixOf p) m in
+            rw (← t .2) (admitted-entries p c a .ranged (t .0) (t .1) .0, member-largest (prefixOf p) (t .0) (t .1));
+        distinct = admitted-prefix-distinct p c a;
         fresh = λ u m n. List·Memᴰ·not-nil m;
         within = rw (prefix-words p) (omega arith);
       }
 
-  prefix-lines : Takes prefixRoom clauseRoom (betweenSets (largest p) (zeros c) []) (prefixText 0 p) (betweenSets (largest p) (zeros c) (prefixOf p))
-  prefix-lines =
-      rw (prefix-words p) at
-      (prefix-taken prefixRoom clauseRoom (largest p) (zeros c) (prefixOf p) (largest-bounded p (prefix-bounded p c a)) prefix-lists)
-
-  clauses-passes : Passes prefixRoom clauseRoom (largest p) (zeros c) (prefixOf p) 0 [] c
+  clauses-passes : Passes prefixRoom clauseRoom (largest (prefixOf p)) (zeros c) (prefixOf p) 0 [] c
   unfolding openFrom zeros
   clauses-passes =
       record { passes = clauses-pass p c a; count = omega arith; words = omega (arith, admitted-clauses-length p c a); room = omega arith }
 
-  clauses-read : AllRead prefixRoom clauseRoom (largest p) (zeros c) (prefixOf p) (betweenSets (largest p) (zeros c) (prefixOf p)) (clausesText c) c
+  clauses-read : AllRead prefixRoom clauseRoom (largest (prefixOf p)) (zeros c) (prefixOf p) (betweenSets (largest (prefixOf p)) (zeros c) (prefixOf p)) (clausesText c) c
   clauses-read =
-      clauses-reads prefixRoom clauseRoom (largest p) (zeros c) (prefixOf p)
-      (largest-bounded p (prefix-bounded p c a))
-      (listed-largest p)
+      clauses-reads prefixRoom clauseRoom (largest (prefixOf p)) (zeros c) (prefixOf p)
+      (largest-bounded p (admitted-entries p c a))
+      (listed-largest (prefixOf p))
       0
-      (betweenSets (largest p) (zeros c) (prefixOf p))
+      (betweenSets (largest (prefixOf p)) (zeros c) (prefixOf p))
       []
       c
-      (among-sets prefixRoom clauseRoom (largest p) (zeros c) (prefixOf p))
+      (among-sets prefixRoom clauseRoom (largest (prefixOf p)) (zeros c) (prefixOf p))
       clauses-passes
 
   -- The whole text takes the reader from its start to where all is read.
@@ -110,8 +102,10 @@ module _ (p c : List ℤ) (prefixRoom clauseRoom : ℕ) (a : Admitted p c) (h : 
   text-taken =
       rw (written-stream p c a)
       (takes-append prefixRoom clauseRoom
-      (header-takes prefixRoom clauseRoom (largest p) (zeros c) (largest-bounded p (prefix-bounded p c a)) (admitted-count p c a))
-      (takes-append prefixRoom clauseRoom prefix-lines (clauses-read .taken)))
+      (header-takes prefixRoom clauseRoom (largest (prefixOf p)) (zeros c) (largest-bounded p (admitted-entries p c a)) (admitted-count p c a))
+      (takes-append prefixRoom clauseRoom
+      (prefix-taken prefixRoom clauseRoom (largest (prefixOf p)) (zeros c) (prefixOf p) (largest-bounded p (admitted-entries p c a)) prefix-lists)
+      (clauses-read .taken)))
 
   tokens-written : tokens (written p c) ≡ tokensFrom 0 between (written p c)
   unfolding written headerText

@@ -23,10 +23,9 @@ use native.Mathlib.Omega.{arith}
 use borrow.Author.Tests.{lt-ltb, le-leb}
 use lib.ListN.{length, length-append}
 use lib.Dec.{eqb}
-use lib.IntN.{natAbs}
 use Rattle.qbf.specs.Formula.{Quantifier, existential, universal, Entry, entry, Prefix, listed, Distinct}
 use Rattle.formula.specs.Bounds.{variableBound, countBound}
-use Rattle.formula.specs.Prefix.{entryWord, prefixWords, entryFits}
+use Rattle.formula.specs.Prefix.{prefixWords, entryFits}
 use Rattle.formula.specs.Prefix.Laws.{words-append}
 use Rattle.formula.specs.Tables.{isIn}
 use Rattle.formula.specs.Tables.Laws.{is-in-absent}
@@ -103,36 +102,19 @@ lists-later {v} {room} {done} {x} {P} l =
     apart u (inl m) k = l .fresh u m (List·Memᴰ·tail k)
     apart u (inr m) k = l .distinct .0 (Memᴰ·cast (sym (List·Memᴰ·eq-of-singleton m)) k)
 
--- An entry's word: its magnitude and its letter.
-word-variable : (q : Quantifier) (n : ℕ) → natAbs (entryWord (entry n q)) ≡ n
-unfolding entryWord
-word-variable existential n = refl
-word-variable universal zero = refl
-word-variable universal (suc n) = refl
-
-abbrev letter : Quantifier → ℕ
-letter existential = 101
-letter universal = 97
-
-word-letter : (q : Quantifier) (n : ℕ) → 1 ≤ n → letterOf (entryWord (entry n q)) ≡ letter q
-unfolding entryWord letterOf
-word-letter q zero h = absurd (omega arith)
-word-letter existential (suc n) h = refl
-word-letter universal (suc n) h = refl
-
 module _ (prefixRoom clauseRoom v c : ℕ) where
   -- The reader's state where the letter of the open line is `last`, none where that is 0.
   data Line (done : Prefix) : ℕ → State → Type 0 where
     none-open : Line done 0 (betweenSets v c done)
-    set-open : (q : Quantifier) → Line done (letter q) (inSet v c q true done)
+    set-open : (q : Quantifier) → Line done (letterOf q) (inSet v c q true done)
 
   -- A line ends; a line begins; a variable is listed.
   ends : (q : Quantifier) (done : Prefix) → Takes prefixRoom clauseRoom (inSet v c q true done) (48 ∷ 10 ∷ []) (betweenSets v c done)
   unfolding step
   ends q done = takes-token prefixRoom clauseRoom 10 (betweenSets v c done) zero-begins feed-blank (λ at. refl)
 
-  begins : (q : Quantifier) (done : Prefix) → Takes prefixRoom clauseRoom (betweenSets v c done) (letter q ∷ 32 ∷ []) (inSet v c q false done)
-  unfolding step
+  begins : (q : Quantifier) (done : Prefix) → Takes prefixRoom clauseRoom (betweenSets v c done) (letterOf q ∷ 32 ∷ []) (inSet v c q false done)
+  unfolding step letterOf
   begins existential done = takes-token prefixRoom clauseRoom 32 (inSet v c existential false done) e-begins space-blank (λ at. refl)
   begins universal done = takes-token prefixRoom clauseRoom 32 (inSet v c universal false done) a-begins space-blank (λ at. refl)
 
@@ -152,8 +134,8 @@ module _ (prefixRoom clauseRoom v c : ℕ) where
   -- What stands before a variable opens the line of its quantifier.
   turns :
       (done : Prefix) (q : Quantifier) (last : ℕ) (s : State) → Line done last s
-      → (filled : Bool) × Takes prefixRoom clauseRoom s (lineTurn (eqb last (letter q)) last (letter q)) (inSet v c q filled done)
-  unfolding lineTurn lineEnd
+      → (filled : Bool) × Takes prefixRoom clauseRoom s (lineTurn (eqb last (letterOf q)) last (letterOf q)) (inSet v c q filled done)
+  unfolding lineTurn lineEnd letterOf
   turns done existential last s none-open = (false, begins existential done)
   turns done universal last s none-open = (false, begins universal done)
   turns done existential last s (set-open existential) = (true, takes-none prefixRoom clauseRoom (inSet v c existential true done))
@@ -162,7 +144,7 @@ module _ (prefixRoom clauseRoom v c : ℕ) where
   turns done universal last s (set-open universal) = (true, takes-none prefixRoom clauseRoom (inSet v c universal true done))
 
   closes : (done : Prefix) (last : ℕ) (s : State) → Line done last s → Takes prefixRoom clauseRoom s (lineEnd last) (betweenSets v c done)
-  unfolding lineEnd
+  unfolding lineEnd letterOf
   closes done last s none-open = takes-none prefixRoom clauseRoom (betweenSets v c done)
   closes done last s (set-open existential) = ends existential done
   closes done last s (set-open universal) = ends universal done
@@ -171,17 +153,16 @@ module _ (prefixRoom clauseRoom v c : ℕ) where
   entry-takes :
       (done : Prefix) (q : Quantifier) (n last : ℕ) (s : State) → Line done last s
       → 1 ≤ n → n ≤ v → v ≤ variableBound → isIn n (listed done) ≡ false → length (prefixWords done) < prefixRoom
-      → Takes prefixRoom clauseRoom s (entryText last (entryWord (entry n q))) (inSet v c q true (done ++ (entry n q ∷ [])))
+      → Takes prefixRoom clauseRoom s (entryText last (letterOf q) n) (inSet v c q true (done ++ (entry n q ∷ [])))
   unfolding entryText
   entry-takes done q n last s o p h b e r =
       let t = turns done q last s o in
-      rw (word-letter q n p, word-variable q n)
-      (takes-append prefixRoom clauseRoom (t .1) (lists-variable q (t .0) done n p h b e r))
+      takes-append prefixRoom clauseRoom (t .1) (lists-variable q (t .0) done n p h b e r)
 
   -- The prefix lines list the entries in order.
   prefix-takes :
       (done P : Prefix) (last : ℕ) (s : State) → v ≤ variableBound → Line done last s → Lists v prefixRoom done P
-      → Takes prefixRoom clauseRoom s (prefixText last (prefixWords P)) (betweenSets v c (done ++ P))
+      → Takes prefixRoom clauseRoom s (prefixText last P) (betweenSets v c (done ++ P))
   unfolding prefixText prefixWords
   prefix-takes done [] last s b o l = rw append-nil (closes done last s o)
   prefix-takes done (x ∷ P) last s b o l =
@@ -190,12 +171,11 @@ module _ (prefixRoom clauseRoom v c : ℕ) where
       let r = l .range n (List·Memᴰ·head refl) in
       let e : isIn n (listed done) ≡ false = is-in-absent n (listed done) (λ m. l .fresh n m (List·Memᴰ·head refl)) in
       let first = entry-takes done q n last s o (r .0) (r .1) b e (omega (arith, l .within)) in
-      let later = prefix-takes (done ++ (x ∷ [])) P (letter q) (inSet v c q true (done ++ (x ∷ []))) b (set-open q) (lists-later l) in
-      takes-append prefixRoom clauseRoom first
-      (rw (word-letter q n (r .0)) (rw (append-assoc done (x ∷ []) P) at later))
+      let later = prefix-takes (done ++ (x ∷ [])) P (letterOf q) (inSet v c q true (done ++ (x ∷ []))) b (set-open q) (lists-later l) in
+      takes-append prefixRoom clauseRoom first (rw (append-assoc done (x ∷ []) P) at later)
 
   -- From an empty prefix.
   pub prefix-taken :
       (P : Prefix) → v ≤ variableBound → Lists v prefixRoom [] P
-      → Takes prefixRoom clauseRoom (betweenSets v c []) (prefixText 0 (prefixWords P)) (betweenSets v c P)
+      → Takes prefixRoom clauseRoom (betweenSets v c []) (prefixText 0 P) (betweenSets v c P)
   prefix-taken P b l = prefix-takes [] P 0 (betweenSets v c []) b none-open l

@@ -17,10 +17,11 @@ use Rattle.qbf.specs.Literal.{Literal, Clause}
 use Rattle.qbf.specs.Formula.{Entry, Distinct, Proper, listed, variables}
 use Rattle.formula.specs.Bounds.{variableBound, countBound, matrixBound}
 use Rattle.formula.specs.Word.{wordOf}
+pub use Rattle.formula.specs.Word.Laws.{Kind, closing, large, signed, kind}
 use Rattle.formula.specs.Refusal.{refusal}
 use Rattle.formula.specs.Decode.{literalOf, putFirst, clausesOf, firstClause, laterWords, clauseOf, formulaOf}
-use Rattle.formula.specs.Prefix.{entryOf, prefixOf, Entries}
-use Rattle.formula.specs.Prefix.Laws.{entry-variable, prefix-variables}
+use Rattle.formula.specs.Prefix.{prefixOf, entryCount, Entries}
+use Rattle.formula.specs.Prefix.Laws.{entry-count, prefix-variables, words-ranged, ranged-words}
 use Rattle.formula.specs.Decode.Laws.{magnitude-positive, positive-magnitude, literal-variable, clause-variables, clauses-put-first, first-clause-cons, later-words-cons, clauses-first, clauses-no-zero, clause-word}
 use Rattle.formula.specs.Tables.{isIn, zeros, listing, prefixWord, prefixRefusal, literalWord, clauseWord, clausesRefusal, listedIn, sized, firstRefusal, ifSized, tablesRefusal, answerTables, tablesAnswer, Admitted}
 use Rattle.formula.specs.Tables.Proper.{ProperTables}
@@ -60,25 +61,6 @@ is-in-absent v xs h = go (isIn v xs) refl
 
 pub absent-is-in : (v : ℕ) (xs : List ℕ) → isIn v xs ≡ false → List·Memᴰ v xs → ⊥
 absent-is-in v xs e m = false≢true (sym e ∙ is-in-complete v xs m)
-
--- The three things a word can be to the check: 0, too large, a variable with a sign.
-pub data Kind (w : ℤ) : Type 0 where
-  closing : w ≡ pos 0 → Kind w
-  large : variableBound < natAbs w → Kind w
-  signed : 1 ≤ natAbs w → natAbs w ≤ variableBound → Kind w
-
-pub kind : (w : ℤ) → Kind w
-kind (pos zero) = closing refl
-kind (pos (suc n)) = go (leb (suc n) variableBound) refl
-  where
-    go : (b : Bool) → leb (suc n) variableBound ≡ b → Kind (pos (suc n))
-    go true e = signed (omega arith) (leb-true (suc n) variableBound e)
-    go false e = large (leb-false (suc n) variableBound e)
-kind (negsuc n) = go (leb (suc n) variableBound) refl
-  where
-    go : (b : Bool) → leb (suc n) variableBound ≡ b → Kind (negsuc n)
-    go true e = signed (omega arith) (leb-true (suc n) variableBound e)
-    go false e = large (leb-false (suc n) variableBound e)
 
 -- How each kind is judged in the prefix.
 module _ (at : ℕ) (seen : List ℕ) (next : ℕ → Option Refusal) where
@@ -446,13 +428,13 @@ admitted-tables p c a =
     let P = prefix-sound 0 [] p (parts .prefix) in
     let C = clauses-sound (listedIn p) 0 [] c (parts .clauses) in
     record {
-      prefix-length = sizes .0;
+      prefix-length = rw (entry-count p) (sizes .0);
       clauses-length = sizes .1;
       count = sizes .2;
-      prefix-range = P .range;
-      prefix-distinct = P .distinct;
+      prefix-range = words-ranged p (P .range);
+      prefix-distinct = rw (prefix-variables p) (P .distinct);
       clause-range = C .range;
-      clause-bound = λ w m z. is-in-sound (natAbs w) (map natAbs p) (rw (prefix-variables p) at (C .bound w m z));
+      clause-bound = λ w m z. is-in-sound (natAbs w) (listed (prefixOf p)) (C .bound w m z);
       clause-distinct = clauses-split {P = λ (D : List ℤ). Distinct (map natAbs D)} c (C .distinct) (C .later);
       closed = C .closed;
     }
@@ -460,15 +442,15 @@ admitted-tables p c a =
 pub tables-admitted : (p c : List ℤ) → ProperTables p c → Admitted p c
 unfolding tablesRefusal
 tables-admitted p c t =
-    let sizes : sized p c ≡ true = bounds-sized p c (t .prefix-length) (t .clauses-length) (t .count) in
+    let sizes : sized p c ≡ true = bounds-sized p c (rw (entry-count p) at (t .prefix-length)) (t .clauses-length) (t .count) in
     let P : prefixRefusal 0 [] p ≡ none =
     prefix-complete 0 [] p
-    (record { range = t .prefix-range; distinct = t .prefix-distinct; fresh = λ v m k. List·Memᴰ·not-nil m }) in
+    (record { range = ranged-words p (t .prefix-range); distinct = rw (prefix-variables p) at (t .prefix-distinct); fresh = λ v m k. List·Memᴰ·not-nil m }) in
     let C : clausesRefusal (listedIn p) 0 [] c ≡ none =
     clauses-complete (listedIn p) 0 [] c
     (record {
       range = t .clause-range;
-      bound = λ w m z. rw (prefix-variables p) (is-in-complete (natAbs w) (map natAbs p) (t .clause-bound w m z));
+      bound = λ w m z. is-in-complete (natAbs w) (listed (prefixOf p)) (t .clause-bound w m z);
       distinct = first-of-clauses {P = λ (D : List ℤ). Distinct (map natAbs D)} c tt (t .clause-distinct);
       fresh = λ v m k. List·Memᴰ·not-nil m;
       later = later-of-clauses {P = λ (D : List ℤ). Distinct (map natAbs D)} c (t .clause-distinct);
@@ -478,21 +460,21 @@ tables-admitted p c t =
     record { passes = rw (sizes, P, C) }
 
 -- What an answer of `check_tables` says of the tables.
-pub answer-admitted : (p c : List ℤ) (v n : ℕ) → tablesAnswer p c ≡ Admits v n → Admitted p c × (v ≡ length p) × (n ≡ zeros c)
+pub answer-admitted : (p c : List ℤ) (v n : ℕ) → tablesAnswer p c ≡ Admits v n → Admitted p c × (v ≡ entryCount p) × (n ≡ zeros c)
 answer-admitted p c v n h = go (tablesRefusal p c) refl h
   where
-    go : (a : Option Refusal) → tablesRefusal p c ≡ a → answerTables a (length p) (zeros c) ≡ Admits v n → Admitted p c × (v ≡ length p) × (n ≡ zeros c)
+    go : (a : Option Refusal) → tablesRefusal p c ≡ a → answerTables a (entryCount p) (zeros c) ≡ Admits v n → Admitted p c × (v ≡ entryCount p) × (n ≡ zeros c)
     go none e k = (record { passes = e }, (cc), (cc))
     go (some r) e k = let z : _≡_ {A = ℕ} 0 1 = cc in absurd (omega arith)
 
 pub answer-refused : (p c : List ℤ) (r : Refusal) → tablesAnswer p c ≡ Turned r → tablesRefusal p c ≡ some r
 answer-refused p c r h = go (tablesRefusal p c) h
   where
-    go : (a : Option Refusal) → answerTables a (length p) (zeros c) ≡ Turned r → a ≡ some r
+    go : (a : Option Refusal) → answerTables a (entryCount p) (zeros c) ≡ Turned r → a ≡ some r
     go none k = let z : _≡_ {A = ℕ} 0 1 = cc in absurd (omega arith)
     go (some s) k = cc
 
-pub admitted-answer : (p c : List ℤ) → Admitted p c → tablesAnswer p c ≡ Admits (length p) (zeros c)
+pub admitted-answer : (p c : List ℤ) → Admitted p c → tablesAnswer p c ≡ Admits (entryCount p) (zeros c)
 admitted-answer p c a = rw (a .passes)
 
 -- A word read by its place stands in the table.
@@ -503,7 +485,7 @@ getD-member (w ∷ ws) (suc i) d h = List·Memᴰ·tail (getD-member ws i d (le-
 
 -- What the layers above read off tables that pass.
 module _ (p c : List ℤ) (a : Admitted p c) where
-  pub admitted-prefix-length : length p ≤ 1024
+  pub admitted-prefix-length : entryCount p ≤ 1024
   admitted-prefix-length = admitted-tables p c a .prefix-length
 
   pub admitted-clauses-length : length c ≤ 65536
@@ -513,18 +495,15 @@ module _ (p c : List ℤ) (a : Admitted p c) where
   admitted-count = admitted-tables p c a .count
 
   pub admitted-prefix-word : (w : ℤ) → List·Memᴰ w p → (1 ≤ natAbs w) × (natAbs w ≤ 1024)
-  admitted-prefix-word = admitted-tables p c a .prefix-range
+  admitted-prefix-word = ranged-words p (admitted-tables p c a .prefix-range)
 
   pub admitted-prefix-at : (i : ℕ) (d : ℤ) → i < length p → (1 ≤ natAbs (getD p i d)) × (natAbs (getD p i d) ≤ 1024)
   admitted-prefix-at i d h = admitted-prefix-word (getD p i d) (getD-member p i d h)
 
   pub admitted-entries : Entries p
-  admitted-entries = record { ranged = λ x m. of-word x (Memᴰ·of-map entryOf p m) }
-    where
-      of-word : (x : Entry) → ((w : ℤ) × List·Memᴰ w p × (entryOf w ≡ x)) → (1 ≤ x .variable) × (x .variable ≤ variableBound)
-      of-word x t = rw (← t .2, entry-variable (t .0)) (admitted-prefix-word (t .0) (t .1))
+  admitted-entries = admitted-tables p c a .prefix-range
 
-  pub admitted-prefix-distinct : Distinct (map natAbs p)
+  pub admitted-prefix-distinct : Distinct (listed (prefixOf p))
   admitted-prefix-distinct = admitted-tables p c a .prefix-distinct
 
   pub admitted-clause-word : (w : ℤ) → List·Memᴰ w c → natAbs w ≤ 1024
@@ -533,7 +512,7 @@ module _ (p c : List ℤ) (a : Admitted p c) where
   pub admitted-clause-at : (i : ℕ) (d : ℤ) → i < length c → natAbs (getD c i d) ≤ 1024
   admitted-clause-at i d h = admitted-clause-word (getD c i d) (getD-member c i d h)
 
-  pub admitted-clause-bound : (w : ℤ) → List·Memᴰ w c → (w ≡ pos 0 → ⊥) → List·Memᴰ (natAbs w) (map natAbs p)
+  pub admitted-clause-bound : (w : ℤ) → List·Memᴰ w c → (w ≡ pos 0 → ⊥) → List·Memᴰ (natAbs w) (listed (prefixOf p))
   admitted-clause-bound = admitted-tables p c a .clause-bound
 
   pub admitted-clause-distinct : (C : List ℤ) → List·Memᴰ C (clausesOf c) → Distinct (map natAbs C)
@@ -546,7 +525,7 @@ module _ (p c : List ℤ) (a : Admitted p c) where
   -- A word of a clause: in range, not 0, and listed.
   pub admitted-literal :
       (C : List ℤ) → List·Memᴰ C (clausesOf c) → (w : ℤ) → List·Memᴰ w C
-      → (1 ≤ natAbs w) × (natAbs w ≤ 1024) × List·Memᴰ (natAbs w) (map natAbs p)
+      → (1 ≤ natAbs w) × (natAbs w ≤ 1024) × List·Memᴰ (natAbs w) (listed (prefixOf p))
   admitted-literal C m w k =
       let z : w ≡ pos 0 → ⊥ = clauses-no-zero c C m w k in
       let i : List·Memᴰ w c = clause-word c C m w k in
@@ -556,7 +535,7 @@ module _ (p c : List ℤ) (a : Admitted p c) where
   pub admitted-proper : Proper (formulaOf p c)
   admitted-proper =
       record {
-        prefix-distinct = rw (prefix-variables p) admitted-prefix-distinct;
+        prefix-distinct = admitted-prefix-distinct;
         clause-distinct = λ C m. once C (Memᴰ·of-map clauseOf (clausesOf c) m);
         clause-bound = λ C m l k. bound C (Memᴰ·of-map clauseOf (clausesOf c) m) l k;
       }
@@ -565,7 +544,7 @@ module _ (p c : List ℤ) (a : Admitted p c) where
       once C t = rw (← t .2, clause-variables (t .0)) (admitted-clause-distinct (t .0) (t .1))
 
       of-word : (l : Literal) (D : List ℤ) → List·Memᴰ D (clausesOf c) → ((w : ℤ) × List·Memᴰ w D × (literalOf w ≡ l)) → List·Memᴰ (l .variable) (listed (prefixOf p))
-      of-word l D m t = rw (← t .2, literal-variable (t .0), prefix-variables p) (admitted-literal D m (t .0) (t .1) .2)
+      of-word l D m t = rw (← t .2, literal-variable (t .0)) (admitted-literal D m (t .0) (t .1) .2)
 
       bound :
           (C : Clause) → ((D : List ℤ) × List·Memᴰ D (clausesOf c) × (clauseOf D ≡ C))

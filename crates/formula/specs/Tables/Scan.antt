@@ -1,4 +1,4 @@
--- What the parts of the check of tables find: a word's magnitude, marks of listed variables, the run of literals that a clause
+-- What the parts of the check of tables find: marks of listed variables, the run of literals that a clause
 -- begins with, how far it goes without a clash, and one clause judged. Laws are in the crate's proofs/Scan.antt.
 use Prim.Native.Nat.{ℕ, zero, suc, _≤_, _<_}
 use mathlib.Core.Path.{_≡_}
@@ -10,8 +10,6 @@ use lib.Dec.{eqb}
 use lib.IntN.{ℤ, pos, natAbs}
 use Rattle.formula.specs.Bounds.{variableBound, inRange}
 use Rattle.formula.specs.Tables.{isIn, prefixRefusal, clausesRefusal, listedIn, firstRefusal}
-use Rattle.formula.specs.declared.literal.Word.{Word}
-use Rattle.formula.specs.declared.literal.Word.the-variants.{Zero, TooLarge, Positive, Negative}
 use Rattle.formula.specs.declared.refusal.Refusal.{Refusal}
 use Rattle.formula.specs.declared.tables.Check.{Check}
 use Rattle.formula.specs.declared.tables.Check.the-variants.{Passed, Refused}
@@ -25,13 +23,6 @@ checkOf (some r) = Refused r
 -- Prefix words, then clause words.
 unfoldable pub wordsRefusal : List ℤ → List ℤ → Option Refusal
 wordsRefusal prefix clauses = firstRefusal (prefixRefusal 0 [] prefix) (clausesRefusal (listedIn prefix) 0 [] clauses)
-
--- A word's magnitude, one more than the bound for each above it.
-unfoldable pub magnitudeOf : Word → ℕ
-magnitudeOf Zero = 0
-magnitudeOf TooLarge = 1025
-magnitudeOf (Positive v) = v .0
-magnitudeOf (Negative v) = v .0
 
 -- A byte for each variable number, 1 where it is listed.
 unfoldable pub marked : List ℕ → ℕ → Bool

@@ -1,12 +1,12 @@
--- Laws of words: what a word that was recognised says of the literal that it stands for, both signs in one; its variable, the
--- place of its literal and of the opposite one. Definitions: Word. Assumes nothing.
+-- Laws of words: what a word that was recognised says of the literal that it stands for, both signs in one; its variable, by its
+-- magnitude and its kind; the place of its literal and of the opposite one. Definitions: Word. Assumes nothing.
 use Prim.Native.Nat.{ℕ, zero, suc, _+_, _*_, _/_, _≤_, _<_}
 use mathlib.Core.Path.{_≡_, refl, ap, sym, _∙_}
 use mathlib.Core.Logic.{_⊎_, inl, inr}
 use mathlib.Core.Bool.{Bool, true, false, not, false≢true}
 use native.Mathlib.Nat.{not-suc-le-zero}
 use native.Mathlib.Omega.{arith}
-use borrow.Author.Tests.{leb-true, le-leb, lt-leb}
+use borrow.Author.Tests.{leb-true, leb-false, le-leb, lt-leb}
 use lib.Dec.{leb}
 use lib.IntN.{ℤ, pos, negsuc, negℤ, natAbs}
 use Rattle.qbf.specs.Literal.{Literal, literal}
@@ -73,6 +73,59 @@ word-of-literal w v s e l h =
     in-range (pos (suc n)) q l h = rw (le-leb (suc n) variableBound (omega arith))
     in-range (negsuc n) q l h = rw (le-leb (suc n) variableBound (omega arith))
 
+-- The word that was recognised, back from its case.
+apart : {v w : Word} {A : Type 0} → v ≡ w → ((v ≡ w) → _≡_ {A = ℕ} 0 1) → A
+apart e f = let z = f e in absurd (omega arith)
+
+pub zero-word : (w : ℤ) → wordOf w ≡ Zero → w ≡ pos 0
+unfolding wordOf
+zero-word (pos zero) e = refl
+zero-word (pos (suc n)) e = go (leb (suc n) variableBound) e
+  where
+    go : (b : Bool) → positive b (suc n) ≡ Zero → pos (suc n) ≡ pos 0
+    go true f = apart f (λ h. cc)
+    go false f = apart f (λ h. cc)
+zero-word (negsuc n) e = go (leb (suc n) variableBound) e
+  where
+    go : (b : Bool) → negative b (suc n) ≡ Zero → negsuc n ≡ pos 0
+    go true f = apart f (λ h. cc)
+    go false f = apart f (λ h. cc)
+
+pub positive-word : (w : ℤ) (v : Variable) → wordOf w ≡ Positive v → w ≡ pos (v .0)
+unfolding wordOf
+positive-word (pos zero) v e = apart e (λ h. cc)
+positive-word (pos (suc n)) v e = go (leb (suc n) variableBound) e
+  where
+    go : (b : Bool) → positive b (suc n) ≡ Positive v → pos (suc n) ≡ pos (v .0)
+    go true f = let same : _≡_ {A = Variable} (record { 0 = suc n }) v = cc in ap (λ (x : Variable). pos (x .0)) same
+    go false f = apart f (λ h. cc)
+positive-word (negsuc n) v e = go (leb (suc n) variableBound) e
+  where
+    go : (b : Bool) → negative b (suc n) ≡ Positive v → negsuc n ≡ pos (v .0)
+    go true f = apart f (λ h. cc)
+    go false f = apart f (λ h. cc)
+
+pub negative-word : (w : ℤ) (v : Variable) → wordOf w ≡ Negative v → w ≡ negℤ (pos (v .0))
+unfolding wordOf
+negative-word (pos zero) v e = apart e (λ h. cc)
+negative-word (pos (suc n)) v e = go (leb (suc n) variableBound) e
+  where
+    go : (b : Bool) → positive b (suc n) ≡ Negative v → pos (suc n) ≡ negℤ (pos (v .0))
+    go true f = apart f (λ h. cc)
+    go false f = apart f (λ h. cc)
+negative-word (negsuc n) v e = go (leb (suc n) variableBound) e
+  where
+    go : (b : Bool) → negative b (suc n) ≡ Negative v → negsuc n ≡ negℤ (pos (v .0))
+    go true f = let same : _≡_ {A = Variable} (record { 0 = suc n }) v = cc in ap (λ (x : Variable). negℤ (pos (x .0))) same
+    go false f = apart f (λ h. cc)
+
+-- A word within the range is not too large.
+pub not-too-large : (w : ℤ) {A : Type 0} → natAbs w ≤ variableBound → wordOf w ≡ TooLarge → A
+unfolding wordOf
+not-too-large (pos zero) h e = apart e (λ f. cc)
+not-too-large (pos (suc n)) h e = apart (rw (le-leb (suc n) variableBound h) at e) (λ f. cc)
+not-too-large (negsuc n) h e = apart (rw (le-leb (suc n) variableBound h) at e) (λ f. cc)
+
 -- A variable that was recognised is in range, with either sign.
 pub positive-bounded : (w : ℤ) (v : Variable) → wordOf w ≡ Positive v → (1 ≤ v .0) × (v .0 ≤ variableBound)
 positive-bounded w v e = go (recognised w)
@@ -104,6 +157,50 @@ unfolding wordOf variableOf
 variable-large (pos zero) h = absurd (not-suc-le-zero h)
 variable-large (pos (suc n)) h = rw (lt-leb (suc n) variableBound h)
 variable-large (negsuc n) h = rw (lt-leb (suc n) variableBound h)
+
+-- The three things a word can be: 0, too large, a variable with a sign.
+pub data Kind (w : ℤ) : Type 0 where
+  closing : w ≡ pos 0 → Kind w
+  large : variableBound < natAbs w → Kind w
+  signed : 1 ≤ natAbs w → natAbs w ≤ variableBound → Kind w
+
+pub kind : (w : ℤ) → Kind w
+kind (pos zero) = closing refl
+kind (pos (suc n)) = go (leb (suc n) variableBound) refl
+  where
+    go : (b : Bool) → leb (suc n) variableBound ≡ b → Kind (pos (suc n))
+    go true e = signed (omega arith) (leb-true (suc n) variableBound e)
+    go false e = large (leb-false (suc n) variableBound e)
+kind (negsuc n) = go (leb (suc n) variableBound) refl
+  where
+    go : (b : Bool) → leb (suc n) variableBound ≡ b → Kind (negsuc n)
+    go true e = signed (omega arith) (leb-true (suc n) variableBound e)
+    go false e = large (leb-false (suc n) variableBound e)
+
+-- What tests on the variable of a word say of the word.
+pub variable-zero : (w : ℤ) → variableOf (wordOf w) < 1 → w ≡ pos 0
+variable-zero w h = go (kind w)
+  where
+    go : Kind w → w ≡ pos 0
+    go (closing e) = e
+    go (large l) = let e = variable-large w l in absurd (omega arith)
+    go (signed l u) = let e = variable-magnitude w u in absurd (omega arith)
+
+pub variable-above : (w : ℤ) → variableBound < variableOf (wordOf w) → variableBound < natAbs w
+variable-above w h = go (kind w)
+  where
+    go : Kind w → variableBound < natAbs w
+    go (closing e) = let z = variable-magnitude w (rw e (omega arith)) in let k : natAbs w ≡ 0 = ap natAbs e in absurd (omega arith)
+    go (large l) = l
+    go (signed l u) = let e = variable-magnitude w u in absurd (omega arith)
+
+pub variable-within : (w : ℤ) → variableOf (wordOf w) ≤ variableBound → variableOf (wordOf w) ≡ natAbs w
+variable-within w h = go (kind w)
+  where
+    go : Kind w → variableOf (wordOf w) ≡ natAbs w
+    go (closing e) = variable-magnitude w (rw e (omega arith))
+    go (large l) = let e = variable-large w l in absurd (omega arith)
+    go (signed l u) = variable-magnitude w u
 
 -- The opposite word; places within the marks, and which literal a place other than 0 is of.
 pub opposite-word : (w : ℤ) → wordOf (negℤ w) ≡ opposite (wordOf w)

@@ -1,16 +1,22 @@
 -- The parts of the written text as a loop meets them. Assumes nothing.
-use Prim.Native.Nat.{ℕ, zero, suc, _+_, _<_, max}
+use Prim.Native.Nat.{ℕ, zero, suc, _+_, _≤_, _<_, max}
 use mathlib.Core.Path.{_≡_, refl}
 use mathlib.Core.List.{List, [], _∷_, _++_}
+use native.Mathlib.Nat.{not-suc-le-zero}
 use native.Mathlib.Omega.{arith}
 use borrow.Author.Tests.{eq-eqb, ne-eqb}
 use lib.ListN.{length, drop, getD, length-append}
 use lib.Seq.{drop-cons}
 use lib.Dec.{eqb}
-use lib.IntN.{ℤ, pos, natAbs}
+use lib.IntN.{ℤ, pos, negℤ}
+use Rattle.qbf.specs.Formula.{existential, entry, Prefix}
+use Rattle.formula.specs.Word.{wordOf}
+use Rattle.formula.specs.Word.Laws.{zero-word, positive-word, negative-word, positive-bounded, negative-bounded}
 use Rattle.formula.specs.Decimal.{decimal}
 use Rattle.formula.specs.Written.{headerText, largest, letterOf}
 use Rattle.formula.specs.Writing.{lineEnd, lineTurn, entryText, prefixText, wordText, clausesText}
+use Rattle.formula.specs.declared.literal.Variable.{Variable}
+use Rattle.formula.specs.declared.literal.Word.the-variants.{Zero, Positive, Negative}
 
 pub length-header : (top count : ℕ) → length (headerText top count) ≡ length (decimal top) + length (decimal count) + 8
 unfolding headerText
@@ -30,24 +36,41 @@ pub line-turn-other : (last letter : ℕ) → (last ≡ letter → ⊥) → line
 unfolding lineTurn
 line-turn-other last letter h = rw (ne-eqb last letter h)
 
--- A prefix word's text from its letter and its variable.
-pub entry-text :
-    (last letter variable : ℕ) (w : ℤ) → letter ≡ letterOf w → variable ≡ natAbs w
-    → entryText last w ≡ lineTurn (eqb last letter) last letter ++ (decimal variable ++ (32 ∷ []))
-unfolding entryText
-entry-text last letter variable w e f = rw (e, f)
+-- The entry at a place, and the entries after it.
+module _ (i : ℕ) (P : Prefix) (h : i < length P) where
+  pub largest-drop : largest (drop i P) ≡ max (getD P i (entry 0 existential) .variable) (largest (drop (suc i) P))
+  unfolding largest
+  largest-drop = rw (drop-cons P i (entry 0 existential) h)
+
+  pub prefix-text-drop : (last letter variable : ℕ)
+      → letter ≡ letterOf (getD P i (entry 0 existential) .quantifier)
+      → variable ≡ getD P i (entry 0 existential) .variable
+      → prefixText last (drop i P) ≡ entryText last letter variable ++ prefixText letter (drop (suc i) P)
+  unfolding prefixText
+  prefix-text-drop last letter variable e f = rw (e, f, drop-cons P i (entry 0 existential) h)
 
 -- The word at a place, and the words after it.
-module _ (i : ℕ) (ws : List ℤ) (h : i < length ws) where
-  pub largest-drop : largest (drop i ws) ≡ max (natAbs (getD ws i (pos 0))) (largest (drop (suc i) ws))
-  unfolding largest
-  largest-drop = rw (drop-cons ws i (pos 0) h)
+pub clauses-text-drop : (i : ℕ) (ws : List ℤ) → i < length ws → clausesText (drop i ws) ≡ wordText (getD ws i (pos 0)) ++ clausesText (drop (suc i) ws)
+unfolding clausesText
+clauses-text-drop i ws h = rw (drop-cons ws i (pos 0) h)
 
-  pub prefix-text-drop : (last : ℕ) →
-      prefixText last (drop i ws) ≡ entryText last (getD ws i (pos 0)) ++ prefixText (letterOf (getD ws i (pos 0))) (drop (suc i) ws)
-  unfolding prefixText
-  prefix-text-drop last = rw (drop-cons ws i (pos 0) h)
+-- The text of a word, by what it was recognised as.
+pub text-zero : (w : ℤ) → wordOf w ≡ Zero → wordText w ≡ 48 ∷ 10 ∷ []
+unfolding wordText
+text-zero w e = rw (zero-word w e)
 
-  pub clauses-text-drop : clausesText (drop i ws) ≡ wordText (getD ws i (pos 0)) ++ clausesText (drop (suc i) ws)
-  unfolding clausesText
-  clauses-text-drop = rw (drop-cons ws i (pos 0) h)
+pub text-positive : (w : ℤ) (v : Variable) → wordOf w ≡ Positive v → wordText w ≡ decimal (v .0) ++ (32 ∷ [])
+unfolding wordText
+text-positive w v e = rw (positive-word w v e) (go (v .0) (positive-bounded w v e .0))
+  where
+    go : (n : ℕ) → 1 ≤ n → wordText (pos n) ≡ decimal n ++ (32 ∷ [])
+    go zero l = absurd (not-suc-le-zero l)
+    go (suc n) l = refl
+
+pub text-negative : (w : ℤ) (v : Variable) → wordOf w ≡ Negative v → wordText w ≡ 45 ∷ (decimal (v .0) ++ (32 ∷ []))
+unfolding wordText
+text-negative w v e = rw (negative-word w v e) (go (v .0) (negative-bounded w v e .0))
+  where
+    go : (n : ℕ) → 1 ≤ n → wordText (negℤ (pos n)) ≡ 45 ∷ (decimal n ++ (32 ∷ []))
+    go zero l = absurd (not-suc-le-zero l)
+    go (suc n) l = refl

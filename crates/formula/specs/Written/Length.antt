@@ -3,15 +3,17 @@
 use Prim.Native.Nat.{ℕ, zero, suc, _+_, _*_, _^_, _≤_, _<_}
 use mathlib.Core.Path.{_≡_, refl}
 use mathlib.Core.Bool.{Bool, true, false}
-use mathlib.Core.List.{List, [], _∷_}
+use mathlib.Core.List.{List, [], _∷_, List·Memᴰ, List·Memᴰ·head, List·Memᴰ·tail}
 use native.Mathlib.Decide.{decLt}
 use native.Mathlib.Omega.{arith}
 use lib.ListN.{length, getD, length-append}
 use lib.Dec.{eqb}
 use lib.IntN.{ℤ, pos, negsuc, natAbs}
+use Rattle.qbf.specs.Formula.{Entry, Prefix}
 use Rattle.formula.specs.Bounds.{variableBound, textBound}
+use Rattle.formula.specs.Prefix.{prefixOf, Entries}
 use Rattle.formula.specs.Tables.{zeros, Admitted}
-use Rattle.formula.specs.Tables.Laws.{admitted-prefix-length, admitted-clauses-length, admitted-count, admitted-prefix-at, admitted-clause-at}
+use Rattle.formula.specs.Tables.Laws.{admitted-prefix-length, admitted-clauses-length, admitted-count, admitted-entries, admitted-clause-at}
 use Rattle.formula.specs.Decimal.{decimal}
 use Rattle.formula.specs.Decimal.Laws.{length-decimal}
 use Rattle.formula.specs.Written.{written, largest, letterOf}
@@ -19,7 +21,7 @@ use Rattle.formula.specs.Writing.{Bounded, lineEnd, lineTurn, entryText,
 use Rattle.formula.specs.Written.Laws.{length-header}
 use Rattle.formula.specs.Written.Lines.{written-stream}
 
--- Admitted tables are bounded; past the end a word is read as 0.
+-- Admitted clause tables are bounded; past the end a word is read as 0.
 bounded-by : (ws : List ℤ) → ((i : ℕ) → suc i ≤ length ws → natAbs (getD ws i (pos 0)) ≤ variableBound) → Bounded ws
 bounded-by ws h = record { bounded = λ i. go i (decLt i (length ws)) }
   where
@@ -32,20 +34,23 @@ bounded-by ws h = record { bounded = λ i. go i (decLt i (length ws)) }
     go i (yes l) = h i l
     go i (no l) = omega (arith, past ws i (omega arith))
 
-module _ (p c : List ℤ) (a : Admitted p c) where
-  pub prefix-bounded : Bounded p
-  prefix-bounded = bounded-by p (λ i l. admitted-prefix-at p c a i (pos 0) l .1)
-
-  pub clauses-bounded : Bounded c
-  clauses-bounded = bounded-by c (λ i l. admitted-clause-at p c a i (pos 0) l)
+pub clauses-bounded : (p c : List ℤ) → Admitted p c → Bounded c
+clauses-bounded p c a = bounded-by c (λ i l. admitted-clause-at p c a i (pos 0) l)
 
 bounded-later : {w : ℤ} {ws : List ℤ} → Bounded (w ∷ ws) → Bounded ws
 bounded-later h = record { bounded = λ i. h .bounded (suc i) }
 
-pub largest-bounded : (ws : List ℤ) → Bounded ws → largest ws ≤ 1024
+-- Every variable listed is within the bound.
+abbrev Small : Prefix → Type 0
+Small P = (x : Entry) → List·Memᴰ x P → x .variable ≤ variableBound
+
+largest-small : (P : Prefix) → Small P → largest P ≤ variableBound
 unfolding largest
-largest-bounded [] h = omega arith
-largest-bounded (w ∷ ws) h = omega (arith, h .bounded 0, largest-bounded ws (bounded-later h))
+largest-small [] h = omega arith
+largest-small (x ∷ P) h = omega (arith, h x (List·Memᴰ·head refl), largest-small P (λ y m. h y (List·Memᴰ·tail m)))
+
+pub largest-bounded : (p : List ℤ) → Entries p → largest (prefixOf p) ≤ variableBound
+largest-bounded p h = largest-small (prefixOf p) (λ x m. h .ranged x m .1)
 
 -- A number below 10,000 has at most four digits.
 length-number : (n : ℕ) → n ≤ 9999 → length (decimal n) ≤ 4
@@ -61,16 +66,21 @@ unfolding lineTurn
 length-line-turn true last letter = omega arith
 length-line-turn false last letter = rw length-append (omega (arith, length-line-end last))
 
-length-entry : (last : ℕ) (w : ℤ) → natAbs w ≤ 1024 → length (entryText last w) ≤ 9
+length-entry : (last letter variable : ℕ) → variable ≤ 1024 → length (entryText last letter variable) ≤ 9
 unfolding entryText
-length-entry last w h =
-    simp length-append (omega (arith, length-line-turn (eqb last (letterOf w)) last (letterOf w), length-number (natAbs w) (omega arith)))
+length-entry last letter variable h =
+    simp length-append (omega (arith, length-line-turn (eqb last letter) last letter, length-number variable (omega arith)))
 
-length-prefix : (last : ℕ) (ws : List ℤ) → Bounded ws → length (prefixText last ws) ≤ 9 * length ws + 2
+length-prefix : (last : ℕ) (P : Prefix) → Small P → length (prefixText last P) ≤ 9 * length P + 2
 unfolding prefixText
 length-prefix last [] h = omega (arith, length-line-end last)
-length-prefix last (w ∷ ws) h =
-    rw length-append (omega (arith, length-entry last w (h .bounded 0), length-prefix (letterOf w) ws (bounded-later h)))
+length-prefix last (x ∷ P) h =
+    rw length-append
+    (omega (
+      arith,
+      length-entry last (letterOf (x .quantifier)) (x .variable) (h x (List·Memᴰ·head refl)),
+      length-prefix (letterOf (x .quantifier)) P (λ y m. h y (List·Memᴰ·tail m)),
+    ))
 
 length-word : (w : ℤ) → natAbs w ≤ 1024 → length (wordText w) ≤ 6
 unfolding wordText
@@ -89,10 +99,10 @@ length-written p c a =
     simp (written-stream p c a, length-append)
     (omega (
       arith,
-      length-header (largest p) (zeros c),
-      length-number (largest p) (omega (arith, largest-bounded p (prefix-bounded p c a))),
+      length-header (largest (prefixOf p)) (zeros c),
+      length-number (largest (prefixOf p)) (omega (arith, largest-bounded p (admitted-entries p c a))),
       length-number (zeros c) (omega (arith, admitted-count p c a)),
-      length-prefix 0 p (prefix-bounded p c a),
+      length-prefix 0 (prefixOf p) (λ x m. admitted-entries p c a .ranged x m .1),
       length-clauses c (clauses-bounded p c a),
       admitted-prefix-length p c a,
       admitted-clauses-length p c a,

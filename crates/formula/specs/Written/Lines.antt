@@ -1,4 +1,4 @@
--- The lines of the written text are what the writer makes word by word: a line for each run, a line for each clause.
+-- The lines of the written text are what the writer makes entry by entry and word by word: a line for each run, a line for each clause.
 -- Assumes nothing.
 use Prim.Native.Nat.{ℕ, zero, suc, _≤_}
 use mathlib.Core.Path.{_≡_, refl, ap, sym, _∙_}
@@ -7,7 +7,9 @@ use mathlib.Core.List.{List, [], _∷_, _++_, flatMap, append-assoc, append-nil}
 use native.Mathlib.Omega.{arith}
 use lib.ListN.{length, drop}
 use lib.Dec.{eqb}
-use lib.IntN.{ℤ, pos, negsuc, natAbs}
+use lib.IntN.{ℤ, pos, negsuc}
+use Rattle.qbf.specs.Formula.{Quantifier, existential, universal, Entry, Prefix}
+use Rattle.formula.specs.Prefix.{prefixOf}
 use Rattle.formula.specs.Decode.{putFirst, clausesOf}
 use Rattle.formula.specs.Tables.{zeros, Admitted}
 use Rattle.formula.specs.Tables.Laws.{zeros-clauses, admitted-closed}
@@ -53,89 +55,91 @@ clauses-stream (negsuc n ∷ ws) h = literal-stream (negsuc n) ws refl h (λ k. 
 
 -- What follows a variable of the letter `last`, the later runs being `rs`: the first of them goes on with its line, if it
 -- is of that letter; else the line ends.
-abbrev goOn : Bool → List ℤ → List (List ℤ) → List ℕ
+abbrev goOn : Bool → Prefix → List Prefix → List ℕ
 goOn true run rs = variablesText run ++ flatMap runLine rs
 goOn false run rs = 48 ∷ 10 ∷ flatMap runLine (run ∷ rs)
 
-abbrev follows : ℕ → List (List ℤ) → List ℕ
+abbrev follows : ℕ → List Prefix → List ℕ
 follows last [] = 48 ∷ 10 ∷ []
 follows last ([] ∷ rs) = 48 ∷ 10 ∷ flatMap runLine rs
-follows last ((u ∷ run) ∷ rs) = goOn (eqb last (letterOf u)) (u ∷ run) rs
+follows last ((y ∷ run) ∷ rs) = goOn (eqb last (letterOf (y .quantifier))) (y ∷ run) rs
 
 -- A variable, and what follows it, of the run that it begins or joins.
-module _ (w : ℤ) where
-  ends-joined : (b : Bool) (run : List ℤ) (rs : List (List ℤ))
-      → flatMap runLine (joinIf b w run rs) ≡ letterOf w ∷ 32 ∷ (decimal (natAbs w) ++ (32 ∷ goOn b run rs))
+module _ (x : Entry) where
+  ends-joined : (b : Bool) (run : Prefix) (rs : List Prefix)
+      → flatMap runLine (joinIf b x run rs) ≡ letterOf (x .quantifier) ∷ 32 ∷ (decimal (x .variable) ++ (32 ∷ goOn b run rs))
   unfolding flatMap runLine variablesText
-  ends-joined true run rs = ap {B = List ℕ} (λ r. letterOf w ∷ 32 ∷ r) (append-assoc (decimal (natAbs w)) (32 ∷ variablesText run) (flatMap runLine rs))
+  ends-joined true run rs = ap {B = List ℕ} (λ r. letterOf (x .quantifier) ∷ 32 ∷ r) (append-assoc (decimal (x .variable)) (32 ∷ variablesText run) (flatMap runLine rs))
   ends-joined false run rs =
-      ap {B = List ℕ} (λ r. letterOf w ∷ 32 ∷ r) (append-assoc (decimal (natAbs w)) (32 ∷ 48 ∷ 10 ∷ []) (flatMap runLine (run ∷ rs)))
+      ap {B = List ℕ} (λ r. letterOf (x .quantifier) ∷ 32 ∷ r) (append-assoc (decimal (x .variable)) (32 ∷ 48 ∷ 10 ∷ []) (flatMap runLine (run ∷ rs)))
 
-  lines-join : (rs : List (List ℤ)) → flatMap runLine (joinRun w rs) ≡ letterOf w ∷ 32 ∷ (decimal (natAbs w) ++ (32 ∷ follows (letterOf w) rs))
+  lines-join : (rs : List Prefix) → flatMap runLine (joinRun x rs) ≡ letterOf (x .quantifier) ∷ 32 ∷ (decimal (x .variable) ++ (32 ∷ follows (letterOf (x .quantifier)) rs))
   unfolding flatMap runLine variablesText
-  lines-join [] = ap {B = List ℕ} (λ r. letterOf w ∷ 32 ∷ r) (append-nil (decimal (natAbs w) ++ (32 ∷ 48 ∷ 10 ∷ [])))
-  lines-join ([] ∷ rs) = ap {B = List ℕ} (λ r. letterOf w ∷ 32 ∷ r) (append-assoc (decimal (natAbs w)) (32 ∷ 48 ∷ 10 ∷ []) (flatMap runLine rs))
-  lines-join ((u ∷ run) ∷ rs) = ends-joined (eqb (letterOf w) (letterOf u)) (u ∷ run) rs
+  lines-join [] = ap {B = List ℕ} (λ r. letterOf (x .quantifier) ∷ 32 ∷ r) (append-nil (decimal (x .variable) ++ (32 ∷ 48 ∷ 10 ∷ [])))
+  lines-join ([] ∷ rs) = ap {B = List ℕ} (λ r. letterOf (x .quantifier) ∷ 32 ∷ r) (append-assoc (decimal (x .variable)) (32 ∷ 48 ∷ 10 ∷ []) (flatMap runLine rs))
+  lines-join ((y ∷ run) ∷ rs) = ends-joined (eqb (letterOf (x .quantifier)) (letterOf (y .quantifier))) (y ∷ run) rs
 
--- The runs after a variable of the letter `last`, where the next word is u.
+-- The runs after a variable of the letter `last`, where the next entry is y.
 abbrev turned : Bool → List ℕ → List ℕ
 turned true lines = drop 2 lines
 turned false lines = 48 ∷ 10 ∷ lines
 
-module _ (last : ℕ) (u : ℤ) where
-  go-on-turned : (b : Bool) (run : List ℤ) (rs : List (List ℤ)) → goOn b (u ∷ run) rs ≡ turned b (flatMap runLine ((u ∷ run) ∷ rs))
+module _ (last : ℕ) (y : Entry) where
+  go-on-turned : (b : Bool) (run : Prefix) (rs : List Prefix) → goOn b (y ∷ run) rs ≡ turned b (flatMap runLine ((y ∷ run) ∷ rs))
   unfolding flatMap runLine
   go-on-turned true run rs = refl
   go-on-turned false run rs = refl
 
   follows-joined :
-      (b : Bool) (run : List ℤ) (rs : List (List ℤ))
-      → follows last (joinIf b u run rs) ≡ turned (eqb last (letterOf u)) (flatMap runLine (joinIf b u run rs))
-  follows-joined true run rs = go-on-turned (eqb last (letterOf u)) run rs
-  follows-joined false run rs = go-on-turned (eqb last (letterOf u)) [] (run ∷ rs)
+      (b : Bool) (run : Prefix) (rs : List Prefix)
+      → follows last (joinIf b y run rs) ≡ turned (eqb last (letterOf (y .quantifier))) (flatMap runLine (joinIf b y run rs))
+  follows-joined true run rs = go-on-turned (eqb last (letterOf (y .quantifier))) run rs
+  follows-joined false run rs = go-on-turned (eqb last (letterOf (y .quantifier))) [] (run ∷ rs)
 
-  follows-join : (rs : List (List ℤ)) → follows last (joinRun u rs) ≡ turned (eqb last (letterOf u)) (flatMap runLine (joinRun u rs))
-  follows-join [] = go-on-turned (eqb last (letterOf u)) [] []
-  follows-join ([] ∷ rs) = go-on-turned (eqb last (letterOf u)) [] rs
-  follows-join ((v ∷ run) ∷ rs) = follows-joined (eqb (letterOf u) (letterOf v)) (v ∷ run) rs
+  follows-join : (rs : List Prefix) → follows last (joinRun y rs) ≡ turned (eqb last (letterOf (y .quantifier))) (flatMap runLine (joinRun y rs))
+  follows-join [] = go-on-turned (eqb last (letterOf (y .quantifier))) [] []
+  follows-join ([] ∷ rs) = go-on-turned (eqb last (letterOf (y .quantifier))) [] rs
+  follows-join ((z ∷ run) ∷ rs) = follows-joined (eqb (letterOf (y .quantifier)) (letterOf (z .quantifier))) (z ∷ run) rs
 
   -- An open line is left by ending it, or not at all.
   turned-line :
-      (b : Bool) (rest : List ℕ) → lineEnd last ≡ 48 ∷ 10 ∷ [] → turned b (letterOf u ∷ 32 ∷ rest) ≡ lineTurn b last (letterOf u) ++ rest
+      (b : Bool) (rest : List ℕ) → lineEnd last ≡ 48 ∷ 10 ∷ [] → turned b (letterOf (y .quantifier) ∷ 32 ∷ rest) ≡ lineTurn b last (letterOf (y .quantifier)) ++ rest
   unfolding lineTurn
   turned-line true rest e = refl
   turned-line false rest e = rw e
 
-letter-open : (w : ℤ) → letterOf w ≡ 0 → ⊥
+letter-open : (q : Quantifier) → letterOf q ≡ 0 → ⊥
 unfolding letterOf
-letter-open (pos n) e = omega arith
-letter-open (negsuc n) e = omega arith
+letter-open existential e = omega arith
+letter-open universal e = omega arith
 
--- After a word, the runs to come are what the later words make.
-prefix-follows : (w : ℤ) (ws : List ℤ) → prefixText (letterOf w) ws ≡ follows (letterOf w) (runs ws)
+-- After an entry, the runs to come are what the later entries make.
+prefix-follows : (x : Entry) (P : Prefix) → prefixText (letterOf (x .quantifier)) P ≡ follows (letterOf (x .quantifier)) (runs P)
 unfolding prefixText runs entryText
-prefix-follows w [] = line-end-open (letterOf w) (letter-open w)
-prefix-follows w (u ∷ us) =
+prefix-follows x [] = line-end-open (letterOf (x .quantifier)) (letter-open (x .quantifier))
+prefix-follows x (y ∷ Q) =
     simp append-assoc
-    (ap {B = List ℕ} (λ r. lineTurn (eqb (letterOf w) (letterOf u)) (letterOf w) (letterOf u) ++ (decimal (natAbs u) ++ (32 ∷ r))) (prefix-follows u us)
+    (ap {B = List ℕ} (λ r. lineTurn (eqb (letterOf (x .quantifier)) (letterOf (y .quantifier))) (letterOf (x .quantifier)) (letterOf (y .quantifier)) ++ (decimal (y .variable) ++ (32 ∷ r))) (prefix-follows y Q)
     ∙ sym
-    (follows-join (letterOf w) u (runs us)
-    ∙ ap (turned (eqb (letterOf w) (letterOf u))) (lines-join u (runs us))
-    ∙ turned-line (letterOf w) u (eqb (letterOf w) (letterOf u)) (decimal (natAbs u) ++ (32 ∷ follows (letterOf u) (runs us))) (line-end-open (letterOf w) (letter-open w))))
+    (follows-join (letterOf (x .quantifier)) y (runs Q)
+    ∙ ap (turned (eqb (letterOf (x .quantifier)) (letterOf (y .quantifier)))) (lines-join y (runs Q))
+    ∙ turned-line (letterOf (x .quantifier)) y (eqb (letterOf (x .quantifier)) (letterOf (y .quantifier))) (decimal (y .variable) ++ (32 ∷ follows (letterOf (y .quantifier)) (runs Q))) (line-end-open (letterOf (x .quantifier)) (letter-open (x .quantifier)))))
 
-prefix-stream : (ws : List ℤ) → flatMap runLine (runs ws) ≡ prefixText 0 ws
+prefix-stream : (P : Prefix) → flatMap runLine (runs P) ≡ prefixText 0 P
 unfolding flatMap runs prefixText lineEnd entryText
 prefix-stream [] = refl
-prefix-stream (w ∷ ws) =
-    lines-join w (runs ws)
-    ∙ rw (line-turn-other 0 (letterOf w) (λ e. letter-open w (sym e)), append-assoc (decimal (natAbs w)) (32 ∷ []) (prefixText (letterOf w) ws), prefix-follows w ws)
+prefix-stream (x ∷ P) =
+    lines-join x (runs P)
+    ∙ rw (line-turn-other 0 (letterOf (x .quantifier)) (λ e. letter-open (x .quantifier) (sym e)), append-assoc (decimal (x .variable)) (32 ∷ []) (prefixText (letterOf (x .quantifier)) P), prefix-follows x P)
 
--- The text of admitted tables, word by word, from V and C.
-pub written-stream : (p c : List ℤ) → Admitted p c → written p c ≡ headerText (largest p) (zeros c) ++ (prefixText 0 p ++ clausesText c)
+-- The text of admitted tables, entry by entry and word by word, from V and C.
+pub written-stream :
+    (p c : List ℤ) → Admitted p c
+    → written p c ≡ headerText (largest (prefixOf p)) (zeros c) ++ (prefixText 0 (prefixOf p) ++ clausesText c)
 unfolding written
-written-stream p c a = rw (prefix-stream p, clauses-stream c (admitted-closed p c a))
+written-stream p c a = rw (prefix-stream (prefixOf p), clauses-stream c (admitted-closed p c a))
 
 pub written-parts :
-    (p c : List ℤ) (top count : ℕ) → Admitted p c → top ≡ largest p → count ≡ zeros c
-    → written p c ≡ headerText top count ++ (prefixText 0 p ++ clausesText c)
+    (p c : List ℤ) (top count : ℕ) → Admitted p c → top ≡ largest (prefixOf p) → count ≡ zeros c
+    → written p c ≡ headerText top count ++ (prefixText 0 (prefixOf p) ++ clausesText c)
 written-parts p c top count a e f = rw (e, f) (written-stream p c a)

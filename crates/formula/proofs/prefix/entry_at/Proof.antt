@@ -7,7 +7,7 @@ use lib.IntN.{ℤ, pos, natAbs}
 use mir.Syntax.{w32}
 use mir.Val.{toZ, ofZ}
 use Rattle.formula.specs.Word.{wordOf}
-use Rattle.formula.specs.Written.Words.{shows-zero, not-too-large}
+use Rattle.formula.specs.Word.Laws.{zero-word, not-too-large}
 use Rattle.formula.specs.Prefix.{entryShown}
 use Rattle.formula.specs.Prefix.Laws.{entry-count, entry-word, entry-positive, entry-negative, entry-ranged}
 use Rattle.formula.specs.declared.literal.Word.the-variants.{Zero}
@@ -27,7 +27,7 @@ told : (c : tie.After-of) → c .of .result ≡ wordOf (word (c .before .before)
 told c = let e : toZ w32 (ofZ w32 (word (c .before .before))) ≡ word (c .before .before) = search needs in rw e at (c .of .ensures)
 
 not-zero : (w : ℤ) {A : Type 0} → 1 ≤ natAbs w → wordOf w ≡ Zero → A
-not-zero w h e = absurd (omega (arith, shows-zero w e .variable-is))
+not-zero w h e = let z : natAbs w ≡ 0 = ap natAbs (zero-word w e) in absurd (omega arith)
 
 mul-of : tie.Need-mul-of
 mul-of c = let h = within c in search needs

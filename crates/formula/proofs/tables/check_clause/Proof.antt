@@ -8,9 +8,10 @@ use lib.ListN.{length, getD, take, drop, length-drop}
 use lib.IntN.{pos, natAbs}
 use mir.Syntax.{w32}
 use mir.Val.{toZ, ofZ}
-use Rattle.formula.specs.Word.{wordOf}
-use Rattle.formula.specs.Tables.Scan.{magnitudeOf, marked, plainRun, clashFree}
-use Rattle.formula.proofs.Scan.{magnitude-zero, magnitude-large, magnitude-signed, run-within, run-range, clause-clash, clause-unfinished, clause-closed, clause-large, clause-unbound}
+use Rattle.formula.specs.Word.{wordOf, variableOf}
+use Rattle.formula.specs.Word.Laws.{variable-zero, variable-above, variable-within}
+use Rattle.formula.specs.Tables.Scan.{marked, plainRun, clashFree}
+use Rattle.formula.proofs.Scan.{run-within, run-range, clause-clash, clause-unfinished, clause-closed, clause-large, clause-unbound}
 use borrow.Author.Needs.{needs}
 use Rattle.formula.proofs.tables.check_clause.Statement.{statement}
 use Rattle.formula.proofs.tables.check_clause.Tie as tie
@@ -45,29 +46,29 @@ clash-at c = rw (run-length (c .before .before)) at (c .find-clash .ensures)
 
 returns : tie.Need-returns
 returns c =
-    let k = c .before in
+    let k = c .before .before in
     let a = k .before .before .before .before .args in
-    let h = rw (run-length (k .before .before), clash-at k) at (c .if1 .taken) in
-    rw (clash-at k) (clause-clash (marked (a .listed .now)) (a .clauses .now) (a .from) h)
+    let h = rw (run-length (k .before .before), clash-at k) at (c .before .if1 .taken) in
+    rw (c .new .ensures, clash-at k) (clause-clash (marked (a .listed .now)) (a .clauses .now) (a .from) h)
 
 returns-2 : tie.Need-returns-2
 returns-2 c =
-    let k = c .before .before in
+    let k = c .before .before .before in
     let a = k .before .before .before .before .args in
     let e = k .before .before .literals-end .ensures in
-    let h = rw (run-length (k .before .before), clash-at k) at (c .before .if1 .left) in
-    rw e (clause-unfinished (marked (a .listed .now)) (a .clauses .now) (a .from) h (search needs) (rw e at (c .if2 .taken)))
+    let h = rw (run-length (k .before .before), clash-at k) at (c .before .before .if1 .left) in
+    rw (c .new2 .ensures, e) (clause-unfinished (marked (a .listed .now)) (a .clauses .now) (a .from) h (search needs) (rw e at (c .before .if2 .taken)))
 
--- the magnitude of the word after the run
-magnitude-at :
-    (c : tie.After-magnitude)
-    → c .magnitude .result
-    ≡ magnitudeOf (wordOf (getD (c .before .before .before .before .before .before .before .before .args .clauses .now) (c .before .before .before .before .before .before .before .before .args .from + run (c .before .before .before .before .before .before)) (pos 0)))
-magnitude-at c =
+-- the variable of the word after the run
+word-variable :
+    (c : tie.After-variable)
+    → c .variable .result
+    ≡ variableOf (wordOf (getD (c .before .before .before .before .before .before .before .before .args .clauses .now) (c .before .before .before .before .before .before .before .before .args .from + run (c .before .before .before .before .before .before)) (pos 0)))
+word-variable c =
     let f = c .before .before .before .before .before .before in
     let w = getD (f .before .before .args .clauses .now) (f .literals-end .result) (pos 0) in
     let e : toZ w32 (ofZ w32 w) ≡ w = search needs in
-    rw (f .literals-end .ensures) at (rw e at (c .magnitude .ensures))
+    rw (f .literals-end .ensures) at (rw e at (c .variable .ensures))
 
 returns-3 : tie.Need-returns-3
 returns-3 c =
@@ -78,34 +79,34 @@ returns-3 c =
     let h = rw (run-length (k .before .before), clash-at k) at (m .before .before .before .if1 .left) in
     let l = rw e at (m .before .before .if2 .left) in
     let w = getD (a .clauses .now) (a .from + run (k .before .before)) (pos 0) in
-    let z : w ≡ pos 0 = magnitude-zero w (rw (magnitude-at m) at (c .if3 .taken)) in
+    let z : w ≡ pos 0 = variable-zero w (rw (word-variable m) at (c .if3 .taken)) in
     rw e (clause-closed (marked (a .listed .now)) (a .clauses .now) (a .from) h l z)
 
 returns-4 : tie.Need-returns-4
 returns-4 c =
-    let m = c .before .before in
+    let m = c .before .before .before in
     let k = m .before .before .before .before in
     let a = k .before .before .before .before .args in
     let e = k .before .before .literals-end .ensures in
     let h = rw (run-length (k .before .before), clash-at k) at (m .before .before .before .if1 .left) in
     let l = rw e at (m .before .before .if2 .left) in
     let w = getD (a .clauses .now) (a .from + run (k .before .before)) (pos 0) in
-    let z : 1024 < natAbs w = magnitude-large w (rw (magnitude-at m) at (c .if4 .taken)) in
-    rw e (clause-large (marked (a .listed .now)) (a .clauses .now) (a .from) h l z)
+    let z : 1024 < natAbs w = variable-above w (rw (word-variable m) at (c .before .if4 .taken)) in
+    rw (c .new3 .ensures, e) (clause-large (marked (a .listed .now)) (a .clauses .now) (a .from) h l z)
 
 returns-5 : tie.Need-returns-5
 returns-5 c =
-    let m = c .before .before in
+    let m = c .before .before .before in
     let k = m .before .before .before .before in
     let a = k .before .before .before .before .args in
     let e = k .before .before .literals-end .ensures in
     let h = rw (run-length (k .before .before), clash-at k) at (m .before .before .before .if1 .left) in
     let l = rw e at (m .before .before .if2 .left) in
     let w = getD (a .clauses .now) (a .from + run (k .before .before)) (pos 0) in
-    let b : 1 ≤ magnitudeOf (wordOf w) = rw (magnitude-at m) at (c .before .if3 .left) in
-    let u : magnitudeOf (wordOf w) ≤ 1024 = rw (magnitude-at m) at (c .if4 .left) in
-    let v = magnitude-signed w b u in
-    rw e (clause-unbound (marked (a .listed .now)) (a .clauses .now) (a .from) h l (rw v at b) (rw v at u))
+    let b : 1 ≤ variableOf (wordOf w) = rw (word-variable m) at (c .before .before .if3 .left) in
+    let u : variableOf (wordOf w) ≤ 1024 = rw (word-variable m) at (c .before .if4 .left) in
+    let v = variable-within w u in
+    rw (c .new4 .ensures, e) (clause-unbound (marked (a .listed .now)) (a .clauses .now) (a .from) h l (rw v at b) (rw v at u))
 
 pub check-clause-spec : {M : Type 1} → statement M
 check-clause-spec =
@@ -119,12 +120,16 @@ check-clause-spec =
     find-clash-requires
     (λ c. search needs)
     (λ c. search needs)
+    (λ c κs. search needs)
     returns
+    (λ c κs. search needs)
     returns-2
     (λ c. search needs)
     (λ c. search needs)
     (λ c κs. search needs)
     (λ c. search needs)
     returns-3
+    (λ c κs. search needs)
     returns-4
+    (λ c κs. search needs)
     returns-5)

@@ -13,10 +13,11 @@ use lib.ListN.{length, getD, drop, length-set, drop-of-length-le}
 use lib.IntN.{pos, natAbs}
 use mir.Syntax.{w32}
 use mir.Val.{toZ, ofZ}
-use Rattle.formula.specs.Word.{wordOf}
+use Rattle.formula.specs.Word.{wordOf, variableOf}
+use Rattle.formula.specs.Word.Laws.{variable-zero, variable-above, variable-within}
 use Rattle.formula.specs.Tables.{prefixRefusal, isIn}
-use Rattle.formula.specs.Tables.Scan.{magnitudeOf, marked, Marks, variablesBefore, checkOf}
-use Rattle.formula.proofs.Scan.{magnitude-zero, magnitude-large, magnitude-signed, prefix-at-zero, prefix-at-large, prefix-at-twice, prefix-at-fresh, marks-add, marks-listed}
+use Rattle.formula.specs.Tables.Scan.{marked, Marks, variablesBefore, checkOf}
+use Rattle.formula.proofs.Scan.{prefix-at-zero, prefix-at-large, prefix-at-twice, prefix-at-fresh, marks-add, marks-listed}
 use Rattle.formula.specs.declared.refusal.Refusal.{Refusal}
 use Rattle.formula.specs.declared.tables.Check.{Check}
 use Rattle.formula.proofs.tables.check_prefix.Statement.{statement}
@@ -36,57 +37,60 @@ loop-holds : tie.Need-loop-holds Inv-loop μ-loop
 unfolding variablesBefore
 loop-holds c = (refl, c .before .pre .1, c .before .pre .0, omega arith)
 
--- the magnitude of the word at the loop's place
-magnitude-at :
-    (c : tie.After-magnitude Inv-loop μ-loop)
-    → c .magnitude .result ≡ magnitudeOf (wordOf (getD (c .before .before .before .before .before .args .prefix .now) (c .before .before .before .loop .i) (pos 0)))
-magnitude-at c =
+-- the variable of the word at the loop's place
+word-variable :
+    (c : tie.After-variable Inv-loop μ-loop)
+    → c .variable .result ≡ variableOf (wordOf (getD (c .before .before .before .before .before .args .prefix .now) (c .before .before .before .loop .i) (pos 0)))
+word-variable c =
     let w = getD (c .before .before .before .before .before .args .prefix .now) (c .before .before .before .loop .i) (pos 0) in
     let e : toZ w32 (ofZ w32 w) ≡ w = search needs in
-    rw e at (c .magnitude .ensures)
+    rw e at (c .variable .ensures)
 
 refused : {r : Refusal} {A : Type 0} → Check.Refused r ≡ Check.Passed → A
 refused e = let z : _≡_ {A = ℕ} 0 1 = cc in absurd (omega arith)
 
 returns : tie.Need-returns Inv-loop μ-loop
 returns c =
-    let m = c .before in
+    let m = c .before .before in
     let l = m .before .before .before .loop in
     let ws = m .before .before .before .before .before .args .prefix .now in
     let w = getD ws (l .i) (pos 0) in
-    let z : w ≡ pos 0 = magnitude-zero w (rw (magnitude-at m) at (c .if1 .taken)) in
+    let z : w ≡ pos 0 = variable-zero w (rw (word-variable m) at (c .before .if1 .taken)) in
+    rw (c .new .ensures)
     (sym (ap checkOf (l .inv .0 ∙ prefix-at-zero ws (l .i) (search needs) (variablesBefore ws (l .i)) z)), λ e. refused e)
 
 returns-2 : tie.Need-returns-2 Inv-loop μ-loop
 returns-2 c =
-    let m = c .before .before in
+    let m = c .before .before .before in
     let l = m .before .before .before .loop in
     let ws = m .before .before .before .before .before .args .prefix .now in
     let w = getD ws (l .i) (pos 0) in
-    let z : 1024 < natAbs w = magnitude-large w (rw (magnitude-at m) at (c .if2 .taken)) in
+    let z : 1024 < natAbs w = variable-above w (rw (word-variable m) at (c .before .if2 .taken)) in
+    rw (c .new2 .ensures)
     (sym (ap checkOf (l .inv .0 ∙ prefix-at-large ws (l .i) (search needs) (variablesBefore ws (l .i)) z)), λ e. refused e)
 
--- past both tests the magnitude is the word's variable
+-- past both tests it is the word's magnitude
 variable-at :
     (c : tie.Else2 Inv-loop μ-loop)
-    → c .before .before .magnitude .result
+    → c .before .before .variable .result
     ≡ natAbs (getD (c .before .before .before .before .before .before .before .args .prefix .now) (c .before .before .before .before .before .loop .i) (pos 0))
 variable-at c =
     let m = c .before .before in
     let w = getD (m .before .before .before .before .before .args .prefix .now) (m .before .before .before .loop .i) (pos 0) in
-    magnitude-at m ∙ magnitude-signed w (rw (magnitude-at m) at (c .before .if1 .left)) (rw (magnitude-at m) at (c .if2 .left))
+    word-variable m ∙ variable-within w (rw (word-variable m) at (c .if2 .left))
 
 returns-3 : tie.Need-returns-3 Inv-loop μ-loop
 unfolding marked
 returns-3 c =
-    let t = c .before .before in
+    let t = c .before .before .before in
     let m = t .before .before in
     let l = m .before .before .before .loop in
     let ws = m .before .before .before .before .before .args .prefix .now in
     let w = getD ws (l .i) (pos 0) in
     let v = variable-at t in
     let found : isIn (natAbs w) (variablesBefore ws (l .i)) ≡ true =
-    sym (l .inv .1 .says (natAbs w)) ∙ eq-eqb (getD (l .listed) (natAbs w) 0) 1 (rw v at (c .if3 .taken)) in (
+    sym (l .inv .1 .says (natAbs w)) ∙ eq-eqb (getD (l .listed) (natAbs w) 0) 1 (rw v at (c .before .if3 .taken)) in
+    rw (c .new3 .ensures) (
       sym (ap checkOf (l .inv .0 ∙ prefix-at-twice ws (l .i) (search needs) (variablesBefore ws (l .i)) (rw v at (t .before .if1 .left)) (rw v at (t .if2 .left)) found)),
       λ e. refused e,
     )
@@ -126,11 +130,14 @@ check-prefix-spec =
     (λ c. search needs)
     (λ c. search needs)
     (λ c κs. search needs)
+    (λ c κs. search needs)
     (λ c. search needs)
     returns
+    (λ c κs. search needs)
     (λ c. search needs)
     returns-2
     (λ c. search needs)
+    (λ c κs. search needs)
     (λ c. search needs)
     returns-3
     (λ c. search needs)

@@ -4,56 +4,67 @@ use mathlib.Core.Bool.{true, false}
 use lib.ListN.{length}
 use lib.Dec.{leb}
 use Rattle.formula.specs.Bounds.{variableBound, matrixBound, countBound}
-use Rattle.formula.specs.Bounds.Laws.{fit-made, fit-refused, variables-made, clauses-made}
+use Rattle.formula.specs.Bounds.Laws.{fit-made, fit-refused, clauses-made}
 use Rattle.formula.specs.Tables.{zeros, sized}
 use Rattle.formula.proofs.Scan.{sizes-refused, words-refused, words-admitted}
 use borrow.Author.Needs.{needs}
 use Rattle.formula.proofs.tables.check_tables.Statement.{statement}
 use Rattle.formula.proofs.tables.check_tables.Tie as tie
 
+-- where each of the three sizes was found within its bound, one before the other
+abbrev start : tie.After-enum-told → tie.Start
+start c = c .before .before .before .before
+
+abbrev first : tie.After-enum-told3 → tie.After-enum-told
+first c = c .before .before .before
+
+abbrev second : tie.After-known-told → tie.After-enum-told3
+second c = c .before .before .before .before .before
+
 returns : tie.Need-returns
 returns c =
-    let a = c .before .before .before .args in
-    let e : leb (length (a .prefix .now)) variableBound ≡ false = fit-refused _ _ _ _ (sym (c .before .before .new .ensures) ∙ c .enum-told .given .1) (λ z. cc) in
-    sym (sizes-refused (a .prefix .now) (a .clauses .now) (rw e))
+    let a = c .before .before .before .before .args in
+    let e : leb (length (a .prefix .now)) variableBound ≡ false = fit-refused _ _ _ _ (sym (c .before .before .new2 .ensures) ∙ c .enum-told2 .given .1) (λ z. cc) in
+    rw (c .before .before .before .new .ensures) (sym (sizes-refused (a .prefix .now) (a .clauses .now) (rw e)))
 
--- the number of variables, within its bound
-variables-at : (c : tie.After-known-told) → (leb (length (c .before .before .before .before .args .prefix .now)) variableBound ≡ true) × (length (c .before .before .before .before .args .prefix .now) ≡ c .before .variables .given .0 .0 .0)
-variables-at c =
-    variables-made (length (c .before .before .before .before .args .prefix .now)) (c .before .variables .given .0 .0) (sym (c .before .before .before .new .ensures) ∙ c .before .variables .given .1)
+prefix-within : (c : tie.After-enum-told) → leb (length (start c .args .prefix .now)) variableBound ≡ true
+prefix-within c = fit-made _ _ _ _ (sym (c .before .before .new2 .ensures) ∙ c .enum-told .given .1) (λ z. cc) .0
 
 returns-2 : tie.Need-returns-2
 returns-2 c =
-    let a = c .before .before .before .before .before .before .before .args in
-    let e : leb (length (a .clauses .now)) matrixBound ≡ false = fit-refused _ _ _ _ (sym (c .before .before .new2 .ensures) ∙ c .enum-told3 .given .1) (λ z. cc) in
-    sym (sizes-refused (a .prefix .now) (a .clauses .now) (rw (variables-at (c .before .before .before) .0, e)))
+    let k = c .before .before .before in
+    let a = start k .args in
+    let e : leb (length (a .clauses .now)) matrixBound ≡ false = fit-refused _ _ _ _ (sym (c .before .before .new3 .ensures) ∙ c .enum-told4 .given .1) (λ z. cc) in
+    rw (k .before .before .before .new .ensures) (sym (sizes-refused (a .prefix .now) (a .clauses .now) (rw (prefix-within k, e))))
 
--- the clause words, within their bound
-words-at : (c : tie.After-enum-told2) → leb (length (c .before .before .before .before .before .before .before .args .clauses .now)) matrixBound ≡ true
-words-at c = fit-made _ _ _ _ (sym (c .before .before .new2 .ensures) ∙ c .enum-told2 .given .1) (λ z. cc) .0
+clauses-within : (c : tie.After-enum-told3) → leb (length (start (first c) .args .clauses .now)) matrixBound ≡ true
+clauses-within c = fit-made _ _ _ _ (sym (c .before .before .new3 .ensures) ∙ c .enum-told3 .given .1) (λ z. cc) .0
 
 returns-3 : tie.Need-returns-3
 returns-3 c =
     let k = c .before .before .before in
-    let a = c .before .before .before .before .before .before .before .before .before .before .before .args in
-    let e = fit-refused _ _ _ _ (sym (c .before .before .new3 .ensures) ∙ c .enum-told4 .given .1) (λ z. cc) in
+    let f = first (k .before) in
+    let a = start f .args in
+    let e = fit-refused _ _ _ _ (sym (c .before .before .new4 .ensures) ∙ c .enum-told5 .given .1) (λ z. cc) in
     let many : leb (zeros (a .clauses .now)) countBound ≡ false = rw (k .count-zeros .ensures) at e in
-    sym (sizes-refused (a .prefix .now) (a .clauses .now) (rw (variables-at (k .before .before .before .before) .0, words-at (k .before), many)))
+    rw (f .before .before .before .new .ensures) (sym (sizes-refused (a .prefix .now) (a .clauses .now) (rw (prefix-within f, clauses-within (k .before), many))))
 
 -- the number of clauses, within its bound; then the sizes fit
-clauses-at : (c : tie.After-known-told2) → (leb (zeros (c .before .before .before .before .before .before .before .before .before .before .before .before .args .clauses .now)) countBound ≡ true) × (zeros (c .before .before .before .before .before .before .before .before .before .before .before .before .args .clauses .now) ≡ c .before .count .given .0 .0 .0)
-clauses-at c =
+count-within :
+    (c : tie.After-known-told)
+    → (leb (zeros (start (first (second c)) .args .clauses .now)) countBound ≡ true) × (zeros (start (first (second c)) .args .clauses .now) ≡ c .before .count .given .0 .0 .0)
+count-within c =
     let k = c .before .before .before .before in
-    let e = clauses-made (k .count-zeros .result) (c .before .count .given .0 .0) (sym (c .before .before .before .new3 .ensures) ∙ c .before .count .given .1) in
+    let e = clauses-made (k .count-zeros .result) (c .before .count .given .0 .0) (sym (c .before .before .before .new4 .ensures) ∙ c .before .count .given .1) in
     rw (k .count-zeros .ensures) at e
 
-sizes : (c : tie.After-known-told2) → sized (c .before .before .before .before .before .before .before .before .before .before .before .before .args .prefix .now) (c .before .before .before .before .before .before .before .before .before .before .before .before .args .clauses .now) ≡ true
-sizes c = let k = c .before .before .before .before in rw (variables-at (k .before .before .before .before) .0, words-at (k .before), clauses-at c .0)
+sizes : (c : tie.After-known-told) → sized (start (first (second c)) .args .prefix .now) (start (first (second c)) .args .clauses .now) ≡ true
+sizes c = rw (prefix-within (first (second c)), clauses-within (second c), count-within c .0)
 
 returns-4 : tie.Need-returns-4
 returns-4 c =
     let w = c .before .before .before in
-    let a = w .before .before .before .before .before .before .before .before .before .before .before .before .before .args in
+    let a = start (first (second (w .before))) .args in
     sym
     (words-refused
     (a .prefix .now)
@@ -64,16 +75,17 @@ returns-4 c =
 
 returns-5 : tie.Need-returns-5
 returns-5 c =
-    let w = c .before .before in
-    let a = w .before .before .before .before .before .before .before .before .before .before .before .before .before .args in
+    let w = c .before .before .before in
     let k = w .before in
-    rw (← variables-at (k .before .before .before .before .before .before .before .before) .1, ← clauses-at k .1)
-    (sym (words-admitted (a .prefix .now) (a .clauses .now) (sizes k) (sym (w .check-words .ensures) ∙ c .enum-told5 .given .1)))
+    let a = start (first (second k)) .args in
+    rw (c .entry-count .ensures, ← count-within k .1)
+    (sym (words-admitted (a .prefix .now) (a .clauses .now) (sizes k) (sym (w .check-words .ensures) ∙ c .before .enum-told6 .given .1)))
 
 pub check-tables-spec : {M : Type 1} → statement M
 check-tables-spec =
     tie.close
     (tie.spec
+    (λ c κs. search needs)
     (λ c κs. search needs)
     (λ c. search needs)
     (λ c. search needs)
@@ -90,5 +102,6 @@ check-tables-spec =
     (λ c κs. search needs)
     (λ c. search needs)
     (λ c. search needs)
+    (λ c κs. search needs)
     returns-4
     returns-5)

@@ -11,9 +11,10 @@ use lib.ListN.{length, getD, drop, drop-of-length-le}
 use lib.IntN.{pos, natAbs}
 use mir.Syntax.{w32}
 use mir.Val.{toZ, ofZ}
-use Rattle.formula.specs.Word.{wordOf}
-use Rattle.formula.specs.Tables.Scan.{magnitudeOf, marked, plainRun}
-use Rattle.formula.proofs.Scan.{magnitude-zero, magnitude-large, magnitude-signed, plain-at-zero, plain-at-large, plain-at-unknown, plain-at-known}
+use Rattle.formula.specs.Word.{wordOf, variableOf}
+use Rattle.formula.specs.Word.Laws.{variable-zero, variable-above, variable-within}
+use Rattle.formula.specs.Tables.Scan.{marked, plainRun}
+use Rattle.formula.proofs.Scan.{plain-at-zero, plain-at-large, plain-at-unknown, plain-at-known}
 use Rattle.formula.proofs.tables.literals_end.Statement.{statement}
 use Rattle.formula.proofs.tables.literals_end.Tie as tie
 
@@ -26,14 +27,14 @@ abbrev μ-loop : tie.MeasureT-loop
 loop-holds : tie.Need-loop-holds Inv-loop μ-loop
 loop-holds c = (refl, search needs)
 
--- the magnitude of the word at the loop's place
-magnitude-at :
-    (c : tie.After-magnitude Inv-loop μ-loop)
-    → c .magnitude .result ≡ magnitudeOf (wordOf (getD (c .before .before .before .before .before .args .clauses .now) (c .before .before .before .loop .i) (pos 0)))
-magnitude-at c =
+-- the variable of the word at the loop's place
+word-variable :
+    (c : tie.After-variable Inv-loop μ-loop)
+    → c .variable .result ≡ variableOf (wordOf (getD (c .before .before .before .before .before .args .clauses .now) (c .before .before .before .loop .i) (pos 0)))
+word-variable c =
     let w = getD (c .before .before .before .before .before .args .clauses .now) (c .before .before .before .loop .i) (pos 0) in
     let e : toZ w32 (ofZ w32 w) ≡ w = search needs in
-    rw e at (c .magnitude .ensures)
+    rw e at (c .variable .ensures)
 
 -- where the run of literals ends at the loop's place
 run-ends :
@@ -49,7 +50,7 @@ returns c =
     let l = m .before .before .before .loop in
     let a = m .before .before .before .before .before .args in
     let w = getD (a .clauses .now) (l .i) (pos 0) in
-    let z : w ≡ pos 0 = magnitude-zero w (rw (magnitude-at m) at (c .if1 .taken)) in
+    let z : w ≡ pos 0 = variable-zero w (rw (word-variable m) at (c .if1 .taken)) in
     run-ends (m .before .before) (plain-at-zero (marked (a .listed .now)) (a .clauses .now) (l .i) (search needs) z)
 
 returns-2 : tie.Need-returns-2 Inv-loop μ-loop
@@ -58,18 +59,18 @@ returns-2 c =
     let l = m .before .before .before .loop in
     let a = m .before .before .before .before .before .args in
     let w = getD (a .clauses .now) (l .i) (pos 0) in
-    let z : 1024 < natAbs w = magnitude-large w (rw (magnitude-at m) at (c .if2 .taken)) in
+    let z : 1024 < natAbs w = variable-above w (rw (word-variable m) at (c .if2 .taken)) in
     run-ends (m .before .before) (plain-at-large (marked (a .listed .now)) (a .clauses .now) (l .i) (search needs) z)
 
--- past both tests the magnitude is the word's variable
+-- past both tests it is the word's magnitude
 variable-at :
     (c : tie.Else2 Inv-loop μ-loop)
-    → c .before .before .magnitude .result
+    → c .before .before .variable .result
     ≡ natAbs (getD (c .before .before .before .before .before .before .before .args .clauses .now) (c .before .before .before .before .before .loop .i) (pos 0))
 variable-at c =
     let m = c .before .before in
     let w = getD (m .before .before .before .before .before .args .clauses .now) (m .before .before .before .loop .i) (pos 0) in
-    magnitude-at m ∙ magnitude-signed w (rw (magnitude-at m) at (c .before .if1 .left)) (rw (magnitude-at m) at (c .if2 .left))
+    word-variable m ∙ variable-within w (rw (word-variable m) at (c .if2 .left))
 
 returns-3 : tie.Need-returns-3 Inv-loop μ-loop
 unfolding marked

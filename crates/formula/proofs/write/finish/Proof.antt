@@ -13,9 +13,9 @@ returns c =
 
 returns-2 : tie.Need-returns-2
 returns-2 c =
-    let a = c .before .before .before .before .before .before .args in
-    let e = lt-leb (a .used) (length (a .text .now)) (c .before .before .before .before .if1 .left) in
-    record { answers = rw e; leaves = rw e (c .before .before .clear-bytes2 .ensures) }
+    let a = c .before .before .before .before .before .before .before .args in
+    let e = lt-leb (a .used) (length (a .text .now)) (c .before .before .before .before .before .if1 .left) in
+    record { answers = rw (c .new .ensures, e); leaves = rw e (c .before .before .before .clear-bytes2 .ensures) }
 
 pub finish-spec : {M : Type 1} → statement M
 finish-spec =
@@ -24,6 +24,7 @@ finish-spec =
     (λ c κs. search needs)
     (λ c. search needs)
     returns
+    (λ c κs. search needs)
     (λ c κs. search needs)
     (λ c. search needs)
     returns-2)

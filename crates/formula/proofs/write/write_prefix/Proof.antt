@@ -1,78 +1,89 @@
--- `write_prefix` stores the entries one by one, then ends the open line: what is left to store is the text of the words
+-- `write_prefix` stores the entries one by one, then ends the open line: what is left to store is the text of the entries
 -- that the loop has not passed, after the letter of the last one. Assumes nothing.
-use Prim.Native.Nat.{suc, _-_, _≤_}
+use Prim.Native.Nat.{suc, _-_, _≤_, _<_}
 use mathlib.Core.Path.{_≡_, _∙_}
+use mathlib.Core.List.{_++_}
 use native.Mathlib.Numerals.{add-one}
 use native.Mathlib.Omega.{arith}
 use borrow.Author.Needs.{needs}
-use lib.ListN.{length, drop, getD, drop-of-length-le}
-use lib.IntN.{pos}
-use mir.Syntax.{w32}
-use mir.Val.{toZ, ofZ}
+use lib.ListN.{length, drop, drop-of-length-le}
+use Rattle.formula.specs.Prefix.{prefixOf, entryCount}
 use Rattle.formula.specs.Store.{Remains}
 use Rattle.formula.specs.Store.Laws.{remains-all, remains-less, remains-last, remains-length, below-first, below-remains}
-use Rattle.formula.specs.Written.{letterOf}
 use Rattle.formula.specs.Writing.{lineEnd, entryText, prefixText}
 use Rattle.formula.specs.Written.Laws.{prefix-text-drop}
 use Rattle.formula.proofs.write.write_prefix.Statement.{statement}
 use Rattle.formula.proofs.write.write_prefix.Tie as tie
 
 abbrev Inv-loop : tie.InvT-loop
-Inv-loop prefix text₀ at next₀ last₀ i₀ text next last i = Remains text₀ at (prefixText 0 prefix) text next (prefixText last (drop i prefix)) × (i ≤ length prefix)
+Inv-loop prefix text₀ at count next₀ last₀ i₀ text next last i =
+    Remains text₀ at (prefixText 0 (prefixOf prefix)) text next (prefixText last (drop i (prefixOf prefix)))
+    × (i ≤ count)
+    × (count ≡ entryCount prefix)
 
 abbrev μ-loop : tie.MeasureT-loop
-μ-loop prefix text₀ at next₀ last₀ i₀ text next last i = length prefix - i
+μ-loop prefix text₀ at count next₀ last₀ i₀ text next last i = count - i
 
 loop-holds : tie.Need-loop-holds Inv-loop μ-loop
-loop-holds c = (remains-all _ _ _, omega arith)
+loop-holds c = (remains-all _ _ _, search needs, c .entry-count .ensures)
+
+-- the place is that of an entry
+within : (c : tie.In-loop Inv-loop μ-loop) → c .before .loop .i < entryCount (c .before .before .before .before .args .prefix .now)
+within c = omega (arith, c .before .loop .inv .2, c .loop-test .taken)
+
+letter-at-requires : tie.Need-letter-at-requires Inv-loop μ-loop
+letter-at-requires c κs = (c .before .before .before .before .pre .0, within c)
+
+variable-at-requires : tie.Need-variable-at-requires Inv-loop μ-loop
+variable-at-requires c κs = (c .before .before .before .before .before .pre .0, within (c .before))
+
+-- where the loop's body begins, and what is left there begins with the entry
+abbrev body : tie.After-variable-at Inv-loop μ-loop → tie.In-loop Inv-loop μ-loop
+body c = c .before .before
+
+entry-left :
+    (c : tie.After-variable-at Inv-loop μ-loop)
+    → prefixText (body c .before .loop .last) (drop (body c .before .loop .i) (prefixOf (body c .before .before .before .before .args .prefix .now)))
+    ≡ entryText (body c .before .loop .last) (c .before .letter-at .result) (c .variable-at .result)
+    ++ prefixText (c .before .letter-at .result) (drop (suc (body c .before .loop .i)) (prefixOf (body c .before .before .before .before .args .prefix .now)))
+entry-left c =
+    let l = body c .before .loop in
+    prefix-text-drop (l .i) (prefixOf (body c .before .before .before .before .args .prefix .now)) (within (body c)) (l .last) (c .before .letter-at .result) (c .variable-at .result)
+    (c .before .letter-at .ensures) (c .variable-at .ensures)
 
 write-entry-requires : tie.Need-write-entry-requires Inv-loop μ-loop
 write-entry-requires c κs =
-    let s = c .before .before .before .before .before in
-    let l = c .before .before .before .loop in
-    let ws = s .args .prefix .now in
-    let w = getD ws (l .i) (pos 0) in
-    let e : toZ w32 (ofZ w32 w) ≡ w = search needs in
-    rw e (
-      s .pre .0 .bounded (l .i),
-      below-first (l .next) (entryText (l .last) w) (prefixText (letterOf w) (drop (suc (l .i)) ws))
-          (rw (prefix-text-drop (l .i) ws (c .before .before .loop-test .taken) (l .last)) at (below-remains (s .pre .1) (l .inv .0))),
-    )
-
-letter-requires : tie.Need-letter-requires Inv-loop μ-loop
-letter-requires c κs =
-    let s = c .before .before .before .before .before .before .before .before .before in
-    let l = c .before .before .before .before .before .before .before .loop in
-    let w = getD (s .args .prefix .now) (l .i) (pos 0) in
-    let e : toZ w32 (ofZ w32 w) ≡ w = search needs in
-    rw e (s .pre .0 .bounded (l .i))
+    let k = c .before in
+    let l = body k .before .loop in
+    below-first (l .next) (entryText (l .last) (k .before .letter-at .result) (k .variable-at .result)) (prefixText (k .before .letter-at .result) (drop (suc (l .i)) (prefixOf (body k .before .before .before .before .args .prefix .now))))
+    (rw (entry-left k) at (below-remains (body k .before .before .before .before .pre .1) (l .inv .0)))
 
 loop-again : tie.Need-loop-again Inv-loop μ-loop
 loop-again c =
-    let wrote = c .before .before .before .before in
-    let test = wrote .before .before .before in
-    let l = test .before .loop in
-    let ws = test .before .before .before .args .prefix .now in
-    let w = getD ws (l .i) (pos 0) in
-    let e : toZ w32 (ofZ w32 w) ≡ w = search needs in
-    let letter : c .letter .result ≡ letterOf w = rw e at (c .letter .ensures) in
-    let left = rw (prefix-text-drop (l .i) ws (test .loop-test .taken) (l .last)) at (l .inv .0) in (
-      rw (add-one, letter) (remains-less (prefixText (letterOf w) (drop (suc (l .i)) ws)) left (rw e at (wrote .write-entry .ensures))),
+    let wrote = c .before .before in
+    let k = wrote .before .before in
+    let l = body k .before .loop in
+    let left = rw (entry-left k) at (l .inv .0) in (
+      rw add-one (remains-less (prefixText (k .before .letter-at .result) (drop (suc (l .i)) (prefixOf (body k .before .before .before .before .args .prefix .now)))) left (wrote .write-entry .ensures)),
       search needs,
+      l .inv .2,
     )
 
 -- past the loop the end of the open line is left
 abbrev start : tie.After-loop Inv-loop μ-loop → tie.Start Inv-loop μ-loop
-start c = c .before .before .before
+start c = c .before .before .before .before
 
 end-at :
     (c : tie.After-loop Inv-loop μ-loop)
-    → Remains (start c .args .text .now) (start c .args .at) (prefixText 0 (start c .args .prefix .now)) (c .before .loop .text) (c .before .loop .next) (lineEnd (c .before .loop .last))
+    → Remains (start c .args .text .now) (start c .args .at) (prefixText 0 (prefixOf (start c .args .prefix .now))) (c .before .loop .text) (c .before .loop .next) (lineEnd (c .before .loop .last))
 unfolding prefixText
-end-at c = rw (drop-of-length-le (start c .args .prefix .now) (c .loop-test .left)) at (c .before .loop .inv .0)
+end-at c =
+    let l = c .before .loop in
+    let h : entryCount (start c .args .prefix .now) ≤ l .i = omega (arith, l .inv .2, c .loop-test .left) in
+    rw (drop-of-length-le (prefixOf (start c .args .prefix .now)) h) at (l .inv .0)
 
 end-line-requires : tie.Need-end-line-requires Inv-loop μ-loop
-end-line-requires c κs = below-remains (c .before .before .before .before .pre .1) (end-at (c .before))
+end-line-requires c κs = below-remains (start (c .before) .pre .1) (end-at (c .before))
 
 same-length : tie.Need-same-length Inv-loop μ-loop
 same-length c = c .before .before .end-line .kept .0 ∙ remains-length (c .before .before .before .before .before .loop .inv .0)
@@ -86,13 +97,11 @@ write-prefix-spec =
     (tie.spec
     Inv-loop
     μ-loop
+    (λ c κs. search needs)
     loop-holds
-    (λ c. search needs)
-    (λ c. search needs)
+    letter-at-requires
+    variable-at-requires
     write-entry-requires
-    (λ c. search needs)
-    (λ c. search needs)
-    letter-requires
     (λ c. search needs)
     (λ c. search needs)
     loop-again

@@ -5,23 +5,25 @@ use mathlib.Core.List.{_++_}
 use native.Mathlib.Omega.{arith}
 use lib.ListN.{length}
 use Rattle.formula.specs.Store.Laws.{stores-append, below-first, below-rest}
+use Rattle.formula.specs.Prefix.{prefixOf}
+use Rattle.formula.specs.Tables.Laws.{admitted-entries}
 use Rattle.formula.specs.Written.{written, headerText}
 use Rattle.formula.specs.Writing.{prefixText, clausesText}
 use Rattle.formula.specs.Written.Lines.{written-parts}
-use Rattle.formula.specs.Written.Length.{prefix-bounded, clauses-bounded, written-below}
+use Rattle.formula.specs.Written.Length.{clauses-bounded, written-below}
 use borrow.Author.Needs.{needs}
 use Rattle.formula.proofs.write.write_tables.Statement.{statement}
 use Rattle.formula.proofs.write.write_tables.Tie as tie
 
 largest-variable-requires : tie.Need-largest-variable-requires
-largest-variable-requires c κs = let s = c .before in prefix-bounded (s .args .prefix .now) (s .args .clauses .now) (s .pre .0)
+largest-variable-requires c κs = let s = c .before in admitted-entries (s .args .prefix .now) (s .args .clauses .now) (s .pre .0)
 
 -- the text in its parts, from the largest variable on
 parts-at :
     (c : tie.After-largest-variable)
     → written (c .before .before .args .prefix .now) (c .before .before .args .clauses .now)
     ≡ headerText (c .largest-variable .result) (c .before .before .args .count)
-    ++ (prefixText 0 (c .before .before .args .prefix .now) ++ clausesText (c .before .before .args .clauses .now))
+    ++ (prefixText 0 (prefixOf (c .before .before .args .prefix .now)) ++ clausesText (c .before .before .args .clauses .now))
 parts-at c =
     let s = c .before .before in
     written-parts (s .args .prefix .now) (s .args .clauses .now) (c .largest-variable .result) (s .args .count) (s .pre .0) (c .largest-variable .ensures) (s .pre .1)
@@ -32,7 +34,7 @@ below-at :
     → 0
     + length
     (headerText (c .largest-variable .result) (c .before .before .args .count)
-    ++ (prefixText 0 (c .before .before .args .prefix .now) ++ clausesText (c .before .before .args .clauses .now)))
+    ++ (prefixText 0 (prefixOf (c .before .before .args .prefix .now)) ++ clausesText (c .before .before .args .clauses .now)))
     < 2 ^ 64
 below-at c = let s = c .before .before in rw (parts-at c) at (written-below (s .args .prefix .now) (s .args .clauses .now) (s .pre .0))
 
@@ -44,7 +46,7 @@ write-header-requires c κs =
       arith,
       below-first 0
           (headerText (l .largest-variable .result) (s .args .count))
-          (prefixText 0 (s .args .prefix .now) ++ clausesText (s .args .clauses .now))
+          (prefixText 0 (prefixOf (s .args .prefix .now)) ++ clausesText (s .args .clauses .now))
           (below-at l),
     )
 
@@ -55,9 +57,9 @@ write-prefix-requires c κs =
     let s = l .before .before in
     let p = s .args .prefix .now in
     let q = s .args .clauses .now in (
-      prefix-bounded p q (s .pre .0),
-      below-first (header .write-header .result) (prefixText 0 p) (clausesText q)
-          (below-rest (prefixText 0 p ++ clausesText q) (below-at l) (header .write-header .ensures)),
+      admitted-entries p q (s .pre .0),
+      below-first (header .write-header .result) (prefixText 0 (prefixOf p)) (clausesText q)
+          (below-rest (prefixText 0 (prefixOf p) ++ clausesText q) (below-at l) (header .write-header .ensures)),
     )
 
 write-clauses-requires : tie.Need-write-clauses-requires
@@ -69,7 +71,7 @@ write-clauses-requires c κs =
     let p = s .args .prefix .now in
     let q = s .args .clauses .now in (
       clauses-bounded p q (s .pre .0),
-      below-rest (clausesText q) (below-rest (prefixText 0 p ++ clausesText q) (below-at l) (header .write-header .ensures)) (lines .write-prefix .ensures),
+      below-rest (clausesText q) (below-rest (prefixText 0 (prefixOf p) ++ clausesText q) (below-at l) (header .write-header .ensures)) (lines .write-prefix .ensures),
     )
 
 returns : tie.Need-returns

@@ -6,7 +6,8 @@ use mir.Val.{toZ, ofZ}
 use Rattle.formula.specs.Decimal.{decimal}
 use Rattle.formula.specs.Store.Laws.{stores-append, below-first, below-rest}
 use Rattle.formula.specs.Writing.{wordText}
-use Rattle.formula.specs.Written.Words.{shows-zero, shows-positive, shows-negative, not-too-large}
+use Rattle.formula.specs.Word.Laws.{not-too-large}
+use Rattle.formula.specs.Written.Laws.{text-zero, text-positive, text-negative}
 use borrow.Author.Needs.{needs}
 use Rattle.formula.proofs.write.write_word.Statement.{statement}
 use Rattle.formula.proofs.write.write_word.Tie as tie
@@ -16,19 +17,19 @@ zero-text : (c : tie.After-enum-told) → wordText (c .before .before .before .b
 zero-text c =
     let z = c .before .before .before .before .args .word in
     let e : toZ w32 (ofZ w32 z) ≡ z = search needs in
-    shows-zero z (rw e at (sym (c .before .before .of .ensures) ∙ c .enum-told .given .1)) .text-is
+    text-zero z (rw e at (sym (c .before .before .of .ensures) ∙ c .enum-told .given .1))
 
 positive-text : (c : tie.After-known-told) → wordText (c .before .before .before .before .before .args .word) ≡ decimal (c .before .v .given .0 .0 .0) ++ (32 ∷ [])
 positive-text c =
     let z = c .before .before .before .before .before .args .word in
     let e : toZ w32 (ofZ w32 z) ≡ z = search needs in
-    shows-positive z (c .before .v .given .0 .0) (rw e at (sym (c .before .before .before .of .ensures) ∙ c .before .v .given .1)) .text-is
+    text-positive z (c .before .v .given .0 .0) (rw e at (sym (c .before .before .before .of .ensures) ∙ c .before .v .given .1))
 
 negative-text : (c : tie.After-known-told2) → wordText (c .before .before .before .before .before .args .word) ≡ 45 ∷ (decimal (c .before .v2 .given .0 .0 .0) ++ (32 ∷ []))
 negative-text c =
     let z = c .before .before .before .before .before .args .word in
     let e : toZ w32 (ofZ w32 z) ≡ z = search needs in
-    shows-negative z (c .before .v2 .given .0 .0) (rw e at (sym (c .before .before .before .of .ensures) ∙ c .before .v2 .given .1)) .text-is
+    text-negative z (c .before .v2 .given .0 .0) (rw e at (sym (c .before .before .before .of .ensures) ∙ c .before .v2 .given .1))
 
 write-bytes-requires : tie.Need-write-bytes-requires
 write-bytes-requires c κs = rw (zero-text (c .before .before)) at (c .before .before .before .before .before .before .pre .1)
