@@ -10,10 +10,10 @@ use lib.ListN.{length, getElem?}
 use lib.IntN.{ℤ}
 use Rattle.formula.specs.Bounds.{proofBound}
 use Rattle.formula.specs.Decode.{clausesOf, formulaOf}
+use Rattle.checker.specs.Rules.{scratchBound}
 use Rattle.checker.specs.Words.{Words}
 use Rattle.checker.specs.Steps.{Step}
 use Rattle.checker.specs.Lawful.{stepWords, numberedClauses, LawfulSteps}
-use Rattle.checker.specs.Verdict.{scratchBound}
 
 -- The words are steps written one after the other, each lawful over the clauses numbered before it, and some numbered clause,
 -- input clause or step, is empty. Dependencies are those of the formula that the tables denote.

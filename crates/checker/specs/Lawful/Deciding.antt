@@ -15,6 +15,7 @@ use Rattle.qbf.specs.Formula.{Formula, Existential, Universal}
 use Rattle.qbf.specs.Dependency.{Depends}
 use Rattle.formula.specs.declared.refusal.Reason.{Reason}
 use Rattle.formula.specs.declared.refusal.Reason.the-variants.{NotEarlier, WrongPivot, Tautology, Blocked, Misstated}
+use Rattle.checker.specs.Rules.Laws.{require-passed}
 use Rattle.checker.specs.Words.{Words, holds, without}
 use Rattle.checker.specs.Words.Laws.{not-true-false, holds-sound, holds-complete, without-member, member-without}
 use Rattle.checker.specs.Steps.{Scope, Step, resolution, reduction, antecedent, resolvent, opposed, states, positiveExistential, blocked, unless, judgeStatement, judgeResolution, judgeReduction, judge}
@@ -54,13 +55,12 @@ antecedent-numbered known (negsuc n) C e = let z : _≡_ {A = ℕ} 0 1 = cc in a
 pub numbered-antecedent : (known : List Words) (i : ℤ) (C : Words) → Numbered known i C → antecedent known i ≡ some C
 numbered-antecedent known i C n = rw (n .is) (n .stands)
 
--- A test that must pass.
-unless-none : (b : Bool) (r : Reason) (o : Option Reason) → unless b r o ≡ none → (b ≡ true) × (o ≡ none)
-unless-none true r o e = (refl, e)
-unless-none false r o e = let z : _≡_ {A = ℕ} 0 1 = cc in absurd (omega arith)
-
 no-reason : {r : Reason} {A : Type 0} → _≡_ {A = Option Reason} (some r) none → A
 no-reason e = let z : _≡_ {A = ℕ} 0 1 = cc in absurd (omega arith)
+
+-- A test that must pass.
+unless-none : (b : Bool) (r : Reason) (o : Option Reason) → unless b r o ≡ none → (b ≡ true) × (o ≡ none)
+unless-none b r o e = require-passed b (some r) o none (λ q. no-reason q) e
 
 none-blocked : {A : Type 0} → _≡_ {A = Option Reason} none (some Blocked) → A
 none-blocked e = let z : _≡_ {A = ℕ} 0 1 = cc in absurd (omega arith)

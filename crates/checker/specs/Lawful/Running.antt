@@ -13,10 +13,12 @@ use lib.ListN.{length, drop, length-append, length-map}
 use lib.Seq.{drop-at}
 use lib.IntN.{ℤ, pos}
 use Rattle.qbf.specs.Formula.{Formula}
-use Rattle.formula.specs.Refusal.{refusal}
+use Rattle.formula.specs.Refusal.{refusal, require}
 use Rattle.formula.specs.declared.refusal.Reason.{Reason}
 use Rattle.formula.specs.declared.refusal.Refusal.{Refusal}
-use Rattle.formula.specs.declared.refusal.Reason.the-variants.{Blocked}
+use Rattle.formula.specs.declared.refusal.Reason.the-variants.{NoRoom, BrokenStep, Blocked}
+use Rattle.checker.specs.Rules.{Rules, PlainKinds}
+use Rattle.checker.specs.Rules.Laws.{require-passed}
 use Rattle.checker.specs.Words.{Words}
 use Rattle.checker.specs.Steps.{
   Scope,
@@ -31,8 +33,9 @@ use Rattle.checker.specs.Steps.{
   right,
   wrong,
   judgedAs,
-  ifRoom,
   judgeRead,
+  someEmpty,
+  refuseAfter,
   judgeFirst,
   Outcome,
   ended,
@@ -76,56 +79,68 @@ length-snoc known L = length-append known (L ∷ []) ∙ one (length known)
     one n = omega arith
 
 -- A step that was judged right: it was read, there is room, and the judge had nothing to say.
-pub record Rightly (S : Scope) (room : ℕ) (known : List Words) (ws : Words) (s : Step) : Type 0 where
-  pub was-read : readStep ws ≡ some s
+pub record Rightly (rules : Rules) (S : Scope) (room : ℕ) (known : List Words) (ws : Words) (s : Step) : Type 0 where
+  pub was-read : readStep rules ws ≡ some s
   pub fits : length known < room
   pub judged : judge S known s ≡ none
 
-module _ (S : Scope) (room : ℕ) (known : List Words) where
-  pub rightly : (ws : Words) (s : Step) → judgeFirst S room known ws ≡ right s → Rightly S room known ws s
+reason : (r : Reason) → _≡_ {A = Judged} (wrong r) (wrong Blocked) → _≡_ {A = Option Reason} (some r) (some Blocked)
+reason r e = cc
+
+-- A right step was not refused for where it stands.
+after-right : (o : Option Reason) (b : Bool) (j : Judged) (s : Step) → refuseAfter o b j ≡ right s → j ≡ right s
+after-right none b j s h = h
+after-right (some r) true j s h = let z : _≡_ {A = ℕ} 0 1 = cc in absurd (omega arith)
+after-right (some r) false j s h = h
+
+after-blocked : (o : Option Reason) (b : Bool) (j : Judged) → o ≢ some Blocked → refuseAfter o b j ≡ wrong Blocked → j ≡ wrong Blocked
+after-blocked none b j n h = h
+after-blocked (some r) true j n h = absurd (n (reason r h))
+after-blocked (some r) false j n h = h
+
+module _ (rules : Rules) (S : Scope) (room : ℕ) (known : List Words) where
+  pub rightly : (ws : Words) (s : Step) → judgeFirst rules S room known ws ≡ right s → Rightly rules S room known ws s
   unfolding judgeFirst
-  rightly ws s h = go (readStep ws) refl h
+  rightly ws s h = go (readStep rules ws) refl (after-right (rules .afterwards) (someEmpty known) (judgeRead S room known (readStep rules ws)) s h)
     where
       same : (t u : Step) → _≡_ {A = Judged} (right t) (right u) → t ≡ u
       same t u e = cc
 
-      judging : (t : Step) (o : Option Reason) → judge S known t ≡ o → readStep ws ≡ some t → length known < room → judgedAs t o ≡ right s → Rightly S room known ws s
+      judging : (t : Step) (o : Option Reason) → judge S known t ≡ o → readStep rules ws ≡ some t → length known < room → judgedAs t o ≡ right s → Rightly rules S room known ws s
       judging t none j e f k =
           let q = same t s k in
           record { was-read = rw (← q) e; fits = f; judged = rw (← q) j }
       judging t (some r) j e f k = let z : _≡_ {A = ℕ} 0 1 = cc in absurd (omega arith)
 
-      fitting : (t : Step) (b : Bool) → ltb (length known) room ≡ b → readStep ws ≡ some t → ifRoom b (judgedAs t (judge S known t)) ≡ right s → Rightly S room known ws s
-      fitting t true f e k = judging t (judge S known t) refl e (ltb-true (length known) room f) k
-      fitting t false f e k = let z : _≡_ {A = ℕ} 0 1 = cc in absurd (omega arith)
-
-      go : (o : Option Step) → readStep ws ≡ o → judgeRead S room known o ≡ right s → Rightly S room known ws s
+      go : (o : Option Step) → readStep rules ws ≡ o → judgeRead S room known o ≡ right s → Rightly rules S room known ws s
       go none e k = let z : _≡_ {A = ℕ} 0 1 = cc in absurd (omega arith)
-      go (some t) e k = fitting t (ltb (length known) room) refl e k
+      go (some t) e k =
+          let p = require-passed (ltb (length known) room) (wrong NoRoom) (judgedAs t (judge S known t)) (right s) (λ q. let z : _≡_ {A = ℕ} 0 1 = cc in omega arith) k in
+          judging t (judge S known t) refl e (ltb-true (length known) room (p .0)) (p .1)
 
-  right-first : (ws : Words) (s : Step) → readStep ws ≡ some s → length known < room → judge S known s ≡ none → judgeFirst S room known ws ≡ right s
+  right-first :
+      rules .afterwards ≡ none
+      → (ws : Words) (s : Step) → readStep rules ws ≡ some s → length known < room → judge S known s ≡ none
+      → judgeFirst rules S room known ws ≡ right s
   unfolding judgeFirst
-  right-first ws s e f j = rw (e, lt-ltb (length known) room f, j)
+  right-first goes-on ws s e f j =
+      ap (λ (o : Option Reason). refuseAfter o (someEmpty known) (judgeRead S room known (readStep rules ws))) goes-on ∙ rw (e, lt-ltb (length known) room f, j)
 
   -- A step that was refused as blocked was read, and judged so.
-  blocked-first : (ws : Words) → judgeFirst S room known ws ≡ wrong Blocked → (s : Step) × (readStep ws ≡ some s) × (judge S known s ≡ some Blocked)
-  unfolding judgeFirst
-  blocked-first ws h = go (readStep ws) refl h
-    where
-      reason : (r : Reason) → _≡_ {A = Judged} (wrong r) (wrong Blocked) → _≡_ {A = Option Reason} (some r) (some Blocked)
-      reason r e = cc
+  module _ (apart : rules .afterwards ≢ some Blocked) where
+    blocked-first : (ws : Words) → judgeFirst rules S room known ws ≡ wrong Blocked → (s : Step) × (readStep rules ws ≡ some s) × (judge S known s ≡ some Blocked)
+    unfolding judgeFirst
+    blocked-first ws h = go (readStep rules ws) refl (after-blocked (rules .afterwards) (someEmpty known) (judgeRead S room known (readStep rules ws)) apart h)
+      where
+        judging : (t : Step) (o : Option Reason) → judge S known t ≡ o → readStep rules ws ≡ some t → judgedAs t o ≡ wrong Blocked → (s : Step) × (readStep rules ws ≡ some s) × (judge S known s ≡ some Blocked)
+        judging t none j e k = let z : _≡_ {A = ℕ} 0 1 = cc in absurd (omega arith)
+        judging t (some r) j e k = (t, e, j ∙ reason r k)
 
-      judging : (t : Step) (o : Option Reason) → judge S known t ≡ o → readStep ws ≡ some t → judgedAs t o ≡ wrong Blocked → (s : Step) × (readStep ws ≡ some s) × (judge S known s ≡ some Blocked)
-      judging t none j e k = let z : _≡_ {A = ℕ} 0 1 = cc in absurd (omega arith)
-      judging t (some r) j e k = (t, e, j ∙ reason r k)
-
-      fitting : (t : Step) (b : Bool) → readStep ws ≡ some t → ifRoom b (judgedAs t (judge S known t)) ≡ wrong Blocked → (s : Step) × (readStep ws ≡ some s) × (judge S known s ≡ some Blocked)
-      fitting t true e k = judging t (judge S known t) refl e k
-      fitting t false e k = let z : _≡_ {A = ℕ} 0 1 = cc in absurd (omega arith)
-
-      go : (o : Option Step) → readStep ws ≡ o → judgeRead S room known o ≡ wrong Blocked → (s : Step) × (readStep ws ≡ some s) × (judge S known s ≡ some Blocked)
-      go none e k = let z : _≡_ {A = ℕ} 0 1 = cc in absurd (omega arith)
-      go (some t) e k = fitting t (ltb (length known) room) e k
+        go : (o : Option Step) → readStep rules ws ≡ o → judgeRead S room known o ≡ wrong Blocked → (s : Step) × (readStep rules ws ≡ some s) × (judge S known s ≡ some Blocked)
+        go none e k = let z : _≡_ {A = ℕ} 0 1 = cc in absurd (omega arith)
+        go (some t) e k =
+            let p = require-passed (ltb (length known) room) (wrong NoRoom) (judgedAs t (judge S known t)) (wrong Blocked) (λ q. let z : _≡_ {A = ℕ} 0 1 = cc in omega arith) k in
+            judging t (judge S known t) refl e (p .1)
 
 -- The words of a step take as many places as its size says.
 pub words-size : (s : Step) → length (wordsOf s) ≡ sizeOf s
@@ -157,14 +172,14 @@ pub record RunBlocked (F : Formula) (known : List Words) (ws : Words) (place : �
   pub blocks : BlockedStep F (numberedClauses known steps) blocked
   pub own-number : place ≡ suc (length (numberedClauses known steps))
 
-module _ (S : Scope) (F : Formula) (D : Decides S F) (room : ℕ) where
+module _ (rules : Rules) (plain : PlainKinds rules) (S : Scope) (F : Formula) (D : Decides S F) (room : ℕ) where
   ended-same : (a b : List Words) → _≡_ {A = Outcome} (ended a) (ended b) → a ≡ b
   ended-same a b e = cc
 
   -- The words after a step that stands first.
-  after-step : (w : ℤ) (ws : Words) (s : Step) → readStep (w ∷ ws) ≡ some s → w ∷ ws ≡ wordsOf s ++ drop (less-one (sizeOf s)) ws
+  after-step : (w : ℤ) (ws : Words) (s : Step) → readStep rules (w ∷ ws) ≡ some s → w ∷ ws ≡ wordsOf s ++ drop (less-one (sizeOf s)) ws
   after-step w ws s e =
-      read-written (w ∷ ws) s e ∙ ap (λ (n : ℕ). wordsOf s ++ drop n (w ∷ ws)) (size-positive s)
+      read-written rules plain (w ∷ ws) s e ∙ ap (λ (n : ℕ). wordsOf s ++ drop n (w ∷ ws)) (size-positive s)
 
   -- No words: no steps.
   ends-here : (final known : List Words) → _≡_ {A = Outcome} (ended known) (ended final) → RunEnds F room final known []
@@ -175,22 +190,22 @@ module _ (S : Scope) (F : Formula) (D : Decides S F) (room : ℕ) where
 
   pub run-lawful :
       (final known : List Words) (skip : ℕ) (ws : Words) → NoZeros known
-      → run S room known skip ws ≡ ended final
+      → run rules S room known skip ws ≡ ended final
       → RunEnds F room final known (drop skip ws)
   unfolding run stepWords
   run-lawful final known zero [] z h = ends-here final known h
   run-lawful final known (suc skip) [] z h = ends-here final known h
   run-lawful final known (suc skip) (w ∷ ws) z h = run-lawful final known skip ws z h
   run-lawful final known zero (w ∷ ws) z h =
-      go (judgeFirst S room known (w ∷ ws)) refl h (λ s k. run-lawful final (known ++ (statedBy s ∷ [])) (less-one (sizeOf s)) ws k)
+      go (judgeFirst rules S room known (w ∷ ws)) refl h (λ s k. run-lawful final (known ++ (statedBy s ∷ [])) (less-one (sizeOf s)) ws k)
     where
       go :
-          (j : Judged) → judgeFirst S room known (w ∷ ws) ≡ j
-          → turn known j (λ s. run S room (known ++ (statedBy s ∷ [])) (less-one (sizeOf s)) ws) ≡ ended final
-          → ((s : Step) → NoZeros (known ++ (statedBy s ∷ [])) → run S room (known ++ (statedBy s ∷ [])) (less-one (sizeOf s)) ws ≡ ended final → RunEnds F room final (known ++ (statedBy s ∷ [])) (drop (less-one (sizeOf s)) ws))
+          (j : Judged) → judgeFirst rules S room known (w ∷ ws) ≡ j
+          → turn known j (λ s. run rules S room (known ++ (statedBy s ∷ [])) (less-one (sizeOf s)) ws) ≡ ended final
+          → ((s : Step) → NoZeros (known ++ (statedBy s ∷ [])) → run rules S room (known ++ (statedBy s ∷ [])) (less-one (sizeOf s)) ws ≡ ended final → RunEnds F room final (known ++ (statedBy s ∷ [])) (drop (less-one (sizeOf s)) ws))
           → RunEnds F room final known (w ∷ ws)
       go (right s) e k later =
-          let r = rightly S room known (w ∷ ws) s e in
+          let r = rightly rules S room known (w ∷ ws) s e in
           let l = judge-lawful S F D known z s (r .judged) in
           let ends = later s (lawful-all-words (λ x. x ≢ pos 0) F known z s l) k in
           record {
@@ -203,28 +218,30 @@ module _ (S : Scope) (F : Formula) (D : Decides S F) (room : ℕ) where
       go (wrong r) e k later = let q : _≡_ {A = ℕ} 0 1 = cc in absurd (omega arith)
 
   pub lawful-run :
-      (steps : List Step) (known : List Words) → LawfulSteps F known steps → NoZeros known → length known + length steps ≤ room
-      → run S room known zero (stepWords steps) ≡ ended (numberedClauses known steps)
+      rules .afterwards ≡ none
+      → (steps : List Step) (known : List Words) → LawfulSteps F known steps → NoZeros known → length known + length steps ≤ room
+      → run rules S room known zero (stepWords steps) ≡ ended (numberedClauses known steps)
   unfolding run stepWords
-  lawful-run [] known l z f = rw (append-nil known)
-  lawful-run (s ∷ steps) known l z f =
-      let was-read : readStep (wordsOf s ++ stepWords steps) ≡ some s = written-read s (stepWords steps) (lawful-words (λ x. x ≢ pos 0) F known z s (l .0)) in
-      let first : judgeFirst S room known (wordsOf s ++ stepWords steps) ≡ right s =
-      right-first S room known (wordsOf s ++ stepWords steps) s was-read (omega arith) (lawful-judge S F D known z s (l .0)) in
-      let later = lawful-run steps (known ++ (statedBy s ∷ [])) (l .1) (lawful-all-words (λ x. x ≢ pos 0) F known z s (l .0)) (omega (arith, length-snoc known (statedBy s))) in
-      run-right S room known (wordsOf s ++ stepWords steps) s first
+  lawful-run goes-on [] known l z f = rw (append-nil known)
+  lawful-run goes-on (s ∷ steps) known l z f =
+      let was-read : readStep rules (wordsOf s ++ stepWords steps) ≡ some s = written-read rules plain s (stepWords steps) (lawful-words (λ x. x ≢ pos 0) F known z s (l .0)) in
+      let first : judgeFirst rules S room known (wordsOf s ++ stepWords steps) ≡ right s =
+      right-first rules S room known goes-on (wordsOf s ++ stepWords steps) s was-read (omega arith) (lawful-judge S F D known z s (l .0)) in
+      let later = lawful-run goes-on steps (known ++ (statedBy s ∷ [])) (l .1) (lawful-all-words (λ x. x ≢ pos 0) F known z s (l .0)) (omega (arith, length-snoc known (statedBy s))) in
+      run-right rules S room known (wordsOf s ++ stepWords steps) s first
       ∙ rw (drop-at (wordsOf s) (stepWords steps) (sizeOf s) (words-size s), later, numbered-step known s steps)
 
   pub run-blocked :
-      (known : List Words) (skip : ℕ) (ws : Words) (place : ℕ) → NoZeros known
-      → run S room known skip ws ≡ refused (refusal Blocked place)
+      rules .afterwards ≢ some Blocked
+      → (known : List Words) (skip : ℕ) (ws : Words) (place : ℕ) → NoZeros known
+      → run rules S room known skip ws ≡ refused (refusal Blocked place)
       → RunBlocked F known (drop skip ws) place
   unfolding run stepWords
-  run-blocked known zero [] place z h = let q : _≡_ {A = ℕ} 0 1 = cc in absurd (omega arith)
-  run-blocked known (suc skip) [] place z h = let q : _≡_ {A = ℕ} 0 1 = cc in absurd (omega arith)
-  run-blocked known (suc skip) (w ∷ ws) place z h = run-blocked known skip ws place z h
-  run-blocked known zero (w ∷ ws) place z h =
-      go (judgeFirst S room known (w ∷ ws)) refl h (λ s k. run-blocked (known ++ (statedBy s ∷ [])) (less-one (sizeOf s)) ws place k)
+  run-blocked apart known zero [] place z h = let q : _≡_ {A = ℕ} 0 1 = cc in absurd (omega arith)
+  run-blocked apart known (suc skip) [] place z h = let q : _≡_ {A = ℕ} 0 1 = cc in absurd (omega arith)
+  run-blocked apart known (suc skip) (w ∷ ws) place z h = run-blocked apart known skip ws place z h
+  run-blocked apart known zero (w ∷ ws) place z h =
+      go (judgeFirst rules S room known (w ∷ ws)) refl h (λ s k. run-blocked apart (known ++ (statedBy s ∷ [])) (less-one (sizeOf s)) ws place k)
     where
       same : (a b : Refusal) → _≡_ {A = Outcome} (refused a) (refused b) → a ≡ b
       same a b e = cc
@@ -235,12 +252,12 @@ module _ (S : Scope) (F : Formula) (D : Decides S F) (room : ℕ) where
           (ap (λ (x : Refusal). x .reason) q, ap (λ (x : Refusal). x .place) q)
 
       go :
-          (j : Judged) → judgeFirst S room known (w ∷ ws) ≡ j
-          → turn known j (λ s. run S room (known ++ (statedBy s ∷ [])) (less-one (sizeOf s)) ws) ≡ refused (refusal Blocked place)
-          → ((s : Step) → NoZeros (known ++ (statedBy s ∷ [])) → run S room (known ++ (statedBy s ∷ [])) (less-one (sizeOf s)) ws ≡ refused (refusal Blocked place) → RunBlocked F (known ++ (statedBy s ∷ [])) (drop (less-one (sizeOf s)) ws) place)
+          (j : Judged) → judgeFirst rules S room known (w ∷ ws) ≡ j
+          → turn known j (λ s. run rules S room (known ++ (statedBy s ∷ [])) (less-one (sizeOf s)) ws) ≡ refused (refusal Blocked place)
+          → ((s : Step) → NoZeros (known ++ (statedBy s ∷ [])) → run rules S room (known ++ (statedBy s ∷ [])) (less-one (sizeOf s)) ws ≡ refused (refusal Blocked place) → RunBlocked F (known ++ (statedBy s ∷ [])) (drop (less-one (sizeOf s)) ws) place)
           → RunBlocked F known (w ∷ ws) place
       go (right s) e k later =
-          let r = rightly S room known (w ∷ ws) s e in
+          let r = rightly rules S room known (w ∷ ws) s e in
           let l = judge-lawful S F D known z s (r .judged) in
           let b = later s (lawful-all-words (λ x. x ≢ pos 0) F known z s l) k in
           record {
@@ -254,7 +271,7 @@ module _ (S : Scope) (F : Formula) (D : Decides S F) (room : ℕ) where
           }
       go (wrong r) e k later =
           let o = own r k in
-          let t = blocked-first S room known (w ∷ ws) (rw (o .0) at e) in
+          let t = blocked-first rules S room known apart (w ∷ ws) (rw (o .0) at e) in
           record {
             steps = [];
             lawful = tt;

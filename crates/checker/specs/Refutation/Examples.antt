@@ -7,6 +7,8 @@ use lib.ListN.{length}
 use lib.IntN.{pos}
 use Rattle.formula.specs.Decode.{clausesOf}
 use Rattle.formula.specs.Tables.{zeros}
+use Rattle.checker.specs.Rules.{plainRules}
+use Rattle.checker.specs.Rules.Laws.{plain-kinds}
 use Rattle.checker.specs.Lawful.{numberedClauses}
 use Rattle.checker.specs.Lawful.Running.{numbered-length}
 use Rattle.checker.specs.Refutation.{Refutation, FirstEmpty, Within}
@@ -20,14 +22,14 @@ pub example-refutation :
     × (length (r .steps) ≡ 5)
     × FirstEmpty (numberedClauses (clausesOf exampleClauses) (r .steps)) 9
 example-refutation =
-    let a = accepted-refutation examplePrefix exampleClauses (exampleSteps (pos 4)) 8200 9 9 5 (positions .0) in
+    let a = accepted-refutation plainRules plain-kinds examplePrefix exampleClauses (exampleSteps (pos 4)) 8200 9 9 5 (positions .0) in
     (a .refutation, sym (a .counted), a .first-empty)
 
 pub damaged-no-refutation : Refutation examplePrefix exampleClauses (exampleSteps (pos 3)) → ⊥
 unfolding zeros clausesOf
 damaged-no-refutation r =
     let words = exampleSteps (pos 3) in
-    let admitted = accepted-refutation examplePrefix exampleClauses (exampleSteps (pos 4)) 8200 9 9 5 (positions .0) .admitted in
+    let admitted = accepted-refutation plainRules plain-kinds examplePrefix exampleClauses (exampleSteps (pos 4)) 8200 9 9 5 (positions .0) .admitted in
     let within : Within exampleClauses words 8200 9 =
     refutation-within examplePrefix exampleClauses words 8200 9 r (omega arith) (omega arith)
     (omega (arith, refutation-zeros examplePrefix exampleClauses words r, numbered-length (clausesOf exampleClauses) (r .steps))) in

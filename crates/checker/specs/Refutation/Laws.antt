@@ -14,13 +14,14 @@ use Rattle.formula.specs.Decode.{clausesOf, formulaOf}
 use Rattle.formula.specs.Decode.Laws.{clauses-no-zero}
 use Rattle.formula.specs.Tables.{zeros}
 use Rattle.formula.specs.Tables.Laws.{zeros-cons}
+use Rattle.checker.specs.Rules.{scratchBound}
 use Rattle.checker.specs.Words.{Words}
 use Rattle.checker.specs.Steps.{Step, resolution, reduction, statedBy, sizeOf}
 use Rattle.checker.specs.Lawful.{Numbered, Lawful, wordsOf, stepWords, numberedClauses, LawfulSteps}
 use Rattle.checker.specs.Lawful.Deciding.{NoZeros, numbered-member}
 use Rattle.checker.specs.Lawful.Running.{numbered-length, words-size, lawful-words, lawful-all-words}
 use Rattle.checker.specs.Refutation.{Refutation, FirstEmpty, Within}
-use Rattle.checker.specs.Verdict.{scratchBound, firstEmpty}
+use Rattle.checker.specs.Verdict.{firstEmpty}
 
 -- ---- the first empty clause
 

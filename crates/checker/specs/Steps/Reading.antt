@@ -4,14 +4,15 @@ use mathlib.Core.Path.{_≡_, refl, ap, sym, _∙_}
 use mathlib.Core.Logic.{_≢_}
 use mathlib.Core.Bool.{Bool, true, false, _||_, false≢true}
 use mathlib.Core.Option.{Option, none, some}
-use mathlib.Core.List.{[], _∷_, _++_, append-assoc, List·Memᴰ, List·Memᴰ·head, List·Memᴰ·tail}
+use mathlib.Core.List.{[], _∷_, _++_, append-assoc, List·Memᴰ, List·Memᴰ·head, List·Memᴰ·tail, List·Memᴰ·eq-of-singleton}
 use native.Mathlib.Omega.{arith}
 use lib.ListN.{length, drop}
 use lib.IntN.{ℤ, pos, negsuc}
 use Rattle.formula.specs.Decode.{firstClause}
-use Rattle.checker.specs.Words.{Words, sameWord, isZero, closes}
-use Rattle.checker.specs.Words.Laws.{same-sound, apart-same, literal-first, zero-ends}
-use Rattle.checker.specs.Steps.{Step, resolution, reduction, sizeOf, statedBy, kindOf, ifClosed, readFields, readStep}
+use Rattle.checker.specs.Rules.{Rules, PlainKinds}
+use Rattle.checker.specs.Words.{Words, sameWord, isZero, holds, closes}
+use Rattle.checker.specs.Words.Laws.{holds-sound, same-sound, apart-same, literal-first, zero-ends}
+use Rattle.checker.specs.Steps.{Step, resolution, reduction, sizeOf, statedBy, Kind, resolves, reduces, other, kindBy, kindOf, ifClosed, readFields, readStep}
 use Rattle.checker.specs.Lawful.{wordsOf}
 
 -- A closed list of words begins with its first clause and a 0.
@@ -39,6 +40,13 @@ first-clause-written (x ∷ L) rest h =
     or-true true k = refl
     or-true false k = k
 
+closed-split : (ws : Words) → closes ws ≡ true → ws ≡ (firstClause ws ++ pos 0 ∷ []) ++ drop (suc (length (firstClause ws))) ws
+closed-split ws c = first-clause-split ws c ∙ sym (append-assoc (firstClause ws) (pos 0 ∷ []) (drop (suc (length (firstClause ws))) ws))
+
+-- A word among one is that one.
+holds-one : (x y : ℤ) → holds x (y ∷ []) ≡ true → x ≡ y
+holds-one x y h = List·Memᴰ·eq-of-singleton (holds-sound x (y ∷ []) h)
+
 no-step : {s : Step} {A : Type 0} → _≡_ {A = Option Step} none (some s) → A
 no-step e = let z : _≡_ {A = ℕ} 0 1 = cc in absurd (omega arith)
 
@@ -49,51 +57,47 @@ closed-step : (b : Bool) (s t : Step) → ifClosed b s ≡ some t → (b ≡ tru
 closed-step true s t e = (refl, some-step s t e)
 closed-step false s t e = no-step e
 
--- The words of what was read stand first.
-pub read-written : (ws : Words) (s : Step) → readStep ws ≡ some s → ws ≡ wordsOf s ++ drop (sizeOf s) ws
-unfolding readStep
-read-written [] s e = no-step e
-read-written (w ∷ ws) s e = go w ws e
-  where
-    split : (ws : Words) → closes ws ≡ true → ws ≡ (firstClause ws ++ pos 0 ∷ []) ++ drop (suc (length (firstClause ws))) ws
-    split ws c = first-clause-split ws c ∙ sym (append-assoc (firstClause ws) (pos 0 ∷ []) (drop (suc (length (firstClause ws))) ws))
+-- What was read, by its first word.
+fields-resolution : (ws : Words) (s : Step) → readFields resolves ws ≡ some s → pos 1 ∷ ws ≡ wordsOf s ++ drop (sizeOf s) (pos 1 ∷ ws)
+fields-resolution [] s h = no-step h
+fields-resolution (i ∷ []) s h = no-step h
+fields-resolution (i ∷ j ∷ []) s h = no-step h
+fields-resolution (i ∷ j ∷ e ∷ ws) s h =
+    let c = closed-step (closes ws) (resolution i j e (firstClause ws)) s h in
+    let size : 5 + length (firstClause ws) ≡ suc (suc (suc (suc (suc (length (firstClause ws)))))) = omega arith in
+    rw (← c .1, size)
+    (ap {B = Words} (λ r. pos 1 ∷ i ∷ j ∷ e ∷ r) (closed-split ws (c .0)))
 
-    resolving :
-        (i j e : ℤ) (ws : Words) → ifClosed (closes ws) (resolution i j e (firstClause ws)) ≡ some s
-        → pos 1 ∷ i ∷ j ∷ e ∷ ws ≡ wordsOf s ++ drop (sizeOf s) (pos 1 ∷ i ∷ j ∷ e ∷ ws)
-    resolving i j e ws h =
-        let c = closed-step (closes ws) (resolution i j e (firstClause ws)) s h in
-        let size : 5 + length (firstClause ws) ≡ suc (suc (suc (suc (suc (length (firstClause ws)))))) = omega arith in
-        rw (← c .1, size)
-        (ap {B = Words} (λ r. pos 1 ∷ i ∷ j ∷ e ∷ r) (split ws (c .0)))
+fields-reduction : (ws : Words) (s : Step) → readFields reduces ws ≡ some s → pos 2 ∷ ws ≡ wordsOf s ++ drop (sizeOf s) (pos 2 ∷ ws)
+fields-reduction [] s h = no-step h
+fields-reduction (i ∷ []) s h = no-step h
+fields-reduction (i ∷ a ∷ ws) s h =
+    let c = closed-step (closes ws) (reduction i a (firstClause ws)) s h in
+    let size : 4 + length (firstClause ws) ≡ suc (suc (suc (suc (length (firstClause ws))))) = omega arith in
+    rw (← c .1, size)
+    (ap {B = Words} (λ r. pos 2 ∷ i ∷ a ∷ r) (closed-split ws (c .0)))
 
-    reducing :
-        (i a : ℤ) (ws : Words) → ifClosed (closes ws) (reduction i a (firstClause ws)) ≡ some s
-        → pos 2 ∷ i ∷ a ∷ ws ≡ wordsOf s ++ drop (sizeOf s) (pos 2 ∷ i ∷ a ∷ ws)
-    reducing i a ws h =
-        let c = closed-step (closes ws) (reduction i a (firstClause ws)) s h in
-        let size : 4 + length (firstClause ws) ≡ suc (suc (suc (suc (length (firstClause ws))))) = omega arith in
-        rw (← c .1, size)
-        (ap {B = Words} (λ r. pos 2 ∷ i ∷ a ∷ r) (split ws (c .0)))
+module _ (rules : Rules) (plain : PlainKinds rules) where
+  -- The words of what was read stand first.
+  pub read-written : (ws : Words) (s : Step) → readStep rules ws ≡ some s → ws ≡ wordsOf s ++ drop (sizeOf s) ws
+  unfolding readStep
+  read-written [] s e = no-step e
+  read-written (w ∷ ws) s e = go (holds w (rules .resolutions)) (holds w (rules .reductions)) refl refl e
+    where
+      go :
+          (a b : Bool) → holds w (rules .resolutions) ≡ a → holds w (rules .reductions) ≡ b
+          → readFields (kindBy a b) ws ≡ some s
+          → w ∷ ws ≡ wordsOf s ++ drop (sizeOf s) (w ∷ ws)
+      go true b p q h = rw (holds-one w (pos 1) (rw (plain .one) at p)) (fields-resolution ws s h)
+      go false true p q h = rw (holds-one w (pos 2) (rw (plain .two) at q)) (fields-reduction ws s h)
+      go false false p q h = no-step h
 
-    go : (w : ℤ) (ws : Words) → readFields (kindOf w) ws ≡ some s → w ∷ ws ≡ wordsOf s ++ drop (sizeOf s) (w ∷ ws)
-    go (pos zero) ws e = no-step e
-    go (pos (suc zero)) [] e = no-step e
-    go (pos (suc zero)) (i ∷ []) e = no-step e
-    go (pos (suc zero)) (i ∷ j ∷ []) e = no-step e
-    go (pos (suc zero)) (i ∷ j ∷ x ∷ ws) e = resolving i j x ws e
-    go (pos (suc (suc zero))) [] e = no-step e
-    go (pos (suc (suc zero))) (i ∷ []) e = no-step e
-    go (pos (suc (suc zero))) (i ∷ x ∷ ws) e = reducing i x ws e
-    go (pos (suc (suc (suc n)))) ws e = no-step e
-    go (negsuc n) ws e = no-step e
-
--- A step with no 0 in its statement is read back.
-pub written-read : (s : Step) (rest : Words) → ((x : ℤ) → List·Memᴰ x (statedBy s) → x ≢ pos 0) → readStep (wordsOf s ++ rest) ≡ some s
-unfolding readStep
-written-read (resolution i j e L) rest h =
-    let w = first-clause-written L rest h in
-    rw (append-assoc L (pos 0 ∷ []) rest, w .0, w .1)
-written-read (reduction i a L) rest h =
-    let w = first-clause-written L rest h in
-    rw (append-assoc L (pos 0 ∷ []) rest, w .0, w .1)
+  -- A step with no 0 in its statement is read back.
+  pub written-read : (s : Step) (rest : Words) → ((x : ℤ) → List·Memᴰ x (statedBy s) → x ≢ pos 0) → readStep rules (wordsOf s ++ rest) ≡ some s
+  unfolding readStep holds sameWord
+  written-read (resolution i j e L) rest h =
+      let w = first-clause-written L rest h in
+      rw (plain .one, append-assoc L (pos 0 ∷ []) rest, w .0, w .1)
+  written-read (reduction i a L) rest h =
+      let w = first-clause-written L rest h in
+      rw (plain .one, plain .two, append-assoc L (pos 0 ∷ []) rest, w .0, w .1)

@@ -10,6 +10,8 @@ use Rattle.formula.specs.Decode.{clausesOf}
 use Rattle.formula.specs.Tables.{Admitted}
 use Rattle.checker.specs.declared.verdict.Verdict.{Verdict}
 use Rattle.checker.specs.declared.verdict.Verdict.the-variants.{Accepted}
+use Rattle.checker.specs.Rules.{plainRules}
+use Rattle.checker.specs.Rules.Laws.{plain-kinds}
 use Rattle.checker.specs.Lawful.{numberedClauses}
 use Rattle.checker.specs.Refutation.{Refutation, FirstEmpty, Within}
 use Rattle.checker.specs.Refutation.Laws.{empty-first}
@@ -25,9 +27,9 @@ pub record IsAccepted (v : Verdict) : Type 0 where
 module _ (prefix clauses words : List ℤ) (scratch starts : ℕ) (admitted : Admitted prefix clauses) (within : Within clauses words scratch starts) where
   refuted :
       (r : Refutation prefix clauses words) (n : ℕ) → FirstEmpty (numberedClauses (clausesOf clauses) (r .steps)) n
-      → verdictOf prefix clauses words scratch starts ≡ Accepted (record { 0 = n }) (length (r .steps))
+      → verdictOf plainRules prefix clauses words scratch starts ≡ Accepted (record { 0 = n }) (length (r .steps))
   refuted r n f =
-      refutation-accepted prefix clauses words scratch starts n (length (r .steps))
+      refutation-accepted plainRules plain-kinds prefix clauses words scratch starts refl n (length (r .steps))
       (record {
         admitted = admitted;
         sized = within .sized;
@@ -38,16 +40,16 @@ module _ (prefix clauses words : List ℤ) (scratch starts : ℕ) (admitted : Ad
         counted = refl;
       })
 
-  pub accepted-exactly : IsAccepted (verdictOf prefix clauses words scratch starts) ↔ Refutation prefix clauses words
+  pub accepted-exactly : IsAccepted (verdictOf plainRules prefix clauses words scratch starts) ↔ Refutation prefix clauses words
   accepted-exactly = (
-    λ a. accepted-refutation prefix clauses words scratch starts (a .empty) (a .count) (a .accepted) .refutation,
+    λ a. accepted-refutation plainRules plain-kinds prefix clauses words scratch starts (a .empty) (a .count) (a .accepted) .refutation,
     λ r. let f = empty-first (numberedClauses (clausesOf clauses) (r .steps)) (r .some-empty) in
         record { empty = f .0; count = length (r .steps); accepted = refuted r (f .0) (f .1) },
   )
 
   -- The number of steps, and the number of the first empty clause.
   pub accepted-numbers :
-      (empty count : ℕ) → verdictOf prefix clauses words scratch starts ≡ Accepted (record { 0 = empty }) count
+      (empty count : ℕ) → verdictOf plainRules prefix clauses words scratch starts ≡ Accepted (record { 0 = empty }) count
       → (r : Refutation prefix clauses words)
       → (count ≡ length (r .steps)) × FirstEmpty (numberedClauses (clausesOf clauses) (r .steps)) empty
   accepted-numbers empty count h r =
