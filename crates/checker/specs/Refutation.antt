@@ -1,8 +1,9 @@
 -- What a refutation is (wish 2; 01, "Steps"), and 01's bounds and room for one. Nothing here speaks of tests or of their order: that
 -- the checker accepts exactly the refutations is in Verdict/Exact.antt. Lawful steps are in Lawful.antt.
+pub mod FirstEmptyClause
 pub mod Laws
 pub mod Examples
-use Prim.Native.Nat.{ℕ, suc, _≤_, _<_}
+use Prim.Native.Nat.{ℕ, _≤_, _<_}
 use mathlib.Core.Path.{_≡_}
 use mathlib.Core.Option.{some}
 use mathlib.Core.List.{List, [], List·Memᴰ}
@@ -23,10 +24,8 @@ pub record Refutation (prefix clauses words : List ℤ) : Type 0 where
   pub lawful : LawfulSteps (formulaOf prefix clauses) (clausesOf clauses) steps
   pub some-empty : List·Memᴰ [] (numberedClauses (clausesOf clauses) steps)
 
--- n is the number of the first empty clause; clauses are numbered from 1.
-pub record FirstEmpty (known : List Words) (n : ℕ) : Type 0 where
-  pub place : ℕ
-  pub is : n ≡ suc place
+-- The first empty clause stands at this place, from 0 on; its number is one more.
+pub record FirstEmpty (known : List Words) (place : ℕ) : Type 0 where
   pub empty : getElem? known place ≡ some []
   pub earlier : (k : ℕ) → k < place → getElem? known k ≡ some [] → ⊥
 

@@ -1,5 +1,5 @@
--- Position b of 01 and the checklist's damaged proof, through wish 2: the one is a refutation with 5 steps and first empty clause
--- 9, the other, its second step's 4 made 3, is none.
+-- Position b of 01 and the checklist's damaged proof, through wish 2: the one is a refutation with 5 steps whose first empty
+-- clause is 9, at place 8, the other, its second step's 4 made 3, is none.
 use Prim.Native.Nat.{ℕ}
 use mathlib.Core.Path.{_≡_, sym}
 use native.Mathlib.Omega.{arith}
@@ -20,10 +20,11 @@ use Rattle.checker.specs.Verdict.Examples.{examplePrefix, exampleClauses
 pub example-refutation :
     (r : Refutation examplePrefix exampleClauses (exampleSteps (pos 4)))
     × (length (r .steps) ≡ 5)
-    × FirstEmpty (numberedClauses (clausesOf exampleClauses) (r .steps)) 9
+    × FirstEmpty (numberedClauses (clausesOf exampleClauses) (r .steps)) 8
 example-refutation =
     let a = accepted-refutation plainRules plain-kinds examplePrefix exampleClauses (exampleSteps (pos 4)) 8200 9 9 5 (positions .0) in
-    (a .refutation, sym (a .counted), a .first-empty)
+    let eight : a .place ≡ 8 = let e = a .place-numbered in omega arith in
+    (a .refutation, sym (a .counted), rw eight at (a .first-empty))
 
 pub damaged-no-refutation : Refutation examplePrefix exampleClauses (exampleSteps (pos 3)) → ⊥
 unfolding zeros clausesOf

@@ -32,11 +32,10 @@ use Rattle.checker.specs.Words.{Words}
 use Rattle.checker.specs.Steps.{Outcome, ended, refused, run}
 use Rattle.checker.specs.Steps.Tests.{opposite-zero}
 use Rattle.checker.specs.Lawful.{numberedClauses}
-use Rattle.checker.specs.Lawful.Deciding.{found-member}
 use Rattle.checker.specs.Lawful.Running.{numbered-length, run-lawful, lawful-run, run-blocked, RunEnds, RunBlocked}
 use Rattle.checker.specs.Derived.{AllDerived, lawful-steps-derived, derived-lost}
 use Rattle.checker.specs.Refutation.{Refutation, FirstEmpty}
-use Rattle.checker.specs.Refutation.Laws.{first-empty-sound, first-empty-complete}
+use Rattle.checker.specs.Refutation.FirstEmptyClause.{first-empty-sound, first-empty-complete, first-empty-member}
 use Rattle.checker.specs.Verdict.{scopeOf, firstEmpty, concluded, conclude, ifAdmitted, sizedVerdict, verdictOf}
 use Rattle.checker.specs.Verdict.Deciding.{scope-decides}
 use Rattle.checker.specs.Verdict.Early.{tables-early}
@@ -49,7 +48,9 @@ pub record Accepting (rules : Rules) (prefix clauses words : List ℤ) (scratch 
   pub scratch-fits : rules .scratch ≤ scratch
   pub refutation : Refutation prefix clauses words
   pub starts-fit : length (numberedClauses (clausesOf clauses) (refutation .steps)) ≤ starts
-  pub first-empty : FirstEmpty (numberedClauses (clausesOf clauses) (refutation .steps)) empty
+  pub place : ℕ
+  pub place-numbered : empty ≡ suc place
+  pub first-empty : FirstEmpty (numberedClauses (clausesOf clauses) (refutation .steps)) place
   pub counted : count ≡ length (refutation .steps)
 
 -- The order of refusals, taken apart.
@@ -141,7 +142,7 @@ module _ (rules : Rules) (plain : PlainKinds rules) (prefix clauses steps : List
       finish p final ends (some k) f q =
           let same = numbers-same k (length final - zeros clauses) n m q in
           let inputs : length (clausesOf clauses) ≡ zeros clauses = admitted-closed prefix clauses (p .admitted) in
-          let first : FirstEmpty final n = rw (← same .0) (first-empty-sound final k f) in
+          let first = first-empty-sound final k f in
           let size : length final ≡ length (clausesOf clauses) + length (ends .steps) = rw (← ends .numbered) (numbered-length (clausesOf clauses) (ends .steps)) in
           let counts = same .1 in
           record {
@@ -153,10 +154,12 @@ module _ (rules : Rules) (plain : PlainKinds rules) (prefix clauses steps : List
                   steps = ends .steps;
                   written = ends .written;
                   lawful = ends .lawful;
-                  some-empty = rw (ends .numbered) (found-member final (first .place) [] (first .empty));
+                  some-empty = rw (ends .numbered) (first-empty-member final (first .0) (first .2));
                 };
             starts-fit = rw (ends .numbered) (ends .fits (rw inputs (p .inputs-fit)));
-            first-empty = rw (ends .numbered) first;
+            place = first .0;
+            place-numbered = sym (same .0) ∙ first .1;
+            first-empty = rw (ends .numbered) (first .2);
             counted = omega arith;
           }
 
@@ -177,7 +180,7 @@ module _ (rules : Rules) (plain : PlainKinds rules) (prefix clauses steps : List
       let size : length known ≡ length (clausesOf clauses) + length list = numbered-length (clausesOf clauses) list in
       let ran : outcome ≡ ended known =
       rw (r .refutation .written) (lawful-run rules plain (scopeOf prefix clauses) F (scope-decides prefix clauses) room goes-on list (clausesOf clauses) (r .refutation .lawful) inputs-no-zero (omega arith)) in
-      let first : firstEmpty 1 known ≡ some n = first-empty-complete known n (r .first-empty) in
+      let first : firstEmpty 1 known ≡ some n = first-empty-complete known (r .place) (r .first-empty) ∙ ap {B = Option ℕ} some (sym (r .place-numbered)) in
       let counts : length known - zeros clauses ≡ m = let c = r .counted in omega arith in
       passed-verdict (record { admitted = r .admitted; sized = r .sized; scratch-fits = r .scratch-fits; inputs-fit = omega arith })
       ∙ rw (ran, first, counts)
@@ -212,19 +215,21 @@ module _ (rules : Rules) (plain : PlainKinds rules) (prefix clauses steps : List
 
   -- The input clauses of tables that pass are derived.
   pub inputs-derived : Admitted prefix clauses → AllDerived F (clausesOf clauses)
-  inputs-derived a C m =
-      record {
-        derivation = leaf (clauseOf C);
-        valid = Memᴰ·map clauseOf m;
-        concluded = λ x k. Memᴰ·map literalOf k;
-        conclusion = λ l k. Memᴰ·of-map literalOf C k;
-        nonzero = inputs-no-zero C m;
-        one-sign = λ x k i. inputs-no-zero C m x k (opposite-zero x (sym (distinct-images natAbs C (admitted-clause-distinct prefix clauses a C m) k i (sym (magnitude-negated x)))));
-      }
+  inputs-derived a C m = (
+    leaf (clauseOf C),
+    record {
+      valid = Memᴰ·map clauseOf m;
+      concluded = λ x k. Memᴰ·map literalOf k;
+      conclusion = λ l k. Memᴰ·of-map literalOf C k;
+      nonzero = inputs-no-zero C m;
+      one-sign = λ x k i. inputs-no-zero C m x k (opposite-zero x (sym (distinct-images natAbs C (admitted-clause-distinct prefix clauses a C m) k i (sym (magnitude-negated x)))));
+    },
+  )
 
   -- Accepted: the game is lost.
   pub accepted-lost : (n m : ℕ) → verdictOf rules prefix clauses steps scratch room ≡ Accepted (record { 0 = n }) m → Lost F
   accepted-lost n m h =
       let r = accepted-refutation n m h in
       let derived = lawful-steps-derived F (clausesOf clauses) (r .refutation .steps) (r .refutation .lawful) (inputs-derived (r .admitted)) in
-      derived-lost F (admitted-proper prefix clauses (r .admitted)) (derived [] (r .refutation .some-empty))
+      let empty = derived [] (r .refutation .some-empty) in
+      derived-lost F (admitted-proper prefix clauses (r .admitted)) (empty .0) (empty .1)
