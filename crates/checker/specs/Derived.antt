@@ -17,8 +17,7 @@ use Rattle.formula.specs.Decode.Laws.{magnitude-same, literal-variable, literal
 use Rattle.checker.specs.Words.{Words}
 use Rattle.checker.specs.Steps.{Step, resolution, reduction, statedBy}
 use Rattle.checker.specs.Lawful.{Resolvent, LawfulResolution, LawfulReduction, Lawful, numberedClauses, LawfulSteps}
-use Rattle.checker.specs.Lawful.Deciding.{numbered-member}
-use Rattle.checker.specs.Lawful.Running.{numbered-step}
+use Rattle.checker.specs.Lawful.Laws.{numbered-member, numbered-step}
 
 -- d is a valid derivation whose conclusion is the clause's literals; the clause holds no 0 and no literal with its opposite.
 pub record Derived (F : Formula) (C : Words) (d : Derivation) : Type 0 where

@@ -2,8 +2,8 @@
 -- given numbered clauses, and the run down the words. What steps know of the formula is the three tests of a Scope; the kinds
 -- of step there are, and whether one may follow an empty clause, are the rules'.
 pub mod Tests
-pub mod Reading
-pub mod Running
+pub mod Written
+pub mod Run
 use Prim.Native.Nat.{ℕ, zero, suc, _+_}
 use mathlib.Core.Bool.{Bool, true, false, not, _&&_, _||_}
 use mathlib.Core.Option.{Option, none, some}

@@ -1,7 +1,7 @@
 -- The verdict on a proof (01, "What the checker says no with", order "A proof"): tables, 2 on step words, 3 for scratch and
 -- starts, the steps, 19. `verdictOf plainRules` is what `check_proof` answers, Checked what it promises.
 pub mod Examples
-pub mod Deciding
+pub mod TableScope
 pub mod Early
 pub mod Accuracy
 pub mod Exact

@@ -10,7 +10,7 @@ ghost use lib.ListN.{length, drop};
 ghost use Rattle.formula.specs.Tables.{Admitted};
 ghost use Rattle.checker.specs.Rules.{plainRules};
 ghost use Rattle.checker.specs.Steps.{judgeFirst};
-ghost use Rattle.checker.specs.Lawful.Running.{AllWords};
+ghost use Rattle.checker.specs.Lawful.{AllWords};
 ghost use Rattle.checker.specs.Verdict.{scopeOf};
 ghost use Rattle.checker.specs.Numbered.{stored};
 ghost use Rattle.checker.specs.Marks.Judging.{InRange};

@@ -10,7 +10,7 @@ use Rattle.formula.specs.Tables.{zeros}
 use Rattle.checker.specs.Rules.{plainRules}
 use Rattle.checker.specs.Rules.Laws.{plain-kinds}
 use Rattle.checker.specs.Lawful.{numberedClauses}
-use Rattle.checker.specs.Lawful.Running.{numbered-length}
+use Rattle.checker.specs.Lawful.Laws.{numbered-length}
 use Rattle.checker.specs.Refutation.{Refutation, FirstEmpty, Within}
 use Rattle.checker.specs.Refutation.Laws.{refutation-zeros, refutation-within}
 use Rattle.checker.specs.Verdict.Accuracy.{accepted-refutation}

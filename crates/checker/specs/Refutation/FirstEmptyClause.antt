@@ -11,7 +11,7 @@ use lib.IntN.{ℤ}
 use lib.ListN.{getElem?}
 use Rattle.checker.specs.Words.{Words}
 use Rattle.checker.specs.Steps.{someEmpty}
-use Rattle.checker.specs.Lawful.Deciding.{found-member}
+use Rattle.checker.specs.Lawful.Laws.{found-member}
 use Rattle.checker.specs.Refutation.{FirstEmpty}
 use Rattle.checker.specs.Verdict.{firstEmpty}
 

@@ -1,11 +1,11 @@
--- Laws of refutations: how many words steps take, and how many 0s: so a clause offset for each four step words is room enough,
--- and for a refutation so is one for each numbered clause. The first empty clause is in FirstEmptyClause.antt. Assumes nothing.
+-- Laws of refutations: a clause offset for each four step words is room enough, and for a refutation, by its 0s, so is one for each
+-- numbered clause. The first empty clause is in FirstEmptyClause.antt. Assumes nothing.
 use Prim.Native.Nat.{ℕ, zero, suc, _+_, _*_, _/_, _≤_}
 use mathlib.Core.Path.{_≡_, refl, ap, sym, _∙_}
 use mathlib.Core.Logic.{_≢_}
 use mathlib.Core.List.{List, [], _∷_, _++_, append-assoc, List·Memᴰ, List·Memᴰ·head, List·Memᴰ·tail}
 use native.Mathlib.Omega.{arith}
-use lib.ListN.{length, length-append}
+use lib.ListN.{length}
 use lib.IntN.{ℤ, pos, negsuc}
 use Rattle.qbf.specs.Formula.{Formula}
 use Rattle.formula.specs.Bounds.{proofBound}
@@ -15,21 +15,11 @@ use Rattle.formula.specs.Tables.{zeros}
 use Rattle.formula.specs.Tables.Laws.{zeros-cons}
 use Rattle.checker.specs.Rules.{scratchBound}
 use Rattle.checker.specs.Words.{Words}
-use Rattle.checker.specs.Steps.{Step, resolution, reduction, statedBy, sizeOf}
-use Rattle.checker.specs.Lawful.{Numbered, Lawful, wordsOf, stepWords, numberedClauses, LawfulSteps}
-use Rattle.checker.specs.Lawful.Deciding.{NoZeros, numbered-member}
-use Rattle.checker.specs.Lawful.Running.{numbered-length, words-size, lawful-words, lawful-all-words}
+use Rattle.checker.specs.Steps.{Step, resolution, reduction, statedBy}
+use Rattle.checker.specs.Steps.Written.{steps-size}
+use Rattle.checker.specs.Lawful.{Numbered, Lawful, wordsOf, stepWords, numberedClauses, LawfulSteps, NoZeros}
+use Rattle.checker.specs.Lawful.Laws.{numbered-member, numbered-length, lawful-words, lawful-all-words}
 use Rattle.checker.specs.Refutation.{Refutation, Within}
-
--- A step has four words at least.
-pub steps-size : (steps : List Step) → 4 * length steps ≤ length (stepWords steps)
-unfolding stepWords
-steps-size [] = omega arith
-steps-size (s ∷ steps) = omega (arith, steps-size steps, length-append (wordsOf s) (stepWords steps), words-size s, four s)
-  where
-    four : (s : Step) → 4 ≤ sizeOf s
-    four (resolution i j e L) = omega arith
-    four (reduction i a L) = omega arith
 
 -- A clause offset for each input clause and for each four step words is room enough.
 pub words-within :

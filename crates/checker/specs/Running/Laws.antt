@@ -20,11 +20,12 @@ use Rattle.checker.specs.Rules.{plainRules}
 use Rattle.checker.specs.Words.{Words}
 use Rattle.checker.specs.Words.Places.{clauseAt}
 use Rattle.checker.specs.Steps.{Scope, Step, resolution, reduction, statedBy, sizeOf, judge, Judged, right, wrong, judgeFirst, run, refused}
-use Rattle.checker.specs.Steps.Running.{run-right, run-wrong}
-use Rattle.checker.specs.Lawful.Deciding.{NoZeros, judge-lawful}
-use Rattle.checker.specs.Lawful.Running.{AllWords, lawful-all-words, rightly}
+use Rattle.checker.specs.Steps.Run.{run-right, run-wrong, rightly}
+use Rattle.checker.specs.Lawful.{AllWords, NoZeros}
+use Rattle.checker.specs.Lawful.Laws.{lawful-all-words}
+use Rattle.checker.specs.Lawful.Judged.{judge-lawful}
 use Rattle.checker.specs.Verdict.{scopeOf, firstEmpty}
-use Rattle.checker.specs.Verdict.Deciding.{scope-decides}
+use Rattle.checker.specs.Verdict.TableScope.{scope-decides}
 use Rattle.checker.specs.Numbered.{storedAt, stored}
 use Rattle.checker.specs.Numbered.Laws.{stored-length, stored-get, stored-step}
 use Rattle.checker.specs.Marks.Judging.{InRange}

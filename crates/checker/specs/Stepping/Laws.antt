@@ -28,8 +28,8 @@ use Rattle.checker.specs.Words.Places.{clauseAt}
 use Rattle.checker.specs.declared.result.Judgement.the-variants.{Right, Wrong}
 use Rattle.checker.specs.declared.step.StepAnswer.the-variants.{Right as RightStep, Wrong as WrongStep}
 use Rattle.checker.specs.Steps.{Scope, Step, sizeOf, readStep, resolvent, positiveExistential, unless, judgeResolution, judgeReduction, judge, judgeFirst}
-use Rattle.checker.specs.Lawful.Deciding.{found-member}
-use Rattle.checker.specs.Lawful.Running.{AllWords}
+use Rattle.checker.specs.Lawful.{AllWords}
+use Rattle.checker.specs.Lawful.Laws.{found-member}
 use Rattle.checker.specs.Verdict.{scopeOf}
 use Rattle.checker.specs.Numbered.{tableOf, storedAt, stored}
 use Rattle.checker.specs.Numbered.Laws.{stored-get}

@@ -32,12 +32,13 @@ use Rattle.checker.specs.Words.{Words}
 use Rattle.checker.specs.Steps.{Outcome, ended, refused, run}
 use Rattle.checker.specs.Steps.Tests.{opposite-zero}
 use Rattle.checker.specs.Lawful.{numberedClauses}
-use Rattle.checker.specs.Lawful.Running.{numbered-length, run-lawful, lawful-run, run-blocked, RunEnds, RunBlocked}
+use Rattle.checker.specs.Lawful.Laws.{numbered-length}
+use Rattle.checker.specs.Lawful.Steps.{run-lawful, lawful-run, run-blocked, RunEnds, RunBlocked}
 use Rattle.checker.specs.Derived.{AllDerived, lawful-steps-derived, derived-lost}
 use Rattle.checker.specs.Refutation.{Refutation, FirstEmpty}
 use Rattle.checker.specs.Refutation.FirstEmptyClause.{first-empty-sound, first-empty-complete, first-empty-member}
 use Rattle.checker.specs.Verdict.{scopeOf, firstEmpty, concluded, conclude, ifAdmitted, sizedVerdict, verdictOf}
-use Rattle.checker.specs.Verdict.Deciding.{scope-decides}
+use Rattle.checker.specs.Verdict.TableScope.{scope-decides}
 use Rattle.checker.specs.Verdict.Early.{tables-early}
 
 -- What an accepted verdict says: admitted tables, bounds and room, and a refutation; `empty` is the first empty clause's number,

@@ -1,158 +1,27 @@
 -- The run against the law: it ends exactly when the words are lawful steps one after the other, and it stops as blocked only
 -- after lawful steps at a reduction whose clause holds a dependent existential. Assumes nothing.
-use Prim.Native.Nat.{ℕ, zero, suc, _+_, _≤_, _<_}
-use mathlib.Core.Path.{_≡_, refl, ap, sym, _∙_, subst}
-use mathlib.Core.Logic.{_⊎_, inl, inr, _≢_}
-use mathlib.Core.Bool.{Bool, true, false}
-use mathlib.Core.Option.{Option, none, some}
-use mathlib.Core.List.{List, [], _∷_, _++_, map, append-assoc, append-nil, List·Memᴰ, List·Memᴰ·append-cases, List·Memᴰ·eq-of-singleton}
+use Prim.Native.Nat.{ℕ, zero, suc, _+_, _≤_}
+use mathlib.Core.Path.{_≡_, refl, ap, sym, _∙_}
+use mathlib.Core.Logic.{_≢_}
+use mathlib.Core.Option.{none, some}
+use mathlib.Core.List.{List, [], _∷_, _++_, append-assoc, append-nil}
 use native.Mathlib.Omega.{arith}
-use borrow.Author.Tests.{ltb-true, lt-ltb}
-use lib.Dec.{ltb}
-use lib.ListN.{length, drop, length-append, length-map}
+use lib.ListN.{length, drop}
 use lib.Seq.{drop-at}
 use lib.IntN.{ℤ, pos}
 use Rattle.qbf.specs.Formula.{Formula}
-use Rattle.formula.specs.Refusal.{refusal, require}
+use Rattle.formula.specs.Refusal.{refusal}
 use Rattle.formula.specs.declared.refusal.Reason.{Reason}
 use Rattle.formula.specs.declared.refusal.Refusal.{Refusal}
-use Rattle.formula.specs.declared.refusal.Reason.the-variants.{NoRoom, BrokenStep, Blocked}
+use Rattle.formula.specs.declared.refusal.Reason.the-variants.{Blocked}
 use Rattle.checker.specs.Rules.{Rules, PlainKinds}
-use Rattle.checker.specs.Rules.Laws.{require-passed}
 use Rattle.checker.specs.Words.{Words}
-use Rattle.checker.specs.Steps.{
-  Scope,
-  Step,
-  resolution,
-  reduction,
-  statedBy,
-  sizeOf,
-  readStep,
-  judge,
-  Judged,
-  right,
-  wrong,
-  judgedAs,
-  judgeRead,
-  someEmpty,
-  refuseAfter,
-  judgeFirst,
-  Outcome,
-  ended,
-  refused,
-  turn,
-  less-one,
-  run,
-}
-use Rattle.checker.specs.Steps.Reading.{read-written, written-read}
-use Rattle.checker.specs.Steps.Running.{size-positive, run-right}
-use Rattle.checker.specs.Lawful.{Resolvent, Lawful, wordsOf, stepWords, numberedClauses, LawfulSteps}
-use Rattle.checker.specs.Lawful.Deciding.{Decides, NoZeros, numbered-member, BlockedStep, judge-lawful, lawful-judge, judge-blocked}
-
--- What holds of each word of each numbered clause holds of a lawful step's words, and then of all numbered clauses.
-abbrev pub AllWords : (ℤ → Type 0) → List Words → Type 0
-AllWords P known = (C : Words) → List·Memᴰ C known → (x : ℤ) → List·Memᴰ x C → P x
-
-module _ (P : ℤ → Type 0) (F : Formula) (known : List Words) (all : AllWords P known) where
-  pub lawful-words : (s : Step) → Lawful F known s → (x : ℤ) → List·Memᴰ x (statedBy s) → P x
-  lawful-words (resolution i j e L) l x m = go (l .states .only x m)
-    where
-      go : Resolvent (l .left) (l .right) e x → P x
-      go (inl r) = all (l .left) (numbered-member known i (l .left) (l .left-numbered)) x (r .0)
-      go (inr r) = all (l .right) (numbered-member known j (l .right) (l .right-numbered)) x (r .0)
-  lawful-words (reduction i a L) l x m = all (l .clause) (numbered-member known i (l .clause) (l .numbered)) x (l .states .only x m .0)
-
-  pub all-words-snoc : (L : Words) → ((x : ℤ) → List·Memᴰ x L → P x) → AllWords P (known ++ (L ∷ []))
-  all-words-snoc L h C m x k = go (List·Memᴰ·append-cases known m)
-    where
-      go : List·Memᴰ C known ⊎ List·Memᴰ C (L ∷ []) → P x
-      go (inl i) = all C i x k
-      go (inr i) = h x (subst (λ (D : Words). List·Memᴰ x D) (List·Memᴰ·eq-of-singleton i) k)
-
-  pub lawful-all-words : (s : Step) → Lawful F known s → AllWords P (known ++ (statedBy s ∷ []))
-  lawful-all-words s l = all-words-snoc (statedBy s) (lawful-words s l)
-
-length-snoc : (known : List Words) (L : Words) → length (known ++ (L ∷ [])) ≡ suc (length known)
-length-snoc known L = length-append known (L ∷ []) ∙ one (length known)
-  where
-    one : (n : ℕ) → n + 1 ≡ suc n
-    one n = omega arith
-
--- A step that was judged right: it was read, there is room, and the judge had nothing to say.
-pub record Rightly (rules : Rules) (S : Scope) (room : ℕ) (known : List Words) (ws : Words) (s : Step) : Type 0 where
-  pub was-read : readStep rules ws ≡ some s
-  pub fits : length known < room
-  pub judged : judge S known s ≡ none
-
-reason : (r : Reason) → _≡_ {A = Judged} (wrong r) (wrong Blocked) → _≡_ {A = Option Reason} (some r) (some Blocked)
-reason r e = cc
-
--- A right step was not refused for where it stands.
-after-right : (o : Option Reason) (b : Bool) (j : Judged) (s : Step) → refuseAfter o b j ≡ right s → j ≡ right s
-after-right none b j s h = h
-after-right (some r) true j s h = let z : _≡_ {A = ℕ} 0 1 = cc in absurd (omega arith)
-after-right (some r) false j s h = h
-
-after-blocked : (o : Option Reason) (b : Bool) (j : Judged) → o ≢ some Blocked → refuseAfter o b j ≡ wrong Blocked → j ≡ wrong Blocked
-after-blocked none b j n h = h
-after-blocked (some r) true j n h = absurd (n (reason r h))
-after-blocked (some r) false j n h = h
-
-module _ (rules : Rules) (S : Scope) (room : ℕ) (known : List Words) where
-  pub rightly : (ws : Words) (s : Step) → judgeFirst rules S room known ws ≡ right s → Rightly rules S room known ws s
-  unfolding judgeFirst
-  rightly ws s h = go (readStep rules ws) refl (after-right (rules .afterwards) (someEmpty known) (judgeRead S room known (readStep rules ws)) s h)
-    where
-      same : (t u : Step) → _≡_ {A = Judged} (right t) (right u) → t ≡ u
-      same t u e = cc
-
-      judging : (t : Step) (o : Option Reason) → judge S known t ≡ o → readStep rules ws ≡ some t → length known < room → judgedAs t o ≡ right s → Rightly rules S room known ws s
-      judging t none j e f k =
-          let q = same t s k in
-          record { was-read = rw (← q) e; fits = f; judged = rw (← q) j }
-      judging t (some r) j e f k = let z : _≡_ {A = ℕ} 0 1 = cc in absurd (omega arith)
-
-      go : (o : Option Step) → readStep rules ws ≡ o → judgeRead S room known o ≡ right s → Rightly rules S room known ws s
-      go none e k = let z : _≡_ {A = ℕ} 0 1 = cc in absurd (omega arith)
-      go (some t) e k =
-          let p = require-passed (ltb (length known) room) (wrong NoRoom) (judgedAs t (judge S known t)) (right s) (λ q. let z : _≡_ {A = ℕ} 0 1 = cc in omega arith) k in
-          judging t (judge S known t) refl e (ltb-true (length known) room (p .0)) (p .1)
-
-  right-first :
-      rules .afterwards ≡ none
-      → (ws : Words) (s : Step) → readStep rules ws ≡ some s → length known < room → judge S known s ≡ none
-      → judgeFirst rules S room known ws ≡ right s
-  unfolding judgeFirst
-  right-first goes-on ws s e f j =
-      ap (λ (o : Option Reason). refuseAfter o (someEmpty known) (judgeRead S room known (readStep rules ws))) goes-on ∙ rw (e, lt-ltb (length known) room f, j)
-
-  -- A step that was refused as blocked was read, and judged so.
-  module _ (apart : rules .afterwards ≢ some Blocked) where
-    blocked-first : (ws : Words) → judgeFirst rules S room known ws ≡ wrong Blocked → (s : Step) × (readStep rules ws ≡ some s) × (judge S known s ≡ some Blocked)
-    unfolding judgeFirst
-    blocked-first ws h = go (readStep rules ws) refl (after-blocked (rules .afterwards) (someEmpty known) (judgeRead S room known (readStep rules ws)) apart h)
-      where
-        judging : (t : Step) (o : Option Reason) → judge S known t ≡ o → readStep rules ws ≡ some t → judgedAs t o ≡ wrong Blocked → (s : Step) × (readStep rules ws ≡ some s) × (judge S known s ≡ some Blocked)
-        judging t none j e k = let z : _≡_ {A = ℕ} 0 1 = cc in absurd (omega arith)
-        judging t (some r) j e k = (t, e, j ∙ reason r k)
-
-        go : (o : Option Step) → readStep rules ws ≡ o → judgeRead S room known o ≡ wrong Blocked → (s : Step) × (readStep rules ws ≡ some s) × (judge S known s ≡ some Blocked)
-        go none e k = let z : _≡_ {A = ℕ} 0 1 = cc in absurd (omega arith)
-        go (some t) e k =
-            let p = require-passed (ltb (length known) room) (wrong NoRoom) (judgedAs t (judge S known t)) (wrong Blocked) (λ q. let z : _≡_ {A = ℕ} 0 1 = cc in omega arith) k in
-            judging t (judge S known t) refl e (p .1)
-
--- The words of a step take as many places as its size says.
-pub words-size : (s : Step) → length (wordsOf s) ≡ sizeOf s
-words-size (resolution i j e L) = rw (length-append L (pos 0 ∷ [])) (omega arith)
-words-size (reduction i a L) = rw (length-append L (pos 0 ∷ [])) (omega arith)
-
--- The first step's clause stands after those numbered before it, the other steps' clauses after that.
-pub numbered-step : (known : List Words) (s : Step) (steps : List Step) → numberedClauses (known ++ (statedBy s ∷ [])) steps ≡ numberedClauses known (s ∷ steps)
-numbered-step known s steps = append-assoc known (statedBy s ∷ []) (map statedBy steps)
-
-pub numbered-length : (known : List Words) (steps : List Step) → length (numberedClauses known steps) ≡ length known + length steps
-numbered-length known steps = length-append known (map statedBy steps) ∙ ap (λ n. length known + n) (length-map steps statedBy)
+use Rattle.checker.specs.Steps.{Scope, Step, statedBy, sizeOf, readStep, Judged, right, wrong, judgeFirst, Outcome, ended, refused, turn, less-one, run}
+use Rattle.checker.specs.Steps.Written.{words-size, size-positive, read-written, written-read}
+use Rattle.checker.specs.Steps.Run.{run-right, rightly, right-first, blocked-first}
+use Rattle.checker.specs.Lawful.{wordsOf, stepWords, numberedClauses, LawfulSteps, NoZeros}
+use Rattle.checker.specs.Lawful.Laws.{lawful-words, lawful-all-words, length-snoc, numbered-step}
+use Rattle.checker.specs.Lawful.Judged.{Decides, BlockedStep, judge-lawful, lawful-judge, judge-blocked}
 
 -- What the run is to show of words it passes: they are lawful steps, and the starts have room for every clause.
 pub record RunEnds (F : Formula) (room : ℕ) (final known : List Words) (ws : Words) : Type 0 where

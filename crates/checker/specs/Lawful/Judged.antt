@@ -1,14 +1,13 @@
 -- The tests of a step against the law: where the three tests of a scope decide what they ask of a formula, a step is judged
 -- right exactly when it is lawful, and blocked only where an existential of the clause depends. Assumes nothing.
-use Prim.Native.Nat.{ℕ, zero, suc}
+use Prim.Native.Nat.{ℕ}
 use mathlib.Core.Path.{_≡_, refl, sym, _∙_}
 use mathlib.Core.Logic.{_⊎_, inl, inr, _≢_}
 use mathlib.Core.Bool.{Bool, true, false, not, _&&_, false≢true}
 use mathlib.Core.Option.{Option, none, some}
-use mathlib.Core.List.{List, [], _∷_, List·Memᴰ, List·Memᴰ·head, List·Memᴰ·tail, List·Memᴰ·not-nil}
+use mathlib.Core.List.{List, [], List·Memᴰ, List·Memᴰ·not-nil}
 use native.Mathlib.Omega.{arith}
 use borrow.Author.Tests.{not-true}
-use lib.ListN.{getElem?}
 use lib.IntN.{ℤ, pos, negsuc, negℤ, natAbs}
 use Rattle.qbf.specs.Connectives.{and-both, both-and}
 use Rattle.qbf.specs.Formula.{Formula, Existential, Universal}
@@ -20,7 +19,8 @@ use Rattle.checker.specs.Words.{Words, holds, without}
 use Rattle.checker.specs.Words.Laws.{not-true-false, holds-sound, holds-complete, without-member, member-without}
 use Rattle.checker.specs.Steps.{Scope, Step, resolution, reduction, antecedent, resolvent, opposed, states, positiveExistential, blocked, unless, judgeStatement, judgeResolution, judgeReduction, judge}
 use Rattle.checker.specs.Steps.Tests.{opposed-found, unopposed, states-sound, states-complete, in-resolvent, resolvent-in, blocked-found, unblocked}
-use Rattle.checker.specs.Lawful.{Numbered, Resolvent, Reduct, LawfulResolution, LawfulReduction, Lawful}
+use Rattle.checker.specs.Lawful.{Numbered, Resolvent, Reduct, LawfulResolution, LawfulReduction, Lawful, NoZeros}
+use Rattle.checker.specs.Lawful.Laws.{numbered-member, antecedent-numbered, numbered-antecedent}
 
 -- The tests of a scope decide what they ask of a formula.
 pub record Decides (S : Scope) (F : Formula) : Type 0 where
@@ -30,30 +30,6 @@ pub record Decides (S : Scope) (F : Formula) : Type 0 where
   pub universal-complete : (v : ℕ) → Universal (F .prefix) v → S .universal v ≡ true
   pub dependent-sound : (u e : ℕ) → S .dependent u e ≡ true → Existential (F .prefix) e × Depends F u e
   pub dependent-complete : (u e : ℕ) → Depends F u e → S .dependent u e ≡ true
-
--- No clause holds the word 0.
-abbrev pub NoZeros : List Words → Type 0
-NoZeros known = (C : Words) → List·Memᴰ C known → (x : ℤ) → List·Memᴰ x C → x ≢ pos 0
-
--- A clause found by its place is one of them.
-pub found-member : (known : List Words) (n : ℕ) (C : Words) → getElem? known n ≡ some C → List·Memᴰ C known
-found-member [] n C e = let z : _≡_ {A = ℕ} 0 1 = cc in absurd (omega arith)
-found-member (D ∷ known) zero C e = List·Memᴰ·head (sym (same D C e))
-  where
-    same : (D C : Words) → _≡_ {A = Option Words} (some D) (some C) → D ≡ C
-    same D C q = cc
-found-member (D ∷ known) (suc n) C e = List·Memᴰ·tail (found-member known n C e)
-
-pub numbered-member : (known : List Words) (i : ℤ) (C : Words) → Numbered known i C → List·Memᴰ C known
-numbered-member known i C n = found-member known (n .place) C (n .stands)
-
-pub antecedent-numbered : (known : List Words) (i : ℤ) (C : Words) → antecedent known i ≡ some C → Numbered known i C
-antecedent-numbered known (pos zero) C e = let z : _≡_ {A = ℕ} 0 1 = cc in absurd (omega arith)
-antecedent-numbered known (pos (suc n)) C e = record { place = n; is = refl; stands = e }
-antecedent-numbered known (negsuc n) C e = let z : _≡_ {A = ℕ} 0 1 = cc in absurd (omega arith)
-
-pub numbered-antecedent : (known : List Words) (i : ℤ) (C : Words) → Numbered known i C → antecedent known i ≡ some C
-numbered-antecedent known i C n = rw (n .is) (n .stands)
 
 no-reason : {r : Reason} {A : Type 0} → _≡_ {A = Option Reason} (some r) none → A
 no-reason e = let z : _≡_ {A = ℕ} 0 1 = cc in absurd (omega arith)

@@ -1,19 +1,49 @@
--- Reading a step and writing it: what is read is written so, and what is written is read back. Assumes nothing.
-use Prim.Native.Nat.{ℕ, zero, suc, _+_}
+-- The words of a step: how many they are; what is read is written so, and what is written is read back. Assumes nothing.
+use Prim.Native.Nat.{ℕ, suc, _+_, _*_, _≤_}
 use mathlib.Core.Path.{_≡_, refl, ap, sym, _∙_}
 use mathlib.Core.Logic.{_≢_}
 use mathlib.Core.Bool.{Bool, true, false, _||_, false≢true}
 use mathlib.Core.Option.{Option, none, some}
-use mathlib.Core.List.{[], _∷_, _++_, append-assoc, List·Memᴰ, List·Memᴰ·head, List·Memᴰ·tail, List·Memᴰ·eq-of-singleton}
+use mathlib.Core.List.{List, [], _∷_, _++_, append-assoc, List·Memᴰ, List·Memᴰ·head, List·Memᴰ·tail, List·Memᴰ·eq-of-singleton}
 use native.Mathlib.Omega.{arith}
-use lib.ListN.{length, drop}
-use lib.IntN.{ℤ, pos, negsuc}
+use lib.ListN.{length, drop, length-append}
+use lib.IntN.{ℤ, pos}
 use Rattle.formula.specs.Decode.{firstClause}
 use Rattle.checker.specs.Rules.{Rules, PlainKinds}
 use Rattle.checker.specs.Words.{Words, sameWord, isZero, holds, closes}
 use Rattle.checker.specs.Words.Laws.{holds-sound, same-sound, apart-same, literal-first, zero-ends}
-use Rattle.checker.specs.Steps.{Step, resolution, reduction, sizeOf, statedBy, Kind, resolves, reduces, other, kindBy, kindOf, ifClosed, readFields, readStep}
-use Rattle.checker.specs.Lawful.{wordsOf}
+use Rattle.checker.specs.Steps.{Step, resolution, reduction, sizeOf, statedBy, resolves, reduces, kindBy, ifClosed, readFields, readStep, less-one}
+use Rattle.checker.specs.Lawful.{wordsOf, stepWords}
+
+-- ---- how many
+
+-- The words of a step take as many places as its size says.
+pub words-size : (s : Step) → length (wordsOf s) ≡ sizeOf s
+words-size (resolution i j e L) = rw (length-append L (pos 0 ∷ [])) (omega arith)
+words-size (reduction i a L) = rw (length-append L (pos 0 ∷ [])) (omega arith)
+
+-- There is a first word.
+pub size-positive : (s : Step) → sizeOf s ≡ suc (less-one (sizeOf s))
+size-positive (resolution i j e L) = rw (five (length L))
+  where
+    five : (n : ℕ) → 5 + n ≡ suc (4 + n)
+    five n = omega arith
+size-positive (reduction i a L) = rw (four (length L))
+  where
+    four : (n : ℕ) → 4 + n ≡ suc (3 + n)
+    four n = omega arith
+
+-- A step has four words at least.
+pub steps-size : (steps : List Step) → 4 * length steps ≤ length (stepWords steps)
+unfolding stepWords
+steps-size [] = omega arith
+steps-size (s ∷ steps) = omega (arith, steps-size steps, length-append (wordsOf s) (stepWords steps), words-size s, four s)
+  where
+    four : (s : Step) → 4 ≤ sizeOf s
+    four (resolution i j e L) = omega arith
+    four (reduction i a L) = omega arith
+
+-- ---- read and written
 
 -- A closed list of words begins with its first clause and a 0.
 pub first-clause-split : (ws : Words) → closes ws ≡ true → ws ≡ firstClause ws ++ pos 0 ∷ drop (suc (length (firstClause ws))) ws

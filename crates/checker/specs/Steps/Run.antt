@@ -1,0 +1,143 @@
+-- Laws of the run and of its first step: words that are skipped, a wrong step, a right one; what a step was that is judged right, or
+-- refused as blocked. Assumes nothing.
+use Prim.Native.Nat.{ℕ, zero, suc, _<_}
+use mathlib.Core.Path.{_≡_, refl, ap, _∙_}
+use mathlib.Core.Logic.{_≢_}
+use mathlib.Core.Bool.{Bool, true, false}
+use mathlib.Core.Option.{Option, none, some}
+use mathlib.Core.List.{List, [], _∷_, _++_}
+use native.Mathlib.Omega.{arith}
+use borrow.Author.Tests.{ltb-true, lt-ltb}
+use lib.Dec.{ltb}
+use lib.ListN.{length, drop}
+use lib.IntN.{ℤ}
+use Rattle.formula.specs.Refusal.{refusal}
+use Rattle.formula.specs.declared.refusal.Reason.{Reason}
+use Rattle.formula.specs.declared.refusal.Reason.the-variants.{NoRoom, BrokenStep, Blocked}
+use Rattle.checker.specs.Rules.{Rules}
+use Rattle.checker.specs.Rules.Laws.{require-passed}
+use Rattle.checker.specs.Words.{Words}
+use Rattle.checker.specs.Steps.{
+  Scope,
+  Step,
+  statedBy,
+  sizeOf,
+  readStep,
+  judge,
+  Judged,
+  right,
+  wrong,
+  judgedAs,
+  judgeRead,
+  someEmpty,
+  refuseAfter,
+  judgeFirst,
+  less-one,
+  refused,
+  run,
+}
+use Rattle.checker.specs.Steps.Written.{size-positive}
+
+-- To skip words is to run the others.
+pub run-skip : (rules : Rules) (S : Scope) (room : ℕ) (known : List Words) (skip : ℕ) (ws : Words) → run rules S room known skip ws ≡ run rules S room known zero (drop skip ws)
+unfolding run
+run-skip rules S room known zero [] = refl
+run-skip rules S room known (suc skip) [] = refl
+run-skip rules S room known zero (w ∷ ws) = refl
+run-skip rules S room known (suc skip) (w ∷ ws) = run-skip rules S room known skip ws
+
+-- A right step was not refused for where it stands.
+after-right : (o : Option Reason) (b : Bool) (j : Judged) (s : Step) → refuseAfter o b j ≡ right s → j ≡ right s
+after-right none b j s h = h
+after-right (some r) true j s h = let z : _≡_ {A = ℕ} 0 1 = cc in absurd (omega arith)
+after-right (some r) false j s h = h
+
+module _ (rules : Rules) (S : Scope) (room : ℕ) (known : List Words) where
+  nothing-right : (s : Step) → judgeFirst rules S room known [] ≡ right s → ⊥
+  unfolding judgeFirst readStep
+  nothing-right s h = let e = after-right (rules .afterwards) (someEmpty known) (wrong BrokenStep) s h in let z : _≡_ {A = ℕ} 0 1 = cc in omega arith
+
+  -- A right step, and on with the words after it.
+  pub run-right :
+      (ws : Words) (s : Step) → judgeFirst rules S room known ws ≡ right s
+      → run rules S room known zero ws ≡ run rules S room (known ++ (statedBy s ∷ [])) zero (drop (sizeOf s) ws)
+  unfolding run
+  run-right [] s e = absurd (nothing-right s e)
+  run-right (w ∷ ws) s e =
+      rw (e, size-positive s) (run-skip rules S room (known ++ (statedBy s ∷ [])) (less-one (sizeOf s)) ws)
+
+  -- A wrong one.
+  pub run-wrong : (w : ℤ) (ws : Words) (r : Reason) → judgeFirst rules S room known (w ∷ ws) ≡ wrong r → run rules S room known zero (w ∷ ws) ≡ refused (refusal r (suc (length known)))
+  unfolding run
+  run-wrong w ws r e = rw e
+
+-- A step that was judged right: it was read, there is room, and the judge had nothing to say.
+pub record Rightly (rules : Rules) (S : Scope) (room : ℕ) (known : List Words) (ws : Words) (s : Step) : Type 0 where
+  pub was-read : readStep rules ws ≡ some s
+  pub fits : length known < room
+  pub judged : judge S known s ≡ none
+
+reason : (r : Reason) → _≡_ {A = Judged} (wrong r) (wrong Blocked) → _≡_ {A = Option Reason} (some r) (some Blocked)
+reason r e = cc
+
+after-blocked : (o : Option Reason) (b : Bool) (j : Judged) → o ≢ some Blocked → refuseAfter o b j ≡ wrong Blocked → j ≡ wrong Blocked
+after-blocked none b j n h = h
+after-blocked (some r) true j n h = absurd (n (reason r h))
+after-blocked (some r) false j n h = h
+
+module _ (rules : Rules) (S : Scope) (room : ℕ) (known : List Words) where
+  -- Where the rules have a reason against steps after an empty clause: it comes ahead of all else, and before one it says nothing.
+  pub after-refused : (r : Reason) → rules .afterwards ≡ some r → someEmpty known ≡ true → (ws : Words) → judgeFirst rules S room known ws ≡ wrong r
+  unfolding judgeFirst
+  after-refused r a e ws = ap (λ (o : Option Reason). refuseAfter o (someEmpty known) (judgeRead S room known (readStep rules ws))) a ∙ rw e
+
+  pub before-judged : someEmpty known ≡ false → (ws : Words) → judgeFirst rules S room known ws ≡ judgeRead S room known (readStep rules ws)
+  unfolding judgeFirst
+  before-judged e ws = go (rules .afterwards)
+    where
+      go : (o : Option Reason) → refuseAfter o (someEmpty known) (judgeRead S room known (readStep rules ws)) ≡ judgeRead S room known (readStep rules ws)
+      go none = refl
+      go (some r) = rw e
+
+  pub rightly : (ws : Words) (s : Step) → judgeFirst rules S room known ws ≡ right s → Rightly rules S room known ws s
+  unfolding judgeFirst
+  rightly ws s h = go (readStep rules ws) refl (after-right (rules .afterwards) (someEmpty known) (judgeRead S room known (readStep rules ws)) s h)
+    where
+      same : (t u : Step) → _≡_ {A = Judged} (right t) (right u) → t ≡ u
+      same t u e = cc
+
+      judging : (t : Step) (o : Option Reason) → judge S known t ≡ o → readStep rules ws ≡ some t → length known < room → judgedAs t o ≡ right s → Rightly rules S room known ws s
+      judging t none j e f k =
+          let q = same t s k in
+          record { was-read = rw (← q) e; fits = f; judged = rw (← q) j }
+      judging t (some r) j e f k = let z : _≡_ {A = ℕ} 0 1 = cc in absurd (omega arith)
+
+      go : (o : Option Step) → readStep rules ws ≡ o → judgeRead S room known o ≡ right s → Rightly rules S room known ws s
+      go none e k = let z : _≡_ {A = ℕ} 0 1 = cc in absurd (omega arith)
+      go (some t) e k =
+          let p = require-passed (ltb (length known) room) (wrong NoRoom) (judgedAs t (judge S known t)) (right s) (λ q. let z : _≡_ {A = ℕ} 0 1 = cc in omega arith) k in
+          judging t (judge S known t) refl e (ltb-true (length known) room (p .0)) (p .1)
+
+  pub right-first :
+      rules .afterwards ≡ none
+      → (ws : Words) (s : Step) → readStep rules ws ≡ some s → length known < room → judge S known s ≡ none
+      → judgeFirst rules S room known ws ≡ right s
+  unfolding judgeFirst
+  right-first goes-on ws s e f j =
+      ap (λ (o : Option Reason). refuseAfter o (someEmpty known) (judgeRead S room known (readStep rules ws))) goes-on ∙ rw (e, lt-ltb (length known) room f, j)
+
+  -- A step that was refused as blocked was read, and judged so.
+  module _ (apart : rules .afterwards ≢ some Blocked) where
+    pub blocked-first : (ws : Words) → judgeFirst rules S room known ws ≡ wrong Blocked → (s : Step) × (readStep rules ws ≡ some s) × (judge S known s ≡ some Blocked)
+    unfolding judgeFirst
+    blocked-first ws h = go (readStep rules ws) refl (after-blocked (rules .afterwards) (someEmpty known) (judgeRead S room known (readStep rules ws)) apart h)
+      where
+        judging : (t : Step) (o : Option Reason) → judge S known t ≡ o → readStep rules ws ≡ some t → judgedAs t o ≡ wrong Blocked → (s : Step) × (readStep rules ws ≡ some s) × (judge S known s ≡ some Blocked)
+        judging t none j e k = let z : _≡_ {A = ℕ} 0 1 = cc in absurd (omega arith)
+        judging t (some r) j e k = (t, e, j ∙ reason r k)
+
+        go : (o : Option Step) → readStep rules ws ≡ o → judgeRead S room known o ≡ wrong Blocked → (s : Step) × (readStep rules ws ≡ some s) × (judge S known s ≡ some Blocked)
+        go none e k = let z : _≡_ {A = ℕ} 0 1 = cc in absurd (omega arith)
+        go (some t) e k =
+            let p = require-passed (ltb (length known) room) (wrong NoRoom) (judgedAs t (judge S known t)) (wrong Blocked) (λ q. let z : _≡_ {A = ℕ} 0 1 = cc in omega arith) k in
+            judging t (judge S known t) refl e (p .1)
