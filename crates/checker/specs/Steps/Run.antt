@@ -1,11 +1,11 @@
 -- Laws of the run and of its first step: words that are skipped, a wrong step, a right one; what a step was that is judged right, or
--- refused as blocked. Assumes nothing.
-use Prim.Native.Nat.{ℕ, zero, suc, _<_}
-use mathlib.Core.Path.{_≡_, refl, ap, _∙_}
+-- refused as blocked; and the steps that a run has passed where it ends or stops. Assumes nothing.
+use Prim.Native.Nat.{ℕ, zero, suc, _≤_, _<_}
+use mathlib.Core.Path.{_≡_, refl, ap, sym, _∙_}
 use mathlib.Core.Logic.{_≢_}
 use mathlib.Core.Bool.{Bool, true, false}
 use mathlib.Core.Option.{Option, none, some}
-use mathlib.Core.List.{List, [], _∷_, _++_}
+use mathlib.Core.List.{List, [], _∷_, _++_, append-nil}
 use native.Mathlib.Omega.{arith}
 use borrow.Author.Tests.{ltb-true, lt-ltb}
 use lib.Dec.{ltb}
@@ -13,6 +13,7 @@ use lib.ListN.{length, drop}
 use lib.IntN.{ℤ}
 use Rattle.formula.specs.Refusal.{refusal}
 use Rattle.formula.specs.declared.refusal.Reason.{Reason}
+use Rattle.formula.specs.declared.refusal.Refusal.{Refusal}
 use Rattle.formula.specs.declared.refusal.Reason.the-variants.{NoRoom, BrokenStep, Blocked}
 use Rattle.checker.specs.Rules.{Rules}
 use Rattle.checker.specs.Rules.Laws.{require-passed}
@@ -32,11 +33,16 @@ use Rattle.checker.specs.Steps.{
   someEmpty,
   refuseAfter,
   judgeFirst,
-  less-one,
+  Outcome,
+  ended,
   refused,
+  turn,
+  less-one,
   run,
 }
 use Rattle.checker.specs.Steps.Written.{size-positive}
+use Rattle.checker.specs.Lawful.{numberedClauses}
+use Rattle.checker.specs.Lawful.Laws.{length-snoc, numbered-step}
 
 -- To skip words is to run the others.
 pub run-skip : (rules : Rules) (S : Scope) (room : ℕ) (known : List Words) (skip : ℕ) (ws : Words) → run rules S room known skip ws ≡ run rules S room known zero (drop skip ws)
@@ -141,3 +147,102 @@ module _ (rules : Rules) (S : Scope) (room : ℕ) (known : List Words) where
         go (some t) e k =
             let p = require-passed (ltb (length known) room) (wrong NoRoom) (judgedAs t (judge S known t)) (wrong Blocked) (λ q. let z : _≡_ {A = ℕ} 0 1 = cc in omega arith) k in
             judging t (judge S known t) refl e (p .1)
+
+-- The words are read as these steps one after the other, each judged right after the clauses before it, and `rest` is left.
+abbrev pub Passes : Rules → Scope → ℕ → List Words → Words → List Step → Words → Type 0
+Passes rules S room known ws [] rest = ws ≡ rest
+Passes rules S room known ws (s ∷ steps) rest =
+    (judgeFirst rules S room known ws ≡ right s) × Passes rules S room (known ++ (statedBy s ∷ [])) (drop (sizeOf s) ws) steps rest
+
+ended-same : (a b : List Words) → _≡_ {A = Outcome} (ended a) (ended b) → a ≡ b
+ended-same a b e = cc
+
+refused-same : (a b : Refusal) → _≡_ {A = Outcome} (refused a) (refused b) → a ≡ b
+refused-same a b e = cc
+
+-- Where the run stops: after steps that pass, at a first step that is wrong.
+pub record Stops (rules : Rules) (S : Scope) (room : ℕ) (known : List Words) (ws : Words) (stop : Refusal) : Type 0 where
+  pub steps : List Step
+  pub rest : Words
+  pub passes : Passes rules S room known ws steps rest
+  pub wrong-step : judgeFirst rules S room (numberedClauses known steps) rest ≡ wrong (stop .reason)
+  pub own-number : stop .place ≡ suc (length (numberedClauses known steps))
+
+-- By any rules: steps that pass are run through, and a run that ends, or stops, has passed steps up to there.
+module _ (rules : Rules) (S : Scope) (room : ℕ) where
+  pub passes-run :
+      (steps : List Step) (known : List Words) (ws rest : Words) → Passes rules S room known ws steps rest
+      → run rules S room known zero ws ≡ run rules S room (numberedClauses known steps) zero rest
+  passes-run [] known ws rest p = rw (p, append-nil known)
+  passes-run (s ∷ steps) known ws rest p =
+      run-right rules S room known ws s (p .0)
+      ∙ passes-run steps (known ++ (statedBy s ∷ [])) (drop (sizeOf s) ws) rest (p .1)
+      ∙ rw (numbered-step known s steps)
+
+  pub passes-fits :
+      (steps : List Step) (known : List Words) (ws rest : Words) → Passes rules S room known ws steps rest
+      → length known ≤ room → length (numberedClauses known steps) ≤ room
+  passes-fits [] known ws rest p f = rw (append-nil known) f
+  passes-fits (s ∷ steps) known ws rest p f =
+      rw (← numbered-step known s steps)
+      (passes-fits steps (known ++ (statedBy s ∷ [])) (drop (sizeOf s) ws) rest (p .1) (rw (length-snoc known (statedBy s)) (rightly rules S room known ws s (p .0) .fits)))
+
+  -- One more step in front.
+  first-passes :
+      (known : List Words) (w : ℤ) (ws : Words) (s : Step) (steps : List Step) (rest : Words) → judgeFirst rules S room known (w ∷ ws) ≡ right s
+      → Passes rules S room (known ++ (statedBy s ∷ [])) (drop (less-one (sizeOf s)) ws) steps rest
+      → Passes rules S room known (w ∷ ws) (s ∷ steps) rest
+  first-passes known w ws s steps rest e p = (e, rw (size-positive s) p)
+
+  pub run-ended :
+      (final known : List Words) (skip : ℕ) (ws : Words) → run rules S room known skip ws ≡ ended final
+      → (steps : List Step) × Passes rules S room known (drop skip ws) steps [] × (numberedClauses known steps ≡ final)
+  unfolding run
+  run-ended final known zero [] h = ([], refl, append-nil known ∙ ended-same known final h)
+  run-ended final known (suc skip) [] h = ([], refl, append-nil known ∙ ended-same known final h)
+  run-ended final known (suc skip) (w ∷ ws) h = run-ended final known skip ws h
+  run-ended final known zero (w ∷ ws) h =
+      go (judgeFirst rules S room known (w ∷ ws)) refl h (λ s. run-ended final (known ++ (statedBy s ∷ [])) (less-one (sizeOf s)) ws)
+    where
+      go :
+          (j : Judged) → judgeFirst rules S room known (w ∷ ws) ≡ j
+          → turn known j (λ s. run rules S room (known ++ (statedBy s ∷ [])) (less-one (sizeOf s)) ws) ≡ ended final
+          → ((s : Step) → run rules S room (known ++ (statedBy s ∷ [])) (less-one (sizeOf s)) ws ≡ ended final
+          → (steps : List Step) × Passes rules S room (known ++ (statedBy s ∷ [])) (drop (less-one (sizeOf s)) ws) steps [] × (numberedClauses (known ++ (statedBy s ∷ [])) steps ≡ final))
+          → (steps : List Step) × Passes rules S room known (w ∷ ws) steps [] × (numberedClauses known steps ≡ final)
+      go (right s) e k later =
+          let t = later s k in
+          (s ∷ t .0, first-passes known w ws s (t .0) [] e (t .1), sym (numbered-step known s (t .0)) ∙ t .2)
+      go (wrong r) e k later = let q : _≡_ {A = ℕ} 0 1 = cc in absurd (omega arith)
+
+  pub run-stopped : (known : List Words) (skip : ℕ) (ws : Words) (stop : Refusal) → run rules S room known skip ws ≡ refused stop → Stops rules S room known (drop skip ws) stop
+  unfolding run
+  run-stopped known zero [] stop h = let q : _≡_ {A = ℕ} 0 1 = cc in absurd (omega arith)
+  run-stopped known (suc skip) [] stop h = let q : _≡_ {A = ℕ} 0 1 = cc in absurd (omega arith)
+  run-stopped known (suc skip) (w ∷ ws) stop h = run-stopped known skip ws stop h
+  run-stopped known zero (w ∷ ws) stop h =
+      go (judgeFirst rules S room known (w ∷ ws)) refl h (λ s. run-stopped (known ++ (statedBy s ∷ [])) (less-one (sizeOf s)) ws stop)
+    where
+      go :
+          (j : Judged) → judgeFirst rules S room known (w ∷ ws) ≡ j
+          → turn known j (λ s. run rules S room (known ++ (statedBy s ∷ [])) (less-one (sizeOf s)) ws) ≡ refused stop
+          → ((s : Step) → run rules S room (known ++ (statedBy s ∷ [])) (less-one (sizeOf s)) ws ≡ refused stop → Stops rules S room (known ++ (statedBy s ∷ [])) (drop (less-one (sizeOf s)) ws) stop)
+          → Stops rules S room known (w ∷ ws) stop
+      go (right s) e k later =
+          let t = later s k in
+          record {
+            steps = s ∷ t .steps;
+            rest = t .rest;
+            passes = first-passes known w ws s (t .steps) (t .rest) e (t .passes);
+            wrong-step = rw (← numbered-step known s (t .steps)) (t .wrong-step);
+            own-number = rw (← numbered-step known s (t .steps)) (t .own-number);
+          }
+      go (wrong r) e k later =
+          let same = refused-same (refusal r (suc (length known))) stop k in
+          record {
+            steps = [];
+            rest = w ∷ ws;
+            passes = refl;
+            wrong-step = rw (append-nil known) (e ∙ ap (λ (q : Refusal). wrong (q .reason)) same);
+            own-number = rw (append-nil known) (sym (ap (λ (q : Refusal). q .place) same));
+          }

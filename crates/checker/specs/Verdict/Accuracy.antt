@@ -166,7 +166,7 @@ module _ (rules : Rules) (plain : PlainKinds rules) (prefix clauses steps : List
 
       go : Passed rules prefix clauses steps scratch room → (o : Outcome) → outcome ≡ o → conclude (zeros clauses) o ≡ Accepted (record { 0 = n }) m → Accepting rules prefix clauses steps scratch room n m
       go p (ended final) e k =
-          finish p final (run-lawful rules plain (scopeOf prefix clauses) F (scope-decides prefix clauses) room final (clausesOf clauses) zero steps inputs-no-zero e) (firstEmpty 1 final) refl k
+          finish p final (run-lawful rules plain (scopeOf prefix clauses) F (scope-decides prefix clauses) room final (clausesOf clauses) steps inputs-no-zero e) (firstEmpty 1 final) refl k
       go p (refused r) e k = absurd (accepted-apart n m r (sym k))
 
   -- A refutation is accepted, where steps may follow an empty clause.
@@ -211,7 +211,7 @@ module _ (rules : Rules) (plain : PlainKinds rules) (prefix clauses steps : List
       go : (o : Outcome) → outcome ≡ o → conclude (zeros clauses) o ≡ Refused (refusal Blocked place) → RunBlocked F (clausesOf clauses) steps place
       go (ended final) e k = absurd (finish final (firstEmpty 1 final) k)
       go (refused r) e k =
-          run-blocked rules plain (scopeOf prefix clauses) F (scope-decides prefix clauses) room apart (clausesOf clauses) zero steps place inputs-no-zero
+          run-blocked rules plain (scopeOf prefix clauses) F (scope-decides prefix clauses) room apart (clausesOf clauses) steps place inputs-no-zero
           (e ∙ ap refused (same r (refusal Blocked place) k))
 
   -- The input clauses of tables that pass are derived.
