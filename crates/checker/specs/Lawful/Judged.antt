@@ -38,27 +38,12 @@ no-reason e = let z : _≡_ {A = ℕ} 0 1 = cc in absurd (omega arith)
 unless-none : (b : Bool) (r : Reason) (o : Option Reason) → unless b r o ≡ none → (b ≡ true) × (o ≡ none)
 unless-none b r o e = require-passed b (some r) o none (λ q. no-reason q) e
 
-none-blocked : {A : Type 0} → _≡_ {A = Option Reason} none (some Blocked) → A
-none-blocked e = let z : _≡_ {A = ℕ} 0 1 = cc in absurd (omega arith)
-
-misstated-blocked : {A : Type 0} → _≡_ {A = Option Reason} (some Misstated) (some Blocked) → A
-misstated-blocked e = let z : _≡_ {A = ℕ} 0 1 = cc in absurd (omega arith)
-
-pivot-blocked : {A : Type 0} → _≡_ {A = Option Reason} (some WrongPivot) (some Blocked) → A
-pivot-blocked e = let z : _≡_ {A = ℕ} 0 1 = cc in absurd (omega arith)
-
-earlier-blocked : {A : Type 0} → _≡_ {A = Option Reason} (some NotEarlier) (some Blocked) → A
-earlier-blocked e = let z : _≡_ {A = ℕ} 0 1 = cc in absurd (omega arith)
-
-tautology-blocked : {A : Type 0} → _≡_ {A = Option Reason} (some Tautology) (some Blocked) → A
-tautology-blocked e = let z : _≡_ {A = ℕ} 0 1 = cc in absurd (omega arith)
-
 statement-blocked : (R L : Words) → judgeStatement R L ≡ some Blocked → ⊥
 statement-blocked R L h = go (states R L) h
   where
     go : (b : Bool) → unless b Misstated none ≡ some Blocked → ⊥
-    go true e = none-blocked e
-    go false e = misstated-blocked e
+    go true e = let z : _≡_ {A = ℕ} 0 1 = cc in omega arith
+    go false e = let z : _≡_ {A = ℕ} 0 1 = cc in omega arith
 
 -- Where a reduction is blocked: a is a universal literal of the clause, and an existential of the clause depends on its variable.
 pub record Blocks (F : Formula) (known : List Words) (i a : ℤ) : Type 0 where
@@ -204,13 +189,13 @@ module _ (S : Scope) (F : Formula) (D : Decides S F) where
   judge-blocked known (resolution i j e L) h = go (antecedent known i) (antecedent known j) h
     where
       tests : (C E : Words) (a b : Bool) → unless a WrongPivot (unless b Tautology (judgeStatement (resolvent e C E) L)) ≡ some Blocked → ⊥
-      tests C E false b k = pivot-blocked k
-      tests C E true false k = tautology-blocked k
+      tests C E false b k = let z : _≡_ {A = ℕ} 0 1 = cc in omega arith
+      tests C E true false k = let z : _≡_ {A = ℕ} 0 1 = cc in omega arith
       tests C E true true k = statement-blocked (resolvent e C E) L k
 
       go : (A B : Option Words) → judgeResolution S e L A B ≡ some Blocked → ⊥
-      go none B k = earlier-blocked k
-      go (some C) none k = earlier-blocked k
+      go none B k = let z : _≡_ {A = ℕ} 0 1 = cc in omega arith
+      go (some C) none k = let z : _≡_ {A = ℕ} 0 1 = cc in omega arith
       go (some C) (some E) k =
           tests C E (positiveExistential S e && holds e C && holds (negℤ e) E) (not (opposed [] (resolvent e C E))) k
   judge-blocked known (reduction i a L) h = go (antecedent known i) refl h
@@ -220,7 +205,7 @@ module _ (S : Scope) (F : Formula) (D : Decides S F) where
           → (p b : Bool) → (S .universal (natAbs a) && holds a C) ≡ p → blocked S (natAbs a) C ≡ b
           → unless p WrongPivot (unless (not b) Blocked (judgeStatement (without a C) L)) ≡ some Blocked
           → Blocks F known i a
-      tests C n false b q e k = pivot-blocked k
+      tests C n false b q e k = let z : _≡_ {A = ℕ} 0 1 = cc in absurd (omega arith)
       tests C n true true q e k =
           let t = blocked-found S (natAbs a) C e in
           let d = D .dependent-sound (natAbs a) (natAbs (t .0)) (t .2) in
@@ -238,5 +223,5 @@ module _ (S : Scope) (F : Formula) (D : Decides S F) where
       tests C n true false q e k = absurd (statement-blocked (without a C) L k)
 
       go : (A : Option Words) → antecedent known i ≡ A → judgeReduction S a L A ≡ some Blocked → Blocks F known i a
-      go none p k = earlier-blocked k
+      go none p k = let z : _≡_ {A = ℕ} 0 1 = cc in absurd (omega arith)
       go (some C) p k = tests C (antecedent-numbered known i C p) (S .universal (natAbs a) && holds a C) (blocked S (natAbs a) C) refl refl k

@@ -70,7 +70,7 @@ module _ (rules : Rules) (plain : PlainKinds rules) (S : Scope) (F : Formula) (D
 
   pub run-lawful : (final known : List Words) (ws : Words) → NoZeros known → run rules S room known zero ws ≡ ended final → RunEnds F room final known ws
   run-lawful final known ws z h =
-      let t = run-ended rules S room final known zero ws h in
+      let t = run-ended rules S room known ws final h in
       let l = passes-lawful (t .0) known ws [] z (t .1) in
       record {
         steps = t .0;
@@ -93,15 +93,16 @@ module _ (rules : Rules) (plain : PlainKinds rules) (S : Scope) (F : Formula) (D
       → run rules S room known zero ws ≡ refused (refusal Blocked place)
       → RunBlocked F known ws place
   run-blocked apart known ws place z h =
-      let t = run-stopped rules S room known zero ws (refusal Blocked place) h in
-      let l = passes-lawful (t .steps) known ws (t .rest) z (t .passes) in
-      let b = blocked-first rules S room (numberedClauses known (t .steps)) apart (t .rest) (t .wrong-step) in
+      let t = run-stopped rules S room known ws (refusal Blocked place) h in
+      let rest = t .1 .0 in
+      let l = passes-lawful (t .0) known ws rest z (t .1 .1) in
+      let b = blocked-first rules S room (numberedClauses known (t .0)) apart rest (t .1 .2) in
       record {
-        steps = t .steps;
+        steps = t .0;
         lawful = l .1;
         blocked = b .0;
-        rest = drop (sizeOf (b .0)) (t .rest);
-        stands = l .0 ∙ ap (λ (r : Words). stepWords (t .steps) ++ r) (read-written rules plain (t .rest) (b .0) (b .1));
-        blocks = judge-blocked S F D (numberedClauses known (t .steps)) (b .0) (b .2);
-        own-number = t .own-number;
+        rest = drop (sizeOf (b .0)) rest;
+        stands = l .0 ∙ ap (λ (r : Words). stepWords (t .0) ++ r) (read-written rules plain rest (b .0) (b .1));
+        blocks = judge-blocked S F D (numberedClauses known (t .0)) (b .0) (b .2);
+        own-number = t .1 .3;
       }

@@ -36,7 +36,6 @@ use Rattle.checker.specs.Steps.{
   Outcome,
   ended,
   refused,
-  turn,
   less-one,
   run,
 }
@@ -154,21 +153,19 @@ Passes rules S room known ws [] rest = ws ≡ rest
 Passes rules S room known ws (s ∷ steps) rest =
     (judgeFirst rules S room known ws ≡ right s) × Passes rules S room (known ++ (statedBy s ∷ [])) (drop (sizeOf s) ws) steps rest
 
-ended-same : (a b : List Words) → _≡_ {A = Outcome} (ended a) (ended b) → a ≡ b
-ended-same a b e = cc
+-- What is left after steps that pass: no word, or a first step that is wrong.
+pub data Left (rules : Rules) (S : Scope) (room : ℕ) (known : List Words) : Words → Type 0 where
+  nothing : Left rules S room known []
+  wrong-step : {w : ℤ} {ws : Words} (r : Reason) → judgeFirst rules S room known (w ∷ ws) ≡ wrong r → Left rules S room known (w ∷ ws)
 
-refused-same : (a b : Refusal) → _≡_ {A = Outcome} (refused a) (refused b) → a ≡ b
-refused-same a b e = cc
-
--- Where the run stops: after steps that pass, at a first step that is wrong.
-pub record Stops (rules : Rules) (S : Scope) (room : ℕ) (known : List Words) (ws : Words) (stop : Refusal) : Type 0 where
+-- The words as the run takes them.
+pub record Passage (rules : Rules) (S : Scope) (room : ℕ) (known : List Words) (ws : Words) : Type 0 where
   pub steps : List Step
   pub rest : Words
   pub passes : Passes rules S room known ws steps rest
-  pub wrong-step : judgeFirst rules S room (numberedClauses known steps) rest ≡ wrong (stop .reason)
-  pub own-number : stop .place ≡ suc (length (numberedClauses known steps))
+  pub left : Left rules S room (numberedClauses known steps) rest
 
--- By any rules: steps that pass are run through, and a run that ends, or stops, has passed steps up to there.
+-- By any rules: steps that pass are run through, and a run has passed steps up to where it ends or stops.
 module _ (rules : Rules) (S : Scope) (room : ℕ) where
   pub passes-run :
       (steps : List Step) (known : List Words) (ws rest : Words) → Passes rules S room known ws steps rest
@@ -187,62 +184,59 @@ module _ (rules : Rules) (S : Scope) (room : ℕ) where
       rw (← numbered-step known s steps)
       (passes-fits steps (known ++ (statedBy s ∷ [])) (drop (sizeOf s) ws) rest (p .1) (rw (length-snoc known (statedBy s)) (rightly rules S room known ws s (p .0) .fits)))
 
-  -- One more step in front.
-  first-passes :
-      (known : List Words) (w : ℤ) (ws : Words) (s : Step) (steps : List Step) (rest : Words) → judgeFirst rules S room known (w ∷ ws) ≡ right s
-      → Passes rules S room (known ++ (statedBy s ∷ [])) (drop (less-one (sizeOf s)) ws) steps rest
-      → Passes rules S room known (w ∷ ws) (s ∷ steps) rest
-  first-passes known w ws s steps rest e p = (e, rw (size-positive s) p)
-
-  pub run-ended :
-      (final known : List Words) (skip : ℕ) (ws : Words) → run rules S room known skip ws ≡ ended final
-      → (steps : List Step) × Passes rules S room known (drop skip ws) steps [] × (numberedClauses known steps ≡ final)
-  unfolding run
-  run-ended final known zero [] h = ([], refl, append-nil known ∙ ended-same known final h)
-  run-ended final known (suc skip) [] h = ([], refl, append-nil known ∙ ended-same known final h)
-  run-ended final known (suc skip) (w ∷ ws) h = run-ended final known skip ws h
-  run-ended final known zero (w ∷ ws) h =
-      go (judgeFirst rules S room known (w ∷ ws)) refl h (λ s. run-ended final (known ++ (statedBy s ∷ [])) (less-one (sizeOf s)) ws)
+  pub run-passage : (known : List Words) (skip : ℕ) (ws : Words) → Passage rules S room known (drop skip ws)
+  run-passage known zero [] = record { steps = []; rest = []; passes = refl; left = nothing }
+  run-passage known (suc skip) [] = record { steps = []; rest = []; passes = refl; left = nothing }
+  run-passage known (suc skip) (w ∷ ws) = run-passage known skip ws
+  run-passage known zero (w ∷ ws) =
+      go (judgeFirst rules S room known (w ∷ ws)) refl (λ s. run-passage (known ++ (statedBy s ∷ [])) (less-one (sizeOf s)) ws)
     where
       go :
           (j : Judged) → judgeFirst rules S room known (w ∷ ws) ≡ j
-          → turn known j (λ s. run rules S room (known ++ (statedBy s ∷ [])) (less-one (sizeOf s)) ws) ≡ ended final
-          → ((s : Step) → run rules S room (known ++ (statedBy s ∷ [])) (less-one (sizeOf s)) ws ≡ ended final
-          → (steps : List Step) × Passes rules S room (known ++ (statedBy s ∷ [])) (drop (less-one (sizeOf s)) ws) steps [] × (numberedClauses (known ++ (statedBy s ∷ [])) steps ≡ final))
-          → (steps : List Step) × Passes rules S room known (w ∷ ws) steps [] × (numberedClauses known steps ≡ final)
-      go (right s) e k later =
-          let t = later s k in
-          (s ∷ t .0, first-passes known w ws s (t .0) [] e (t .1), sym (numbered-step known s (t .0)) ∙ t .2)
-      go (wrong r) e k later = let q : _≡_ {A = ℕ} 0 1 = cc in absurd (omega arith)
+          → ((s : Step) → Passage rules S room (known ++ (statedBy s ∷ [])) (drop (less-one (sizeOf s)) ws))
+          → Passage rules S room known (w ∷ ws)
+      go (right s) e later =
+          let t = later s in
+          record { steps = s ∷ t .steps; rest = t .rest; passes = (e, rw (size-positive s) (t .passes)); left = rw (← numbered-step known s (t .steps)) (t .left) }
+      go (wrong r) e later = record { steps = []; rest = w ∷ ws; passes = refl; left = rw (append-nil known) (wrong-step r e) }
 
-  pub run-stopped : (known : List Words) (skip : ℕ) (ws : Words) (stop : Refusal) → run rules S room known skip ws ≡ refused stop → Stops rules S room known (drop skip ws) stop
-  unfolding run
-  run-stopped known zero [] stop h = let q : _≡_ {A = ℕ} 0 1 = cc in absurd (omega arith)
-  run-stopped known (suc skip) [] stop h = let q : _≡_ {A = ℕ} 0 1 = cc in absurd (omega arith)
-  run-stopped known (suc skip) (w ∷ ws) stop h = run-stopped known skip ws stop h
-  run-stopped known zero (w ∷ ws) stop h =
-      go (judgeFirst rules S room known (w ∷ ws)) refl h (λ s. run-stopped (known ++ (statedBy s ∷ [])) (less-one (sizeOf s)) ws stop)
-    where
-      go :
-          (j : Judged) → judgeFirst rules S room known (w ∷ ws) ≡ j
-          → turn known j (λ s. run rules S room (known ++ (statedBy s ∷ [])) (less-one (sizeOf s)) ws) ≡ refused stop
-          → ((s : Step) → run rules S room (known ++ (statedBy s ∷ [])) (less-one (sizeOf s)) ws ≡ refused stop → Stops rules S room (known ++ (statedBy s ∷ [])) (drop (less-one (sizeOf s)) ws) stop)
-          → Stops rules S room known (w ∷ ws) stop
-      go (right s) e k later =
-          let t = later s k in
-          record {
-            steps = s ∷ t .steps;
-            rest = t .rest;
-            passes = first-passes known w ws s (t .steps) (t .rest) e (t .passes);
-            wrong-step = rw (← numbered-step known s (t .steps)) (t .wrong-step);
-            own-number = rw (← numbered-step known s (t .steps)) (t .own-number);
-          }
-      go (wrong r) e k later =
-          let same = refused-same (refusal r (suc (length known))) stop k in
-          record {
-            steps = [];
-            rest = w ∷ ws;
-            passes = refl;
-            wrong-step = rw (append-nil known) (e ∙ ap (λ (q : Refusal). wrong (q .reason)) same);
-            own-number = rw (append-nil known) (sym (ap (λ (q : Refusal). q .place) same));
-          }
+  module _ (known : List Words) (ws : Words) where
+    -- The run from where it ends or stops.
+    run-left : (o : Outcome) → run rules S room known zero ws ≡ o → (t : Passage rules S room known ws) → run rules S room (numberedClauses known (t .steps)) zero (t .rest) ≡ o
+    run-left o h t = sym (passes-run (t .steps) known ws (t .rest) (t .passes)) ∙ h
+
+    pub run-ended :
+        (final : List Words) → run rules S room known zero ws ≡ ended final
+        → (steps : List Step) × Passes rules S room known ws steps [] × (numberedClauses known steps ≡ final)
+    unfolding run
+    run-ended final h =
+        let t = run-passage known zero ws in
+        let e = ends (t .rest) (numberedClauses known (t .steps)) (t .left) (run-left (ended final) h t) in
+        (t .steps, rw (e .0) at (t .passes), e .1)
+      where
+        ends : (rest : Words) (n : List Words) → Left rules S room n rest → run rules S room n zero rest ≡ ended final → (rest ≡ []) × (n ≡ final)
+        ends [] n nothing e = (refl, cc)
+        ends (w ∷ rest) n (wrong-step r j) e =
+            let stops = run-wrong rules S room n w rest r j in
+            let z : _≡_ {A = ℕ} 0 1 = cc in
+            absurd (omega arith)
+
+    pub run-stopped :
+        (stop : Refusal) → run rules S room known zero ws ≡ refused stop
+        → (steps : List Step) × ((rest : Words) × Passes rules S room known ws steps rest × (judgeFirst rules S room (numberedClauses known steps) rest ≡ wrong (stop .reason)) × (stop .place ≡ suc (length (numberedClauses known steps))))
+    unfolding run
+    run-stopped stop h =
+        let t = run-passage known zero ws in
+        let e = stops (t .rest) (numberedClauses known (t .steps)) (t .left) (run-left (refused stop) h t) in
+        (t .steps, (t .rest, t .passes, e .0, e .1))
+      where
+        same : (a b : Refusal) → _≡_ {A = Outcome} (refused a) (refused b) → a ≡ b
+        same a b e = cc
+
+        stops :
+            (rest : Words) (n : List Words) → Left rules S room n rest → run rules S room n zero rest ≡ refused stop
+            → (judgeFirst rules S room n rest ≡ wrong (stop .reason)) × (stop .place ≡ suc (length n))
+        stops [] n nothing e = let z : _≡_ {A = ℕ} 0 1 = cc in absurd (omega arith)
+        stops (w ∷ rest) n (wrong-step r j) e =
+            let q = same (refusal r (suc (length n))) stop (sym (run-wrong rules S room n w rest r j) ∙ e) in
+            (j ∙ ap (λ (x : Refusal). wrong (x .reason)) q, sym (ap (λ (x : Refusal). x .place) q))
