@@ -39,9 +39,11 @@ abbrev pub sizeOf : Step → ℕ
 sizeOf (resolution i j e L) = 5 + length L
 sizeOf (reduction i a L) = 4 + length L
 
+-- What a step does: its first word tells.
 pub data Kind : Type 0 where
   resolves reduces other : Kind
 
+-- By whether a word is among those of each kind.
 abbrev pub kindBy : Bool → Bool → Kind
 kindBy true reducing = resolves
 kindBy false true = reduces

@@ -1,6 +1,6 @@
 -- The known positions of 01 that have a letter, a to l, as one list under one claim: each is an entry's answer on concrete
 -- tables, by computation. Numbers are words: pos n is n, negsuc n is −(n + 1).
-use Prim.Native.Nat.{ℕ, zero, suc}
+use Prim.Native.Nat.{ℕ}
 use mathlib.Core.Path.{_≡_, refl}
 use mathlib.Core.List.{List, [], _∷_}
 use native.Mathlib.Decide.{ℕ-discrete}

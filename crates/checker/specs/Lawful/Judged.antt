@@ -13,7 +13,7 @@ use Rattle.qbf.specs.Connectives.{and-both, both-and}
 use Rattle.qbf.specs.Formula.{Formula, Existential, Universal}
 use Rattle.qbf.specs.Dependency.{Depends}
 use Rattle.formula.specs.declared.refusal.Reason.{Reason}
-use Rattle.formula.specs.declared.refusal.Reason.the-variants.{NotEarlier, WrongPivot, Tautology, Blocked, Misstated}
+use Rattle.formula.specs.declared.refusal.Reason.the-variants.{WrongPivot, Tautology, Blocked, Misstated}
 use Rattle.checker.specs.Rules.Laws.{require-passed}
 use Rattle.checker.specs.Words.{Words, holds, without}
 use Rattle.checker.specs.Words.Laws.{not-true-false, holds-sound, holds-complete, without-member, member-without}
