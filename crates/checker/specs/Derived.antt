@@ -1,5 +1,6 @@
--- Numbered clauses and derivations (01, "Steps"; wish 3): a clause of words with a valid derivation whose conclusion is its
--- literals. Lawful steps keep this, so every numbered clause has one, and an empty clause makes the game lost.
+-- Numbered clauses and derivations (01, "Steps"; wish 3): a clause of words and a valid derivation whose conclusion is its
+-- literals. A lawful step makes one from those of its antecedents, so every numbered clause has one, and an empty clause makes
+-- the game lost. Assumes nothing.
 use mathlib.Core.Path.{_≡_, ap, sym, _∙_, subst}
 use mathlib.Core.Logic.{_⊎_, inl, inr, _≢_}
 use mathlib.Core.Bool.{Bool, true, false}
@@ -16,34 +17,35 @@ use Rattle.formula.specs.Decode.Laws.{magnitude-same, literal-variable, literal
 use Rattle.checker.specs.Words.{Words}
 use Rattle.checker.specs.Steps.{Step, resolution, reduction, statedBy}
 use Rattle.checker.specs.Lawful.{Resolvent, LawfulResolution, LawfulReduction, Lawful, numberedClauses, LawfulSteps}
-use Rattle.checker.specs.Lawful.Deciding.{numbered-member}
-use Rattle.checker.specs.Lawful.Running.{numbered-step}
+use Rattle.checker.specs.Lawful.Laws.{numbered-member, numbered-step}
 
--- A valid derivation whose conclusion is the clause's literals; the clause holds no 0 and no literal with its opposite.
-pub record Derived (F : Formula) (C : Words) : Type 0 where
-  pub derivation : Derivation
-  pub valid : Valid F derivation
-  pub concluded : (x : ℤ) → List·Memᴰ x C → Concludes derivation (literalOf x)
-  pub conclusion : (l : Literal) → Concludes derivation l → (x : ℤ) × List·Memᴰ x C × (literalOf x ≡ l)
+-- d is a valid derivation whose conclusion is the clause's literals; the clause holds no 0 and no literal with its opposite.
+pub record Derived (F : Formula) (C : Words) (d : Derivation) : Type 0 where
+  pub valid : Valid F d
+  pub concluded : (x : ℤ) → List·Memᴰ x C → Concludes d (literalOf x)
+  pub conclusion : (l : Literal) → Concludes d l → (x : ℤ) × List·Memᴰ x C × (literalOf x ≡ l)
   pub nonzero : (x : ℤ) → List·Memᴰ x C → x ≢ pos 0
   pub one-sign : (x : ℤ) → List·Memᴰ x C → List·Memᴰ (negℤ x) C → ⊥
 
 abbrev pub AllDerived : Formula → List Words → Type 0
-AllDerived F known = (C : Words) → List·Memᴰ C known → Derived F C
+AllDerived F known = (C : Words) → List·Memᴰ C known → (d : Derivation) × Derived F C d
 
 -- The premises of a resolution by the pivot's sign.
-abbrev premise : Derivation → Derivation → Bool → Derivation
+abbrev pub premise : Derivation → Derivation → Bool → Derivation
 premise s t true = s
 premise s t false = t
 
 opposite-injective : (x y : ℤ) → negℤ x ≡ negℤ y → x ≡ y
 opposite-injective x y e = sym (negℤ-negℤ x) ∙ ap negℤ e ∙ negℤ-negℤ y
 
-module _ (F : Formula) (known : List Words) (all : AllDerived F known) where
-  resolution-derived : (i j e : ℤ) (L : Words) → LawfulResolution F known i j e L → Derived F L
-  resolution-derived i j e L l =
+module _ (F : Formula) (known : List Words) where
+  -- A lawful resolution, from derivations of its antecedents.
+  pub resolution-derived :
+      (i j e : ℤ) (L : Words) (l : LawfulResolution F known i j e L) (s t : Derivation)
+      → Derived F (l .left) s → Derived F (l .right) t
+      → Derived F L (resolve (premise s t) (l .variable))
+  resolution-derived i j e L l s t left right =
       record {
-        derivation = resolve (premise s t) (l .variable);
         valid = (both-valid, l .existential, pivots, apart);
         concluded = λ x m. concluded x (l .states .only x m);
         conclusion = conclusion;
@@ -51,18 +53,6 @@ module _ (F : Formula) (known : List Words) (all : AllDerived F known) where
         one-sign = λ x m k. l .one-sign x (l .states .only x m) (l .states .only (negℤ x) k);
       }
     where
-      left : Derived F (l .left)
-      left = all (l .left) (numbered-member known i (l .left) (l .left-numbered))
-
-      right : Derived F (l .right)
-      right = all (l .right) (numbered-member known j (l .right) (l .right-numbered))
-
-      s : Derivation
-      s = left .derivation
-
-      t : Derivation
-      t = right .derivation
-
       -- the pivot's literals as words
       positive : literalOf e ≡ literal (l .variable) true
       positive = ap literalOf (l .positive)
@@ -116,10 +106,13 @@ module _ (F : Formula) (known : List Words) (all : AllDerived F known) where
       nonzero x (inl r) = left .nonzero x (r .0)
       nonzero x (inr r) = right .nonzero x (r .0)
 
-  reduction-derived : (i a : ℤ) (L : Words) → LawfulReduction F known i a L → Derived F L
-  reduction-derived i a L l =
+  -- A lawful reduction, from a derivation of its antecedent.
+  pub reduction-derived :
+      (i a : ℤ) (L : Words) (l : LawfulReduction F known i a L) (d : Derivation)
+      → Derived F (l .clause) d
+      → Derived F L (reduce d (natAbs a))
+  reduction-derived i a L l d premises =
       record {
-        derivation = reduce (premises .derivation) (natAbs a);
         valid = (premises .valid, l .universal, independent);
         concluded = λ x m. let r = l .states .only x m in (premises .concluded x (r .0), λ q. other-sign x (r .0) (r .1) (sym (literal-variable x) ∙ q));
         conclusion = λ m c. conclusion m (premises .conclusion m (c .0)) (c .1);
@@ -127,9 +120,6 @@ module _ (F : Formula) (known : List Words) (all : AllDerived F known) where
         one-sign = λ x m k. premises .one-sign x (l .states .only x m .0) (l .states .only (negℤ x) k .0);
       }
     where
-      premises : Derived F (l .clause)
-      premises = all (l .clause) (numbered-member known i (l .clause) (l .numbered))
-
       -- the clause holds one sign of the reduced variable
       other-sign : (x : ℤ) → List·Memᴰ x (l .clause) → x ≢ a → natAbs x ≡ natAbs a → ⊥
       other-sign x m n e = go (magnitude-same x a e)
@@ -139,34 +129,40 @@ module _ (F : Formula) (known : List Words) (all : AllDerived F known) where
           go (inr q) = premises .one-sign a (l .in-clause) (Memᴰ·cast (sym q) m)
 
       independent :
-          (m : Literal) → Concludes (premises .derivation) m → Existential (F .prefix) (m .variable) → Depends F (natAbs a) (m .variable) → ⊥
-      independent m c q d =
+          (m : Literal) → Concludes d m → Existential (F .prefix) (m .variable) → Depends F (natAbs a) (m .variable) → ⊥
+      independent m c q k =
           let x = premises .conclusion m c in
           let v : natAbs (x .0) ≡ m .variable = sym (literal-variable (x .0)) ∙ ap (λ (k : Literal). k .variable) (x .2) in
-          l .independent (x .0) (x .1) (subst (Existential (F .prefix)) (sym v) q) (subst (Depends F (natAbs a)) (sym v) d)
+          l .independent (x .0) (x .1) (subst (Existential (F .prefix)) (sym v) q) (subst (Depends F (natAbs a)) (sym v) k)
 
       conclusion : (m : Literal) → (x : ℤ) × List·Memᴰ x (l .clause) × (literalOf x ≡ m) → m .variable ≢ natAbs a → (x : ℤ) × List·Memᴰ x L × (literalOf x ≡ m)
       conclusion m x n =
           (x .0, l .states .all (x .0) (x .1, λ q. n (sym (ap (λ (k : Literal). k .variable) (x .2)) ∙ literal-variable (x .0) ∙ ap natAbs q)), x .2)
 
   -- A lawful step states a derived clause.
-  pub lawful-derived : (s : Step) → Lawful F known s → Derived F (statedBy s)
-  lawful-derived (resolution i j e L) l = resolution-derived i j e L l
-  lawful-derived (reduction i a L) l = reduction-derived i a L l
+  pub lawful-derived : AllDerived F known → (s : Step) → Lawful F known s → (d : Derivation) × Derived F (statedBy s) d
+  lawful-derived all (resolution i j e L) l =
+      let left = all (l .left) (numbered-member known i (l .left) (l .left-numbered)) in
+      let right = all (l .right) (numbered-member known j (l .right) (l .right-numbered)) in
+      (resolve (premise (left .0) (right .0)) (l .variable), resolution-derived i j e L l (left .0) (right .0) (left .1) (right .1))
+  lawful-derived all (reduction i a L) l =
+      let d = all (l .clause) (numbered-member known i (l .clause) (l .numbered)) in
+      (reduce (d .0) (natAbs a), reduction-derived i a L l (d .0) (d .1))
 
-  pub derived-snoc : (L : Words) → Derived F L → AllDerived F (known ++ (L ∷ []))
-  derived-snoc L d C m = go (List·Memᴰ·append-cases known m)
+  pub derived-snoc : AllDerived F known → (L : Words) (d : Derivation) → Derived F L d → AllDerived F (known ++ (L ∷ []))
+  derived-snoc all L d h C m = go (List·Memᴰ·append-cases known m)
     where
-      go : List·Memᴰ C known ⊎ List·Memᴰ C (L ∷ []) → Derived F C
+      go : List·Memᴰ C known ⊎ List·Memᴰ C (L ∷ []) → (d : Derivation) × Derived F C d
       go (inl i) = all C i
-      go (inr i) = subst (Derived F) (sym (List·Memᴰ·eq-of-singleton i)) d
+      go (inr i) = (d, subst (λ (D : Words). Derived F D d) (sym (List·Memᴰ·eq-of-singleton i)) h)
 
 -- After lawful steps every numbered clause is derived.
 pub lawful-steps-derived : (F : Formula) (known : List Words) (steps : List Step) → LawfulSteps F known steps → AllDerived F known → AllDerived F (numberedClauses known steps)
 lawful-steps-derived F known [] l all = rw (append-nil known) all
 lawful-steps-derived F known (s ∷ steps) l all =
-    rw (← numbered-step known s steps) (lawful-steps-derived F (known ++ (statedBy s ∷ [])) steps (l .1) (derived-snoc F known all (statedBy s) (lawful-derived F known all s (l .0))))
+    let d = lawful-derived F known all s (l .0) in
+    rw (← numbered-step known s steps) (lawful-steps-derived F (known ++ (statedBy s ∷ [])) steps (l .1) (derived-snoc F known all (statedBy s) (d .0) (d .1)))
 
 -- A derived empty clause: the game is lost.
-pub derived-lost : (F : Formula) → Proper F → Derived F [] → Lost F
-derived-lost F proper d = soundness F proper (d .derivation) (d .valid) (λ l c. let x = d .conclusion l c in List·Memᴰ·not-nil (x .1))
+pub derived-lost : (F : Formula) → Proper F → (d : Derivation) → Derived F [] d → Lost F
+derived-lost F proper d h = soundness F proper d (h .valid) (λ l c. let x = h .conclusion l c in List·Memᴰ·not-nil (x .1))

@@ -1,8 +1,9 @@
 -- Lawful steps (01, "Steps"; 000, section 3) on membership and on dependence, with no order of tests: a true statement of a
 -- result, a resolution, a reduction; then steps one after the other: their words, the clauses they number, and that each is lawful.
 -- Steps.antt has the tests, Refutation.antt what a refutation is.
-pub mod Deciding
-pub mod Running
+pub mod Laws
+pub mod Judged
+pub mod Steps
 use Prim.Native.Nat.{ℕ, suc}
 use mathlib.Core.Path.{_≡_}
 use mathlib.Core.Logic.{_⊎_, _≢_}
@@ -84,3 +85,11 @@ numberedClauses known steps = known ++ map statedBy steps
 abbrev pub LawfulSteps : Formula → List Words → List Step → Type 0
 LawfulSteps F known [] = Unit {0}
 LawfulSteps F known (s ∷ steps) = Lawful F known s × LawfulSteps F (known ++ (statedBy s ∷ [])) steps
+
+-- Each word of each clause is such.
+abbrev pub AllWords : (ℤ → Type 0) → List Words → Type 0
+AllWords P known = (C : Words) → List·Memᴰ C known → (x : ℤ) → List·Memᴰ x C → P x
+
+-- No clause holds the word 0.
+abbrev pub NoZeros : List Words → Type 0
+NoZeros known = AllWords (λ x. x ≢ pos 0) known

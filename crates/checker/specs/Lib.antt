@@ -1,8 +1,9 @@
 -- The definitions that layer 3's contracts cite, and the theorems that say what they compute.
--- What a reader must believe: ProofFile, Words, Steps, Verdict, Lawful, Refutation. As the code keeps and reads things: Marks, Kinds,
+-- What a reader must believe: ProofFile, Words, Rules, Steps, Verdict, Lawful, Refutation. As the code keeps and reads things: Marks, Kinds,
 -- Blocking, Numbered, Reading, Judgements, Stepping, Running.
 pub mod ProofFile
 pub mod Words
+pub mod Rules
 pub mod Steps
 pub mod Lawful
 pub mod Derived

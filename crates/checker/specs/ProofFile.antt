@@ -7,7 +7,7 @@ pub mod Layout
 pub mod Examples
 use Prim.Native.Nat.{ℕ, _+_, _-_, _*_, _/_, _%_}
 use mathlib.Core.Path.{_≡_}
-use mathlib.Core.Bool.{Bool, true, false, _&&_}
+use mathlib.Core.Bool.{Bool, _&&_}
 use mathlib.Core.Option.{Option, none, some}
 use mathlib.Core.List.{List, [], _∷_, _++_}
 use lib.Dec.{leb, eqb}
@@ -16,7 +16,7 @@ use lib.ListN.{length, getD, take, drop, replicate}
 use mir.Syntax.{w32}
 use mir.Val.{toZ}
 use Rattle.formula.specs.Bounds.{proofBound}
-use Rattle.formula.specs.Refusal.{refusal}
+use Rattle.formula.specs.Refusal.{refusal, require}
 use Rattle.formula.specs.declared.refusal.Reason.{Reason}
 use Rattle.formula.specs.declared.refusal.Reason.the-variants.{Oversized, NoRoom, NoTrailer, OtherFormula}
 use Rattle.formula.specs.declared.refusal.Refusal.{Refusal}
@@ -72,8 +72,7 @@ abbrev pub stepCount : List ℕ → ℕ
 stepCount file = distance file / 4
 
 abbrev pub refuseUnless : Bool → Reason → Option Refusal → Option Refusal
-refuseUnless true reason later = later
-refuseUnless false reason later = some (refusal reason 0)
+refuseUnless b reason later = require b (some (refusal reason 0)) later
 
 -- Why a file is turned away, if it is: asked for a formula of `count` clauses, with `room` words for the steps.
 unfoldable pub proofRefusal : List ℕ → ℕ → ℕ → Option Refusal

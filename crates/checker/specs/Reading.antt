@@ -12,6 +12,7 @@ use Rattle.checker.specs.declared.read.Close.{Close}
 use Rattle.checker.specs.declared.read.Close.the-variants.{At, Missing}
 use Rattle.checker.specs.declared.read.Shape.{Shape}
 use Rattle.checker.specs.declared.read.Shape.the-variants.{Broken, Resolution, Reduction}
+use Rattle.checker.specs.Rules.{plainRules}
 use Rattle.checker.specs.Words.{Words, closes}
 use Rattle.checker.specs.Steps.{Step, resolution, reduction, sizeOf, Kind, resolves, reduces, other, kindOf}
 
@@ -21,7 +22,7 @@ kindRead reduces = Reduces
 kindRead other = Other
 
 abbrev pub kindIs : ℤ → KindRead
-kindIs w = kindRead (kindOf w)
+kindIs w = kindRead (kindOf plainRules w)
 
 abbrev pub closeIf : Bool → ℕ → Close
 closeIf true n = At n

@@ -1,8 +1,9 @@
 -- What a refutation is (wish 2; 01, "Steps"), and 01's bounds and room for one. Nothing here speaks of tests or of their order: that
 -- the checker accepts exactly the refutations is in Verdict/Exact.antt. Lawful steps are in Lawful.antt.
+pub mod FirstEmptyClause
 pub mod Laws
 pub mod Examples
-use Prim.Native.Nat.{ℕ, suc, _≤_, _<_}
+use Prim.Native.Nat.{ℕ, _≤_, _<_}
 use mathlib.Core.Path.{_≡_}
 use mathlib.Core.Option.{some}
 use mathlib.Core.List.{List, [], List·Memᴰ}
@@ -10,10 +11,10 @@ use lib.ListN.{length, getElem?}
 use lib.IntN.{ℤ}
 use Rattle.formula.specs.Bounds.{proofBound}
 use Rattle.formula.specs.Decode.{clausesOf, formulaOf}
+use Rattle.checker.specs.Rules.{scratchBound}
 use Rattle.checker.specs.Words.{Words}
 use Rattle.checker.specs.Steps.{Step}
 use Rattle.checker.specs.Lawful.{stepWords, numberedClauses, LawfulSteps}
-use Rattle.checker.specs.Verdict.{scratchBound}
 
 -- The words are steps written one after the other, each lawful over the clauses numbered before it, and some numbered clause,
 -- input clause or step, is empty. Dependencies are those of the formula that the tables denote.
@@ -23,10 +24,8 @@ pub record Refutation (prefix clauses words : List ℤ) : Type 0 where
   pub lawful : LawfulSteps (formulaOf prefix clauses) (clausesOf clauses) steps
   pub some-empty : List·Memᴰ [] (numberedClauses (clausesOf clauses) steps)
 
--- n is the number of the first empty clause; clauses are numbered from 1.
-pub record FirstEmpty (known : List Words) (n : ℕ) : Type 0 where
-  pub place : ℕ
-  pub is : n ≡ suc place
+-- The first empty clause stands at this place, from 0 on; its number is one more.
+pub record FirstEmpty (known : List Words) (place : ℕ) : Type 0 where
   pub empty : getElem? known place ≡ some []
   pub earlier : (k : ℕ) → k < place → getElem? known k ≡ some [] → ⊥
 

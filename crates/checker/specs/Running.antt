@@ -12,6 +12,7 @@ use Rattle.checker.specs.declared.run.Run.{Run}
 use Rattle.checker.specs.declared.run.Run.the-variants.{Ended, Refused}
 use Rattle.checker.specs.declared.run.Found.{Found}
 use Rattle.checker.specs.declared.run.Found.the-variants.{Clause, Nothing}
+use Rattle.checker.specs.Rules.{plainRules}
 use Rattle.checker.specs.Words.{Words}
 use Rattle.checker.specs.Steps.{Outcome, ended, refused, run}
 use Rattle.checker.specs.Verdict.{scopeOf}
@@ -32,7 +33,7 @@ Grown inputs (Ended n) = inputs ≤ n
 Grown inputs (Refused r) = Unit {0}
 
 pub record RunDone (prefix clauses steps : List ℤ) (inputs : ℕ) (r : Run) (starts : List ℕ) : Type 0 where
-  pub outcome : run (scopeOf prefix clauses) (length starts) (clausesOf clauses) zero steps ≡ outcomeOf inputs clauses steps starts r
+  pub outcome : run plainRules (scopeOf prefix clauses) (length starts) (clausesOf clauses) zero steps ≡ outcomeOf inputs clauses steps starts r
   pub counted : countOf r ≤ length starts
   pub grown : Grown inputs r
 

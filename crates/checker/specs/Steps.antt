@@ -1,8 +1,9 @@
 -- Steps (01, "Steps", and the order of refusals "For steps"): what the words of a step say, what is wrong with a step after
--- given numbered clauses, and the run down the words. What steps know of the formula is the three tests of a Scope.
+-- given numbered clauses, and the run down the words. What steps know of the formula is the three tests of a Scope; the kinds
+-- of step there are, and whether one may follow an empty clause, are the rules'.
 pub mod Tests
-pub mod Reading
-pub mod Running
+pub mod Written
+pub mod Run
 use Prim.Native.Nat.{ℕ, zero, suc, _+_}
 use mathlib.Core.Bool.{Bool, true, false, not, _&&_, _||_}
 use mathlib.Core.Option.{Option, none, some}
@@ -10,11 +11,12 @@ use mathlib.Core.List.{List, [], _∷_, _++_}
 use lib.ListN.{length, getElem?}
 use lib.Dec.{ltb}
 use lib.IntN.{ℤ, pos, negsuc, negℤ, natAbs}
-use Rattle.formula.specs.Refusal.{refusal}
+use Rattle.formula.specs.Refusal.{refusal, require}
 use Rattle.formula.specs.declared.refusal.Reason.{Reason}
 use Rattle.formula.specs.declared.refusal.Refusal.{Refusal}
 use Rattle.formula.specs.declared.refusal.Reason.the-variants.{NoRoom, BrokenStep, NotEarlier, WrongPivot, Tautology, Blocked, Misstated}
 use Rattle.formula.specs.Decode.{firstClause}
+use Rattle.checker.specs.Rules.{Rules}
 use Rattle.checker.specs.Words.{Words, holds, without, closes}
 
 -- The variables that are existential and universal, and which existential depends on which universal: dependent u e.
@@ -37,15 +39,19 @@ abbrev pub sizeOf : Step → ℕ
 sizeOf (resolution i j e L) = 5 + length L
 sizeOf (reduction i a L) = 4 + length L
 
+-- What a step does: its first word tells.
 pub data Kind : Type 0 where
   resolves reduces other : Kind
 
-abbrev pub kindOf : ℤ → Kind
-kindOf (pos zero) = other
-kindOf (pos (suc zero)) = resolves
-kindOf (pos (suc (suc zero))) = reduces
-kindOf (pos (suc (suc (suc n)))) = other
-kindOf (negsuc n) = other
+-- By whether a word is among those of each kind.
+abbrev pub kindBy : Bool → Bool → Kind
+kindBy true reducing = resolves
+kindBy false true = reduces
+kindBy false false = other
+
+-- What a step is that begins with this word.
+abbrev pub kindOf : Rules → ℤ → Kind
+kindOf rules w = kindBy (holds w (rules .resolutions)) (holds w (rules .reductions))
 
 -- A step whose L is closed by a 0.
 abbrev pub ifClosed : Bool → Step → Option Step
@@ -64,9 +70,9 @@ readFields reduces (i ∷ a ∷ ws) = ifClosed (closes ws) (reduction i a (first
 readFields other ws = none
 
 -- The step that stands first in the words, if one does.
-unfoldable pub readStep : Words → Option Step
-readStep [] = none
-readStep (w ∷ ws) = readFields (kindOf w) ws
+unfoldable pub readStep : Rules → Words → Option Step
+readStep rules [] = none
+readStep rules (w ∷ ws) = readFields (kindOf rules w) ws
 
 -- The numbered clause of an antecedent: it is one from 1 to the last.
 abbrev pub antecedent : List Words → ℤ → Option Words
@@ -108,8 +114,7 @@ blocked S u (x ∷ C) = S .dependent u (natAbs x) || blocked S u C
 
 -- The reason if the test fails, what comes later if it holds.
 abbrev pub unless : Bool → Reason → Option Reason → Option Reason
-unless true r later = later
-unless false r later = some r
+unless b r later = require b (some r) later
 
 abbrev pub judgeStatement : Words → Words → Option Reason
 judgeStatement R L = unless (states R L) Misstated none
@@ -141,17 +146,25 @@ abbrev pub judgedAs : Step → Option Reason → Judged
 judgedAs s none = right s
 judgedAs s (some r) = wrong r
 
-abbrev pub ifRoom : Bool → Judged → Judged
-ifRoom true later = later
-ifRoom false later = wrong NoRoom
-
 abbrev pub judgeRead : Scope → ℕ → List Words → Option Step → Judged
 judgeRead S room known none = wrong BrokenStep
-judgeRead S room known (some s) = ifRoom (ltb (length known) room) (judgedAs s (judge S known s))
+judgeRead S room known (some s) = require (ltb (length known) room) (wrong NoRoom) (judgedAs s (judge S known s))
 
--- `room` is how many numbered clauses the starts table has a word for.
-unfoldable pub judgeFirst : Scope → ℕ → List Words → Words → Judged
-judgeFirst S room known ws = judgeRead S room known (readStep ws)
+-- Some numbered clause is empty.
+unfoldable pub someEmpty : List Words → Bool
+someEmpty [] = false
+someEmpty ([] ∷ known) = true
+someEmpty ((x ∷ C) ∷ known) = someEmpty known
+
+-- A step that comes after an empty clause, where the rules have a reason against it.
+abbrev pub refuseAfter : Option Reason → Bool → Judged → Judged
+refuseAfter none after later = later
+refuseAfter (some r) after later = require (not after) (wrong r) later
+
+-- `room` is how many numbered clauses the starts table has a word for. Whether a step may stand here comes ahead of all that
+-- is wrong with it.
+unfoldable pub judgeFirst : Rules → Scope → ℕ → List Words → Words → Judged
+judgeFirst rules S room known ws = refuseAfter (rules .afterwards) (someEmpty known) (judgeRead S room known (readStep rules ws))
 
 -- The run ends with all numbered clauses, or is refused.
 pub data Outcome : Type 0 where
@@ -168,8 +181,8 @@ less-one zero = zero
 less-one (suc n) = n
 
 -- The words from here on, the first `skip` of which belong to a step that was judged.
-unfoldable pub run : Scope → ℕ → List Words → ℕ → Words → Outcome
-run S room known skip [] = ended known
-run S room known (suc skip) (w ∷ ws) = run S room known skip ws
-run S room known zero (w ∷ ws) =
-    turn known (judgeFirst S room known (w ∷ ws)) (λ s. run S room (known ++ (statedBy s ∷ [])) (less-one (sizeOf s)) ws)
+unfoldable pub run : Rules → Scope → ℕ → List Words → ℕ → Words → Outcome
+run rules S room known skip [] = ended known
+run rules S room known (suc skip) (w ∷ ws) = run rules S room known skip ws
+run rules S room known zero (w ∷ ws) =
+    turn known (judgeFirst rules S room known (w ∷ ws)) (λ s. run rules S room (known ++ (statedBy s ∷ [])) (less-one (sizeOf s)) ws)

@@ -1,14 +1,13 @@
 -- The verdict on a proof (01, "What the checker says no with", order "A proof"): tables, 2 on step words, 3 for scratch and
--- starts, the steps, 19. `verdictOf` is what `check_proof` answers, Checked what it promises.
+-- starts, the steps, 19. `verdictOf plainRules` is what `check_proof` answers, Checked what it promises.
 pub mod Examples
-pub mod Deciding
+pub mod TableScope
 pub mod Early
 pub mod Accuracy
 pub mod Exact
 pub mod Parts
 use Prim.Native.Nat.{ℕ, zero, suc, _-_}
 use mathlib.Core.Path.{_≡_}
-use mathlib.Core.Bool.{Bool, true, false}
 use mathlib.Core.Option.{Option, none, some}
 use mathlib.Core.List.{List, [], _∷_}
 use lib.ListN.{length, replicate}
@@ -19,13 +18,14 @@ use Rattle.dependency.specs.Row.{isUniversal}
 use Rattle.formula.specs.Bounds.{proofBound}
 use Rattle.formula.specs.Decode.{formulaOf, clausesOf}
 use Rattle.formula.specs.Tables.{zeros, tablesRefusal}
-use Rattle.formula.specs.Refusal.{refusal}
+use Rattle.formula.specs.Refusal.{refusal, require}
 use Rattle.qbf.specs.Play.{Lost}
 use Rattle.formula.specs.declared.literal.ClauseNumber.{ClauseNumber}
 use Rattle.formula.specs.declared.refusal.Refusal.{Refusal}
 use Rattle.formula.specs.declared.refusal.Reason.the-variants.{Oversized, NoRoom, NoConclusion}
 use Rattle.checker.specs.declared.verdict.Verdict.{Verdict}
 use Rattle.checker.specs.declared.verdict.Verdict.the-variants.{Accepted, Refused}
+use Rattle.checker.specs.Rules.{Rules, plainRules}
 use Rattle.checker.specs.Words.{Words, holds}
 use Rattle.checker.specs.Steps.{Scope, Outcome, ended, refused, run}
 
@@ -37,10 +37,6 @@ scopeOf prefix clauses =
       universal = isUniversal prefix;
       dependent = depends (formulaOf prefix clauses);
     }
-
--- 01's scratch: bytes.
-abbrev pub scratchBound : ℕ
-scratchBound = 8200
 
 -- The number of the first empty clause, `n` being the number of the first one here.
 unfoldable pub firstEmpty : ℕ → List Words → Option ℕ
@@ -61,28 +57,24 @@ abbrev pub ifAdmitted : Option Refusal → Verdict → Verdict
 ifAdmitted none later = later
 ifAdmitted (some r) later = Refused r
 
-abbrev pub ifFits : Bool → Refusal → Verdict → Verdict
-ifFits true r later = later
-ifFits false r later = Refused r
-
 -- After the tables; `scratch` and `room` are the lengths of the scratch and of the starts table.
-unfoldable pub sizedVerdict : List ℤ → List ℤ → List ℤ → ℕ → ℕ → Verdict
-sizedVerdict prefix clauses steps scratch room =
-    ifFits (leb (length steps) proofBound)
-    (refusal Oversized 0)
-    (ifFits (leb scratchBound scratch)
-    (refusal NoRoom 0)
-    (ifFits (leb (zeros clauses) room)
-    (refusal NoRoom (suc room))
-    (conclude (zeros clauses) (run (scopeOf prefix clauses) room (clausesOf clauses) zero steps))))
+unfoldable pub sizedVerdict : Rules → List ℤ → List ℤ → List ℤ → ℕ → ℕ → Verdict
+sizedVerdict rules prefix clauses steps scratch room =
+    require (leb (length steps) proofBound)
+    (Refused (refusal Oversized 0))
+    (require (leb (rules .scratch) scratch)
+    (Refused (refusal NoRoom 0))
+    (require (leb (zeros clauses) room)
+    (Refused (refusal NoRoom (suc room)))
+    (conclude (zeros clauses) (run rules (scopeOf prefix clauses) room (clausesOf clauses) zero steps))))
 
-unfoldable pub verdictOf : List ℤ → List ℤ → List ℤ → ℕ → ℕ → Verdict
-verdictOf prefix clauses steps scratch room = ifAdmitted (tablesRefusal prefix clauses) (sizedVerdict prefix clauses steps scratch room)
+unfoldable pub verdictOf : Rules → List ℤ → List ℤ → List ℤ → ℕ → ℕ → Verdict
+verdictOf rules prefix clauses steps scratch room = ifAdmitted (tablesRefusal prefix clauses) (sizedVerdict rules prefix clauses steps scratch room)
 
 -- What `check_proof` promises: the verdict, scratch and starts of whatever length wholly 0, and that an accepted proof makes the
 -- game lost.
 pub record Checked (prefix clauses steps : List ℤ) (scratch starts : List ℕ) (r : Verdict) (scratch′ starts′ : List ℕ) : Type 0 where
-  pub verdict : r ≡ verdictOf prefix clauses steps (length scratch) (length starts)
+  pub verdict : r ≡ verdictOf plainRules prefix clauses steps (length scratch) (length starts)
   pub scratch-cleared : scratch′ ≡ replicate (length scratch) 0
   pub starts-cleared : starts′ ≡ replicate (length starts) 0
   pub lost : (empty : ClauseNumber) (count : ℕ) → r ≡ Accepted empty count → Lost (formulaOf prefix clauses)

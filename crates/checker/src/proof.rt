@@ -19,6 +19,7 @@ ghost use Prim.Native.Nat.{_≤_, zero};
 ghost use lib.ListN.{length};
 ghost use Rattle.formula.specs.Decode.{clausesOf};
 ghost use Rattle.formula.specs.Tables.{Admitted, zeros};
+ghost use Rattle.checker.specs.Rules.{plainRules};
 ghost use Rattle.checker.specs.Steps.{run};
 ghost use Rattle.checker.specs.Numbered.{stored};
 ghost use Rattle.checker.specs.Verdict.{scopeOf, firstEmpty, concluded, conclude, sizedVerdict, verdictOf, Checked};
@@ -56,7 +57,7 @@ fn judge_steps<'a>(
     starts: &mut [u32],
 ) -> Verdict
     requires { ⌜ Admitted (now prefix) (now clauses) ⌝ ∗ ⌜ inputs ≡ zeros (now clauses) ⌝ ∗ ⌜ length (now steps) ≤ 1048576 ⌝ ∗ ⌜ 8200 ≤ length (now scratch) ⌝ ∗ ⌜ inputs ≤ length (now starts) ⌝ }
-    ensures { λ r. ⌜ r ≡ conclude inputs (run (scopeOf (now (prefix .entry)) (now (clauses .entry))) (length (now (starts .entry))) (clausesOf (now (clauses .entry))) zero (now (steps .entry))) ⌝ }
+    ensures { λ r. ⌜ r ≡ conclude inputs (run plainRules (scopeOf (now (prefix .entry)) (now (clauses .entry))) (length (now (starts .entry))) (clausesOf (now (clauses .entry))) zero (now (steps .entry))) ⌝ }
 {
     clear_bytes(scratch, 0);
     fill_kinds(prefix, &mut scratch[7_175..8_200]);
@@ -84,7 +85,7 @@ fn judge_sized<'a>(
     starts: &mut [u32],
 ) -> Verdict
     requires { ⌜ Admitted (now prefix) (now clauses) ⌝ ∗ ⌜ inputs ≡ zeros (now clauses) ⌝ }
-    ensures { λ r. ⌜ r ≡ sizedVerdict (now (prefix .entry)) (now (clauses .entry)) (now (steps .entry)) (length (now (scratch .entry))) (length (now (starts .entry))) ⌝ }
+    ensures { λ r. ⌜ r ≡ sizedVerdict plainRules (now (prefix .entry)) (now (clauses .entry)) (now (steps .entry)) (length (now (scratch .entry))) (length (now (starts .entry))) ⌝ }
 {
     match ProofLength::new(steps.len()) {
         ProofFit::Oversized => Verdict::Refused(Refusal {
@@ -116,7 +117,7 @@ fn judge_proof<'a>(
     scratch: &mut [u8],
     starts: &mut [u32],
 ) -> Verdict
-    ensures { λ r. ⌜ r ≡ verdictOf (now (prefix .entry)) (now (clauses .entry)) (now (steps .entry)) (length (now (scratch .entry))) (length (now (starts .entry))) ⌝ }
+    ensures { λ r. ⌜ r ≡ verdictOf plainRules (now (prefix .entry)) (now (clauses .entry)) (now (steps .entry)) (length (now (scratch .entry))) (length (now (starts .entry))) ⌝ }
 {
     match check_tables(prefix, clauses) {
         TablesAnswer::Refused(refusal) => Verdict::Refused(refusal),

@@ -4,6 +4,7 @@ use crate::word::same;
 ghost use mathlib.Core.Path.{_≡_};
 ghost use Prim.Native.Nat.{_<_};
 ghost use lib.ListN.{length, drop};
+ghost use Rattle.checker.specs.Rules.{plainRules};
 ghost use Rattle.checker.specs.Steps.{readStep};
 ghost use Rattle.checker.specs.Reading.{kindIs, closedAt, shapeOf};
 
@@ -52,7 +53,7 @@ pub enum Shape {
 // The statement L of a resolution begins at the fourth word after the kind, that of a reduction at the third.
 pub fn read_step(steps: &[i32], at: usize) -> Shape
     requires { ⌜ at < length (now steps) ⌝ }
-    ensures { λ r. ⌜ r ≡ shapeOf at (readStep (drop at (now (steps .entry)))) ⌝ }
+    ensures { λ r. ⌜ r ≡ shapeOf at (readStep plainRules (drop at (now (steps .entry)))) ⌝ }
 {
     let word = steps[at];
     match kind_of(word) {

@@ -24,7 +24,7 @@ ghost use Rattle.formula.specs.Tables.{Admitted};
 ghost use Rattle.dependency.specs.Row.{isUniversal};
 ghost use Rattle.checker.specs.Words.Places.{clauseAt};
 ghost use Rattle.checker.specs.Steps.{antecedent};
-ghost use Rattle.checker.specs.Lawful.Running.{AllWords};
+ghost use Rattle.checker.specs.Lawful.{AllWords};
 ghost use Rattle.checker.specs.Verdict.{scopeOf};
 ghost use Rattle.checker.specs.Numbered.{stored};
 ghost use Rattle.checker.specs.Marks.Judging.{InRange, AllInRange};

@@ -17,7 +17,7 @@ ghost use lib.ListN.{length, getD};
 ghost use lib.IntN.{pos};
 ghost use Rattle.checker.specs.Words.Places.{clauseAt};
 ghost use Rattle.checker.specs.Steps.{antecedent};
-ghost use Rattle.checker.specs.Lawful.Running.{AllWords};
+ghost use Rattle.checker.specs.Lawful.{AllWords};
 ghost use Rattle.checker.specs.Numbered.{storedAt, stored};
 ghost use Rattle.checker.specs.Marks.Judging.{InRange, AllInRange, clean};
 ghost use Rattle.checker.specs.Judgements.{JudgedClean};

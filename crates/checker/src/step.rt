@@ -8,8 +8,9 @@ use formula::refusal::Reason;
 ghost use Prim.Native.Nat.{_≤_, _<_};
 ghost use lib.ListN.{length, drop};
 ghost use Rattle.formula.specs.Tables.{Admitted};
+ghost use Rattle.checker.specs.Rules.{plainRules};
 ghost use Rattle.checker.specs.Steps.{judgeFirst};
-ghost use Rattle.checker.specs.Lawful.Running.{AllWords};
+ghost use Rattle.checker.specs.Lawful.{AllWords};
 ghost use Rattle.checker.specs.Verdict.{scopeOf};
 ghost use Rattle.checker.specs.Numbered.{stored};
 ghost use Rattle.checker.specs.Marks.Judging.{InRange};
@@ -34,7 +35,7 @@ pub fn check_step<'a>(
 ) -> StepAnswer
     requires { ⌜ Ready (now prefix) (now scratch) ⌝ ∗ ⌜ Admitted (now prefix) (now clauses) ⌝ ∗ ⌜ at < length (now steps) ⌝ }
     requires { ⌜ known ≤ length (now starts) ⌝ ∗ ⌜ AllWords InRange (stored inputs (now clauses) (now steps) (now starts) known) ⌝ }
-    ensures { λ r. ⌜ StepChecked at (judgeFirst (scopeOf (now (prefix .entry)) (now (clauses .entry))) (length (now (starts .entry))) (stored inputs (now (clauses .entry)) (now (steps .entry)) (now (starts .entry)) known) (drop at (now (steps .entry)))) r (now (scratch .entry)) (now (scratch .exit)) ⌝ }
+    ensures { λ r. ⌜ StepChecked at (judgeFirst plainRules (scopeOf (now (prefix .entry)) (now (clauses .entry))) (length (now (starts .entry))) (stored inputs (now (clauses .entry)) (now (steps .entry)) (now (starts .entry)) known) (drop at (now (steps .entry)))) r (now (scratch .entry)) (now (scratch .exit)) ⌝ }
 {
     match read_step(steps, at) {
         Shape::Broken => StepAnswer::Wrong(Reason::BrokenStep),

@@ -1,6 +1,6 @@
 -- The known positions of 01 that have a letter, a to l, as one list under one claim: each is an entry's answer on concrete
 -- tables, by computation. Numbers are words: pos n is n, negsuc n is −(n + 1).
-use Prim.Native.Nat.{ℕ, zero, suc}
+use Prim.Native.Nat.{ℕ}
 use mathlib.Core.Path.{_≡_, refl}
 use mathlib.Core.List.{List, [], _∷_}
 use native.Mathlib.Decide.{ℕ-discrete}
@@ -20,6 +20,7 @@ use Rattle.dependency.specs.declared.answer.RowAnswer.the-variants.{Filled}
 use Rattle.dependency.specs.Row.{isUniversal, rowBelow, rowOf, rowRefusal, answerRow, rowBuffer}
 use Rattle.checker.specs.declared.verdict.Verdict.{Verdict}
 use Rattle.checker.specs.declared.verdict.Verdict.the-variants.{Accepted, Refused}
+use Rattle.checker.specs.Rules.{plainRules}
 use Rattle.checker.specs.Words.{sameWord, holds, without, closes}
 use Rattle.checker.specs.Steps.{readStep, opposed, lists, covers, states, blocked, judgeResolution, judgeReduction, judgeFirst, run}
 use Rattle.checker.specs.Verdict.{firstEmpty, sizedVerdict, verdictOf}
@@ -44,7 +45,7 @@ abbrev pub Answered : Position → Type 0
 Answered (row prefix clauses variable dependents) =
     (answerRow (rowRefusal prefix clauses variable 1025 8200) ≡ Filled)
     × (rowBuffer (rowRefusal prefix clauses variable 1025 8200) (formulaOf prefix clauses) (natAbs variable) 1025 ≡ marked dependents)
-Answered (proof prefix clauses steps verdict) = verdictOf prefix clauses steps 8200 16 ≡ verdict
+Answered (proof prefix clauses steps verdict) = verdictOf plainRules prefix clauses steps 8200 16 ≡ verdict
 Answered (game prefix clauses evaluation) = evaluationOf prefix clauses ≡ evaluation
 
 abbrev pub AllAnswered : List Position → Type 0

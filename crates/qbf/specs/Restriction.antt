@@ -4,6 +4,7 @@
 -- by one literal a turn; 003 cuts the clause of a leaf, here a leaf keeps its whole input clause, its literals on variables already
 -- set no longer count, and are all false; 003 leaves out a reduction whose variable its premise no longer holds, here it stays and
 -- removes nothing; and paths and dependencies stay those of the whole formula, where 003 takes those of the restricted one.
+pub mod Laws
 pub mod Examples
 use Prim.Native.Nat.{ℕ}
 use mathlib.Core.Path.{_≡_}

@@ -15,36 +15,27 @@ use Rattle.qbf.specs.Formula.{Formula, Quantifier, existential, universa
 use Rattle.qbf.specs.Formula.Laws.{distinct-rest}
 use Rattle.qbf.specs.Play.{Values, assign, turn, lost, Lost}
 use Rattle.qbf.specs.Play.Laws.{unsatisfied, falsified-by}
-use Rattle.qbf.specs.Derivation.{Derivation, leaf, resolve, reduce, Concludes, Valid, Empty}
-use Rattle.qbf.specs.Restriction.{Unset, ConcludesAt, ValidAt, RefutesAt, Occurs, occurs?, Restricted, top, tree, restrict, Refuted, move, FalseClause}
+use Rattle.qbf.specs.Derivation.{Derivation, leaf, resolve, reduce, Valid, Empty}
+use Rattle.qbf.specs.Restriction.{Unset, ValidAt, RefutesAt, Occurs, occurs?, Restricted, top, tree, restrict, Refuted, move, FalseClause}
+use Rattle.qbf.specs.Restriction.Laws.{begin-concludes, concludes-only}
 use Rattle.qbf.specs.Soundness.Restricting.{Kept, restrict-kept}
 use Rattle.qbf.specs.Soundness.MoveLemma.{one-literal-occurs}
 
--- With every entry to be set, a valid derivation concludes what it derives, and is valid at the position.
+-- With every entry to be set, a valid derivation is valid at the position.
 module _ (F : Formula) (proper : Proper F) where
-  begin-concludes : (t : Derivation) → Valid F t → (l : Literal) → Concludes t l → ConcludesAt (F .prefix) t l
-  begin-concludes (leaf C) v l c = (c, proper .clause-bound C v l c)
-  begin-concludes (resolve t x) v l c = (c .0, begin-concludes (t (c .0)) (v .0 (c .0)) l (c .1), c .2)
-  begin-concludes (reduce t u) v l c = (begin-concludes t (v .0) l (c .0), c .1)
-
-  concludes-only : (t : Derivation) (l : Literal) → ConcludesAt (F .prefix) t l → Concludes t l
-  concludes-only (leaf C) l c = c .0
-  concludes-only (resolve t x) l c = (c .0, concludes-only (t (c .0)) l (c .1), c .2)
-  concludes-only (reduce t u) l c = (concludes-only t l (c .0), c .1)
-
   begin-valid : (τ : Values) (t : Derivation) → Valid F t → ValidAt F (F .prefix) τ t
   begin-valid τ (leaf C) v = (v, λ l m. inl (proper .clause-bound C v l m))
   begin-valid τ (resolve t x) v = (
     λ b. begin-valid τ (t b) (v .0 b),
     v .1,
-    λ b. begin-concludes (t b) (v .0 b) (literal x b) (v .2 b),
-    λ l c n c′. v .3 l (concludes-only (t true) l c) n (concludes-only (t false) (neg l) c′),
+    λ b. begin-concludes F proper (t b) (v .0 b) (literal x b) (v .2 b),
+    λ l c n c′. v .3 l (concludes-only (F .prefix) (t true) l c) n (concludes-only (F .prefix) (t false) (neg l) c′),
   )
-  begin-valid τ (reduce t u) v = (begin-valid τ t (v .0), v .1, λ e c. v .2 e (concludes-only t e c))
+  begin-valid τ (reduce t u) v = (begin-valid τ t (v .0), v .1, λ e c. v .2 e (concludes-only (F .prefix) t e c))
 
   -- A refutation of the formula refutes the first position, whatever the values before.
   pub refutation-begins : (τ : Values) (t : Derivation) → Valid F t → Empty t → RefutesAt F (F .prefix) τ t
-  refutation-begins τ t v empty = record { valid = begin-valid τ t v; empty = λ l c. empty l (concludes-only t l c) }
+  refutation-begins τ t v empty = record { valid = begin-valid τ t v; empty = λ l c. empty l (concludes-only (F .prefix) t l c) }
 
 module _ (F : Formula) (proper : Proper F) where
   -- Whatever is not Top refutes the next position.

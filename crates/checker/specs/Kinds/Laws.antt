@@ -24,7 +24,7 @@ use Rattle.checker.specs.Words.{holds}
 use Rattle.checker.specs.Words.Laws.{not-true-false, holds-sound, holds-absent, absent-holds}
 use Rattle.checker.specs.Steps.{positiveExistential}
 use Rattle.checker.specs.Verdict.{scopeOf}
-use Rattle.checker.specs.Verdict.Deciding.{is-universal-word, word-is-universal}
+use Rattle.checker.specs.Verdict.TableScope.{is-universal-word, word-is-universal}
 use Rattle.checker.specs.Marks.Judging.{InRange, AllInRange}
 use Rattle.checker.specs.Kinds.{kindWord, kindsFrom, kindsOf, existentialOf, universalOf}
 

@@ -2,7 +2,7 @@
 -- by one, and what the table of steps holds at the end. Assumes nothing.
 use Prim.Native.Nat.{ℕ, zero, suc, _+_, _-_, _*_, _/_, _%_, _≤_, _<_}
 use mathlib.Core.Path.{_≡_, refl, ap, sym, _∙_}
-use mathlib.Core.Bool.{Bool, true, false, _&&_}
+use mathlib.Core.Bool.{Bool, true, false}
 use mathlib.Core.Option.{Option, none, some}
 use mathlib.Core.List.{List, [], _∷_, _++_, append-assoc, append-nil}
 use native.Mathlib.Omega.{arith}
@@ -15,12 +15,14 @@ use lib.Seq.{drop-cons, take-suc-set, take-at, getD-drop}
 use mir.Syntax.{w32}
 use mir.Val.{toZ, SFits}
 use mir.ValLaws.{toZ-fits}
+use Rattle.qbf.specs.Connectives.{and-both}
 use Rattle.formula.specs.Bounds.{proofBound}
 use Rattle.formula.specs.Clear.{clearFrom}
 use Rattle.formula.specs.Refusal.{refusal}
 use Rattle.formula.specs.declared.refusal.Reason.{Reason}
 use Rattle.formula.specs.declared.refusal.Reason.the-variants.{Oversized, NoRoom, NoTrailer, OtherFormula}
 use Rattle.formula.specs.declared.refusal.Refusal.{Refusal}
+use Rattle.checker.specs.Rules.Laws.{require-passed}
 use Rattle.checker.specs.ProofFile.{
   number4,
   word4,
@@ -50,18 +52,12 @@ use Rattle.checker.specs.declared.file.ProofAnswer.the-variants.{Read, R
 
 -- ---- the trailer
 
--- Tests that hold together.
-pub both : (a b : Bool) → a && b ≡ true → (a ≡ true) × (b ≡ true)
-both true true e = (refl, refl)
-both true false e = (refl, e)
-both false b e = let z : _≡_ {A = ℕ} 0 1 = cc in absurd (omega arith)
-
 pub trailer-of : (file : List ℕ) → hasTrailer file ≡ true → Trailer file
 unfolding hasTrailer
 trailer-of file e =
-    let last = both _ (leb (distance file) (trailerStart file)) e in
-    let third = both _ (eqb (distance file % 4) 0) (last .0) in
-    let first = both (leb 12 (length file)) (markAt file (trailerStart file + 8)) (third .0) in
+    let last = and-both _ (leb (distance file) (trailerStart file)) e in
+    let third = and-both _ (eqb (distance file % 4) 0) (last .0) in
+    let first = and-both (leb 12 (length file)) (markAt file (trailerStart file + 8)) (third .0) in
     let m : distance file % 4 ≡ 0 = eqb-true _ _ (third .1) in
     record { long = leb-true _ _ (first .0); marked = first .1; whole = omega arith; within = leb-true _ _ (last .1) }
 
@@ -120,8 +116,7 @@ module _ (file : List ℕ) (count room : ℕ) where
         refusal-none h = rw (t, b, eq-eqb (clauseCount file) count e, le-leb (stepCount file) room h)
 
 unless-none : (b : Bool) (reason : Reason) (later : Option Refusal) → refuseUnless b reason later ≡ none → (b ≡ true) × (later ≡ none)
-unless-none true reason later e = (refl, e)
-unless-none false reason later e = let z : _≡_ {A = ℕ} 0 1 = cc in absurd (omega arith)
+unless-none b reason later e = require-passed b (some (refusal reason 0)) later none (λ q. let z : _≡_ {A = ℕ} 0 1 = cc in omega arith) e
 
 pub passed-of : (file : List ℕ) (count room : ℕ) → proofRefusal file count room ≡ none → Passed file count room
 unfolding proofRefusal

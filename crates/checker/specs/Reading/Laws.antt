@@ -1,5 +1,5 @@
 -- What the code reads of a step is what the step is. Assumes nothing.
-use Prim.Native.Nat.{ℕ, zero, suc, _+_, _-_, _<_, _≤_}
+use Prim.Native.Nat.{ℕ, suc, _+_, _-_, _<_, _≤_}
 use mathlib.Core.Path.{_≡_, refl, ap, sym, _∙_}
 use mathlib.Core.Bool.{Bool, true, false, _||_, false≢true}
 use mathlib.Core.Option.{Option, none, some}
@@ -8,14 +8,15 @@ use native.Mathlib.Omega.{arith}
 use native.Mathlib.Nat.{not-suc-le-zero, le-of-suc-le-suc}
 use lib.ListN.{length, getD, drop, length-drop}
 use lib.Seq.{drop-cons, drop-drop, getD-drop}
-use lib.IntN.{ℤ, pos, negsuc}
+use lib.IntN.{ℤ, pos}
 use Rattle.formula.specs.Decode.{firstClause}
 use Rattle.checker.specs.declared.read.Kind.{Kind as KindRead}
 use Rattle.checker.specs.declared.read.Kind.the-variants.{Resolves, Reduces, Other}
 use Rattle.checker.specs.declared.read.Close.the-variants.{At, Missing}
 use Rattle.checker.specs.declared.read.Shape.{Shape}
 use Rattle.checker.specs.declared.read.Shape.the-variants.{Broken, Resolution, Reduction}
-use Rattle.checker.specs.Words.{Words, sameWord, isZero, closes}
+use Rattle.checker.specs.Rules.{plainRules}
+use Rattle.checker.specs.Words.{Words, sameWord, holds, isZero, closes}
 use Rattle.checker.specs.Words.Laws.{same-sound, zero-ends, literal-first}
 use Rattle.checker.specs.Words.Places.{clauseAt}
 use Rattle.checker.specs.Steps.{Step, resolution, reduction, statedBy, sizeOf, Kind, resolves, reduces, other, kindOf, ifClosed, readFields, readStep}
@@ -23,18 +24,16 @@ use Rattle.checker.specs.Reading.{kindRead, kindIs, closeIf, closedAt, s
 
 -- The kind word, by two tests.
 pub kind-resolves : (w : ℤ) → sameWord w (pos 1) ≡ true → Resolves ≡ kindIs w
-kind-resolves w h = rw (same-sound w (pos 1) h)
+unfolding holds
+kind-resolves w h = rw h
 
 pub kind-reduces : (w : ℤ) → sameWord w (pos 2) ≡ true → Reduces ≡ kindIs w
+unfolding holds sameWord
 kind-reduces w h = rw (same-sound w (pos 2) h)
 
 pub kind-other : (w : ℤ) → sameWord w (pos 1) ≡ false → sameWord w (pos 2) ≡ false → Other ≡ kindIs w
-unfolding sameWord
-kind-other (pos zero) h k = refl
-kind-other (pos (suc zero)) h k = absurd (false≢true (sym h))
-kind-other (pos (suc (suc zero))) h k = absurd (false≢true (sym k))
-kind-other (pos (suc (suc (suc n)))) h k = refl
-kind-other (negsuc n) h k = refl
+unfolding holds
+kind-other w h k = rw (h, k)
 
 kind-read-resolves : (k : Kind) → Resolves ≡ kindRead k → k ≡ resolves
 kind-read-resolves resolves e = refl
@@ -105,7 +104,7 @@ abbrev pub reductionAt : Words → ℕ → Step
 reductionAt steps at = reduction (getD steps (at + 1) (pos 0)) (getD steps (at + 2) (pos 0)) (clauseAt steps (at + 3))
 
 module _ (steps : Words) (at : ℕ) (within : at < length steps) where
-  read-here : readStep (drop at steps) ≡ readFields (kindOf (getD steps at (pos 0))) (drop (suc at) steps)
+  read-here : readStep plainRules (drop at steps) ≡ readFields (kindOf plainRules (getD steps at (pos 0))) (drop (suc at) steps)
   unfolding readStep
   read-here = rw (drop-cons steps at (pos 0) within)
 
@@ -115,22 +114,22 @@ module _ (steps : Words) (at : ℕ) (within : at < length steps) where
   list : (n : ℕ) → drop n (drop (suc at) steps) ≡ drop (at + suc n) steps
   list n = drop-drop n (suc at) steps ∙ ap (λ (k : ℕ). drop k steps) (let q : suc at + n ≡ at + suc n = omega arith in q)
 
-  pub read-resolution : Resolves ≡ kindIs (getD steps at (pos 0)) → readStep (drop at steps) ≡ ifClosed (closes (drop (at + 4) steps)) (resolutionAt steps at)
+  pub read-resolution : Resolves ≡ kindIs (getD steps at (pos 0)) → readStep plainRules (drop at steps) ≡ ifClosed (closes (drop (at + 4) steps)) (resolutionAt steps at)
   read-resolution k =
       read-here
-      ∙ ap (λ (kind : Kind). readFields kind (drop (suc at) steps)) (kind-read-resolves (kindOf (getD steps at (pos 0))) k)
+      ∙ ap (λ (kind : Kind). readFields kind (drop (suc at) steps)) (kind-read-resolves (kindOf plainRules (getD steps at (pos 0))) k)
       ∙ resolves-fields (pos 0) (drop (suc at) steps)
       ∙ rw (field 0, field 1, field 2, list 3)
 
-  pub read-reduction : Reduces ≡ kindIs (getD steps at (pos 0)) → readStep (drop at steps) ≡ ifClosed (closes (drop (at + 3) steps)) (reductionAt steps at)
+  pub read-reduction : Reduces ≡ kindIs (getD steps at (pos 0)) → readStep plainRules (drop at steps) ≡ ifClosed (closes (drop (at + 3) steps)) (reductionAt steps at)
   read-reduction k =
       read-here
-      ∙ ap (λ (kind : Kind). readFields kind (drop (suc at) steps)) (kind-read-reduces (kindOf (getD steps at (pos 0))) k)
+      ∙ ap (λ (kind : Kind). readFields kind (drop (suc at) steps)) (kind-read-reduces (kindOf plainRules (getD steps at (pos 0))) k)
       ∙ reduces-fields (pos 0) (drop (suc at) steps)
       ∙ rw (field 0, field 1, list 2)
 
   -- The shapes.
-  pub shape-resolution : (next : ℕ) → Resolves ≡ kindIs (getD steps at (pos 0)) → At next ≡ closedAt (at + 4) (drop (at + 4) steps) → Resolution next ≡ shapeOf at (readStep (drop at steps))
+  pub shape-resolution : (next : ℕ) → Resolves ≡ kindIs (getD steps at (pos 0)) → At next ≡ closedAt (at + 4) (drop (at + 4) steps) → Resolution next ≡ shapeOf at (readStep plainRules (drop at steps))
   unfolding closedAt
   shape-resolution next k e = rw (read-resolution k) (go (closes (drop (at + 4) steps)) e)
     where
@@ -140,7 +139,7 @@ module _ (steps : Words) (at : ℕ) (within : at < length steps) where
           ap Resolution (let r : next ≡ at + (5 + length (clauseAt steps (at + 4))) = omega arith in r)
       go false q = let z : _≡_ {A = ℕ} 0 1 = cc in absurd (omega arith)
 
-  pub shape-reduction : (next : ℕ) → Reduces ≡ kindIs (getD steps at (pos 0)) → At next ≡ closedAt (at + 3) (drop (at + 3) steps) → Reduction next ≡ shapeOf at (readStep (drop at steps))
+  pub shape-reduction : (next : ℕ) → Reduces ≡ kindIs (getD steps at (pos 0)) → At next ≡ closedAt (at + 3) (drop (at + 3) steps) → Reduction next ≡ shapeOf at (readStep plainRules (drop at steps))
   unfolding closedAt
   shape-reduction next k e = rw (read-reduction k) (go (closes (drop (at + 3) steps)) e)
     where
@@ -150,7 +149,7 @@ module _ (steps : Words) (at : ℕ) (within : at < length steps) where
           ap Reduction (let r : next ≡ at + (4 + length (clauseAt steps (at + 3))) = omega arith in r)
       go false q = let z : _≡_ {A = ℕ} 0 1 = cc in absurd (omega arith)
 
-  pub resolution-broken : Resolves ≡ kindIs (getD steps at (pos 0)) → Missing ≡ closedAt (at + 4) (drop (at + 4) steps) → Broken ≡ shapeOf at (readStep (drop at steps))
+  pub resolution-broken : Resolves ≡ kindIs (getD steps at (pos 0)) → Missing ≡ closedAt (at + 4) (drop (at + 4) steps) → Broken ≡ shapeOf at (readStep plainRules (drop at steps))
   unfolding closedAt
   resolution-broken k e = rw (read-resolution k) (go (closes (drop (at + 4) steps)) e)
     where
@@ -158,7 +157,7 @@ module _ (steps : Words) (at : ℕ) (within : at < length steps) where
       go true q = let z : _≡_ {A = ℕ} 0 1 = cc in absurd (omega arith)
       go false q = refl
 
-  pub reduction-broken : Reduces ≡ kindIs (getD steps at (pos 0)) → Missing ≡ closedAt (at + 3) (drop (at + 3) steps) → Broken ≡ shapeOf at (readStep (drop at steps))
+  pub reduction-broken : Reduces ≡ kindIs (getD steps at (pos 0)) → Missing ≡ closedAt (at + 3) (drop (at + 3) steps) → Broken ≡ shapeOf at (readStep plainRules (drop at steps))
   unfolding closedAt
   reduction-broken k e = rw (read-reduction k) (go (closes (drop (at + 3) steps)) e)
     where
@@ -166,8 +165,8 @@ module _ (steps : Words) (at : ℕ) (within : at < length steps) where
       go true q = let z : _≡_ {A = ℕ} 0 1 = cc in absurd (omega arith)
       go false q = refl
 
-  pub kind-broken : Other ≡ kindIs (getD steps at (pos 0)) → Broken ≡ shapeOf at (readStep (drop at steps))
-  kind-broken k = rw (read-here, kind-read-other (kindOf (getD steps at (pos 0))) k)
+  pub kind-broken : Other ≡ kindIs (getD steps at (pos 0)) → Broken ≡ shapeOf at (readStep plainRules (drop at steps))
+  kind-broken k = rw (read-here, kind-read-other (kindOf plainRules (getD steps at (pos 0))) k)
 
 -- What a shape says of the step.
 closes-there : (words : Words) (n : ℕ) → closes (drop n words) ≡ true → n < length words
@@ -179,12 +178,12 @@ closes-there words n h = go (drop n words) (length-drop n words) h
     go (w ∷ ws) e c = omega (arith, e)
 
 pub record ResolutionRead (steps : Words) (at next : ℕ) : Type 0 where
-  pub was-read : readStep (drop at steps) ≡ some (resolutionAt steps at)
+  pub was-read : readStep plainRules (drop at steps) ≡ some (resolutionAt steps at)
   pub after : next ≡ at + sizeOf (resolutionAt steps at)
   pub fields : at + 4 ≤ length steps
 
 pub record ReductionRead (steps : Words) (at next : ℕ) : Type 0 where
-  pub was-read : readStep (drop at steps) ≡ some (reductionAt steps at)
+  pub was-read : readStep plainRules (drop at steps) ≡ some (reductionAt steps at)
   pub after : next ≡ at + sizeOf (reductionAt steps at)
   pub fields : at + 3 ≤ length steps
 
@@ -194,11 +193,11 @@ place-of (Resolution n) = n
 place-of (Reduction n) = n
 
 module _ (steps : Words) (at next : ℕ) (within : at < length steps) where
-  pub resolution-shape : Resolution next ≡ shapeOf at (readStep (drop at steps)) → ResolutionRead steps at next
+  pub resolution-shape : Resolution next ≡ shapeOf at (readStep plainRules (drop at steps)) → ResolutionRead steps at next
   unfolding place-of
   resolution-shape h = go (kindIs (getD steps at (pos 0))) refl
     where
-      resolving : (b : Bool) → closes (drop (at + 4) steps) ≡ b → readStep (drop at steps) ≡ ifClosed b (resolutionAt steps at) → Resolution next ≡ shapeOf at (ifClosed b (resolutionAt steps at)) → ResolutionRead steps at next
+      resolving : (b : Bool) → closes (drop (at + 4) steps) ≡ b → readStep plainRules (drop at steps) ≡ ifClosed b (resolutionAt steps at) → Resolution next ≡ shapeOf at (ifClosed b (resolutionAt steps at)) → ResolutionRead steps at next
       resolving true c e q = record { was-read = e; after = ap place-of q; fields = let l = closes-there steps (at + 4) c in omega arith }
       resolving false c e q = let z : _≡_ {A = ℕ} 0 1 = cc in absurd (omega arith)
 
@@ -211,11 +210,11 @@ module _ (steps : Words) (at next : ℕ) (within : at < length steps) where
       go Reduces k = let e = read-reduction steps at within k in reducing (closes (drop (at + 3) steps)) (h ∙ ap (shapeOf at) e)
       go Other k = let e = kind-broken steps at within k in let z : _≡_ {A = ℕ} 0 1 = cc in absurd (omega arith)
 
-  pub reduction-shape : Reduction next ≡ shapeOf at (readStep (drop at steps)) → ReductionRead steps at next
+  pub reduction-shape : Reduction next ≡ shapeOf at (readStep plainRules (drop at steps)) → ReductionRead steps at next
   unfolding place-of
   reduction-shape h = go (kindIs (getD steps at (pos 0))) refl
     where
-      reducing : (b : Bool) → closes (drop (at + 3) steps) ≡ b → readStep (drop at steps) ≡ ifClosed b (reductionAt steps at) → Reduction next ≡ shapeOf at (ifClosed b (reductionAt steps at)) → ReductionRead steps at next
+      reducing : (b : Bool) → closes (drop (at + 3) steps) ≡ b → readStep plainRules (drop at steps) ≡ ifClosed b (reductionAt steps at) → Reduction next ≡ shapeOf at (ifClosed b (reductionAt steps at)) → ReductionRead steps at next
       reducing true c e q = record { was-read = e; after = ap place-of q; fields = let l = closes-there steps (at + 3) c in omega arith }
       reducing false c e q = let z : _≡_ {A = ℕ} 0 1 = cc in absurd (omega arith)
 
@@ -235,7 +234,7 @@ broken-shape at (some (reduction i a L)) h = let z : _≡_ {A = ℕ} 0 1 = cc in
 
 -- Where a step that was read states its result.
 pub step-places :
-    (steps : Words) (at : ℕ) → at < length steps → (s : Step) → readStep (drop at steps) ≡ some s
+    (steps : Words) (at : ℕ) → at < length steps → (s : Step) → readStep plainRules (drop at steps) ≡ some s
     → (clauseAt steps (listOf at s) ≡ statedBy s) × (listOf at s ≤ length steps)
 step-places steps at within s h = go (kindIs (getD steps at (pos 0))) refl
   where
@@ -253,4 +252,4 @@ step-places steps at within s h = go (kindIs (getD steps at (pos 0))) refl
     go : (k : KindRead) → k ≡ kindIs (getD steps at (pos 0)) → (clauseAt steps (listOf at s) ≡ statedBy s) × (listOf at s ≤ length steps)
     go Resolves k = resolving (closes (drop (at + 4) steps)) refl (sym (read-resolution steps at within k) ∙ h)
     go Reduces k = reducing (closes (drop (at + 3) steps)) refl (sym (read-reduction steps at within k) ∙ h)
-    go Other k = let e = broken-shape at (readStep (drop at steps)) (kind-broken steps at within k) in let z : _≡_ {A = ℕ} 0 1 = cc in absurd (omega arith)
+    go Other k = let e = broken-shape at (readStep plainRules (drop at steps)) (kind-broken steps at within k) in let z : _≡_ {A = ℕ} 0 1 = cc in absurd (omega arith)

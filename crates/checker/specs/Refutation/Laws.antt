@@ -1,12 +1,11 @@
--- Laws of refutations: the search for the first empty clause finds it; how many words steps take, and how many 0s: so a clause
--- offset for each four step words is room enough, and for a refutation so is one for each numbered clause. Assumes nothing.
-use Prim.Native.Nat.{ℕ, zero, suc, _+_, _*_, _/_, _≤_, _<_}
+-- Laws of refutations: a clause offset for each four step words is room enough, and for a refutation, by its 0s, so is one for each
+-- numbered clause. The first empty clause is in FirstEmptyClause.antt. Assumes nothing.
+use Prim.Native.Nat.{ℕ, zero, suc, _+_, _*_, _/_, _≤_}
 use mathlib.Core.Path.{_≡_, refl, ap, sym, _∙_}
-use mathlib.Core.Logic.{_⊎_, inl, inr, _≢_}
-use mathlib.Core.Option.{Option, some}
-use mathlib.Core.List.{List, [], _∷_, _++_, append-assoc, List·Memᴰ, List·Memᴰ·head, List·Memᴰ·tail, List·Memᴰ·not-nil, List·Memᴰ·cases-cons}
+use mathlib.Core.Logic.{_≢_}
+use mathlib.Core.List.{List, [], _∷_, _++_, append-assoc, List·Memᴰ, List·Memᴰ·head, List·Memᴰ·tail}
 use native.Mathlib.Omega.{arith}
-use lib.ListN.{length, getElem?, length-append}
+use lib.ListN.{length}
 use lib.IntN.{ℤ, pos, negsuc}
 use Rattle.qbf.specs.Formula.{Formula}
 use Rattle.formula.specs.Bounds.{proofBound}
@@ -14,82 +13,13 @@ use Rattle.formula.specs.Decode.{clausesOf, formulaOf}
 use Rattle.formula.specs.Decode.Laws.{clauses-no-zero}
 use Rattle.formula.specs.Tables.{zeros}
 use Rattle.formula.specs.Tables.Laws.{zeros-cons}
+use Rattle.checker.specs.Rules.{scratchBound}
 use Rattle.checker.specs.Words.{Words}
-use Rattle.checker.specs.Steps.{Step, resolution, reduction, statedBy, sizeOf}
-use Rattle.checker.specs.Lawful.{Numbered, Lawful, wordsOf, stepWords, numberedClauses, LawfulSteps}
-use Rattle.checker.specs.Lawful.Deciding.{NoZeros, numbered-member}
-use Rattle.checker.specs.Lawful.Running.{numbered-length, words-size, lawful-words, lawful-all-words}
-use Rattle.checker.specs.Refutation.{Refutation, FirstEmpty, Within}
-use Rattle.checker.specs.Verdict.{scratchBound, firstEmpty}
-
--- ---- the first empty clause
-
--- The search for the first empty clause, `n` being the number of the first one here.
-found-from :
-    (n m : ℕ) (known : List Words) → firstEmpty n known ≡ some m
-    → (place : ℕ) × (m ≡ n + place) × (getElem? known place ≡ some []) × ((k : ℕ) → k < place → getElem? known k ≡ some [] → ⊥)
-unfolding firstEmpty
-found-from n m [] h = let z : _≡_ {A = ℕ} 0 1 = cc in absurd (omega arith)
-found-from n m ([] ∷ known) h = (0, number n m h, refl, λ k f. absurd (omega arith))
-  where
-    number : (n m : ℕ) → _≡_ {A = Option ℕ} (some n) (some m) → m ≡ n + 0
-    number n m e = let q : n ≡ m = cc in omega arith
-found-from n m ((x ∷ C) ∷ known) h = go (found-from (suc n) m known h)
-  where
-    earlier : (p : ℕ) → ((k : ℕ) → k < p → getElem? known k ≡ some [] → ⊥) → (k : ℕ) → k < suc p → getElem? ((x ∷ C) ∷ known) k ≡ some [] → ⊥
-    earlier p later zero f e = let z : _≡_ {A = ℕ} 0 1 = cc in absurd (omega arith)
-    earlier p later (suc k) f e = later k (omega arith) e
-
-    go :
-        (place : ℕ) × (m ≡ suc n + place) × (getElem? known place ≡ some []) × ((k : ℕ) → k < place → getElem? known k ≡ some [] → ⊥)
-        → (place : ℕ) × (m ≡ n + place) × (getElem? ((x ∷ C) ∷ known) place ≡ some []) × ((k : ℕ) → k < place → getElem? ((x ∷ C) ∷ known) k ≡ some [] → ⊥)
-    go t = (suc (t .0), let q = t .1 in omega arith, t .2, earlier (t .0) (t .3))
-
-finds-from :
-    (n place : ℕ) (known : List Words) → getElem? known place ≡ some []
-    → ((k : ℕ) → k < place → getElem? known k ≡ some [] → ⊥)
-    → firstEmpty n known ≡ some (n + place)
-unfolding firstEmpty
-finds-from n place [] e h = let z : _≡_ {A = ℕ} 0 1 = cc in absurd (omega arith)
-finds-from n zero ([] ∷ known) e h = ap {B = Option ℕ} some (let q : n ≡ n + 0 = omega arith in q)
-finds-from n (suc place) ([] ∷ known) e h = absurd (h 0 (omega arith) refl)
-finds-from n zero ((x ∷ C) ∷ known) e h = let z : _≡_ {A = ℕ} 0 1 = cc in absurd (omega arith)
-finds-from n (suc place) ((x ∷ C) ∷ known) e h =
-    finds-from (suc n) place known e (λ k f. h (suc k) (omega arith))
-    ∙ ap {B = Option ℕ} some (let q : suc n + place ≡ n + suc place = omega arith in q)
-
-pub first-empty-sound : (known : List Words) (n : ℕ) → firstEmpty 1 known ≡ some n → FirstEmpty known n
-first-empty-sound known n h = let t = found-from 1 n known h in record { place = t .0; is = let e = t .1 in omega arith; empty = t .2; earlier = t .3 }
-
-pub first-empty-complete : (known : List Words) (n : ℕ) → FirstEmpty known n → firstEmpty 1 known ≡ some n
-first-empty-complete known n f =
-    finds-from 1 (f .place) known (f .empty) (f .earlier) ∙ ap {B = Option ℕ} some (let q : 1 + f .place ≡ n = let e = f .is in omega arith in q)
-
--- Where some clause is empty, one is the first.
-empty-found : (n : ℕ) (known : List Words) → List·Memᴰ [] known → (m : ℕ) × (firstEmpty n known ≡ some m)
-unfolding firstEmpty
-empty-found n [] m = absurd (List·Memᴰ·not-nil m)
-empty-found n ([] ∷ known) m = (n, refl)
-empty-found n ((x ∷ C) ∷ known) m = empty-found (suc n) known (later (List·Memᴰ·cases-cons m))
-  where
-    later : (_≡_ {A = Words} [] (x ∷ C)) ⊎ List·Memᴰ [] known → List·Memᴰ [] known
-    later (inl e) = let z : _≡_ {A = ℕ} 0 1 = cc in absurd (omega arith)
-    later (inr k) = k
-
-pub empty-first : (known : List Words) → List·Memᴰ [] known → (n : ℕ) × FirstEmpty known n
-empty-first known m = let t = empty-found 1 known m in (t .0, first-empty-sound known (t .0) (t .1))
-
--- ---- words and 0s of steps
-
--- A step has four words at least.
-pub steps-size : (steps : List Step) → 4 * length steps ≤ length (stepWords steps)
-unfolding stepWords
-steps-size [] = omega arith
-steps-size (s ∷ steps) = omega (arith, steps-size steps, length-append (wordsOf s) (stepWords steps), words-size s, four s)
-  where
-    four : (s : Step) → 4 ≤ sizeOf s
-    four (resolution i j e L) = omega arith
-    four (reduction i a L) = omega arith
+use Rattle.checker.specs.Steps.{Step, resolution, reduction, statedBy}
+use Rattle.checker.specs.Steps.Written.{steps-size}
+use Rattle.checker.specs.Lawful.{Numbered, Lawful, wordsOf, stepWords, numberedClauses, LawfulSteps, NoZeros}
+use Rattle.checker.specs.Lawful.Laws.{numbered-member, numbered-length, lawful-words, lawful-all-words}
+use Rattle.checker.specs.Refutation.{Refutation, Within}
 
 -- A clause offset for each input clause and for each four step words is room enough.
 pub words-within :

@@ -16,14 +16,16 @@ use Rattle.formula.specs.Decode.{formulaOf, clausesOf}
 use Rattle.formula.specs.declared.refusal.Reason.{Reason}
 use Rattle.checker.specs.declared.step.StepAnswer.{StepAnswer}
 use Rattle.checker.specs.declared.step.StepAnswer.the-variants.{Right as RightStep, Wrong as WrongStep}
+use Rattle.checker.specs.Rules.{plainRules}
 use Rattle.checker.specs.Words.{Words}
 use Rattle.checker.specs.Words.Places.{clauseAt}
 use Rattle.checker.specs.Steps.{Scope, Step, resolution, reduction, statedBy, sizeOf, judge, Judged, right, wrong, judgeFirst, run, refused}
-use Rattle.checker.specs.Steps.Running.{run-right, run-wrong}
-use Rattle.checker.specs.Lawful.Deciding.{NoZeros, judge-lawful}
-use Rattle.checker.specs.Lawful.Running.{AllWords, lawful-all-words, rightly}
+use Rattle.checker.specs.Steps.Run.{run-right, run-wrong, rightly}
+use Rattle.checker.specs.Lawful.{AllWords, NoZeros}
+use Rattle.checker.specs.Lawful.Laws.{lawful-all-words}
+use Rattle.checker.specs.Lawful.Judged.{judge-lawful}
 use Rattle.checker.specs.Verdict.{scopeOf, firstEmpty}
-use Rattle.checker.specs.Verdict.Deciding.{scope-decides}
+use Rattle.checker.specs.Verdict.TableScope.{scope-decides}
 use Rattle.checker.specs.Numbered.{storedAt, stored}
 use Rattle.checker.specs.Numbered.Laws.{stored-length, stored-get, stored-step}
 use Rattle.checker.specs.Marks.Judging.{InRange}
@@ -41,7 +43,7 @@ in-range-nonzero known all C m x k e = let r = all C m x k in let z : natAbs x �
 -- What a right answer says.
 pub record Taken (S : Scope) (room : ℕ) (known : List Words) (steps : Words) (at list next : ℕ) : Type 0 where
   pub taken : Step
-  pub first : judgeFirst S room known (drop at steps) ≡ right taken
+  pub first : judgeFirst plainRules S room known (drop at steps) ≡ right taken
   pub judged : judge S known taken ≡ none
   pub fits : length known < room
   pub statement : clauseAt steps list ≡ statedBy taken
@@ -50,8 +52,8 @@ pub record Taken (S : Scope) (room : ℕ) (known : List Words) (steps : Words) (
   pub onward : at < next
 
 module _ (S : Scope) (room : ℕ) (known : List Words) (steps : Words) (at : ℕ) (within : at < length steps) where
-  pub right-taken : (list next : ℕ) → RightStep list next ≡ stepAnswer at (judgeFirst S room known (drop at steps)) → Taken S room known steps at list next
-  right-taken list next h = go (judgeFirst S room known (drop at steps)) refl h
+  pub right-taken : (list next : ℕ) → RightStep list next ≡ stepAnswer at (judgeFirst plainRules S room known (drop at steps)) → Taken S room known steps at list next
+  right-taken list next h = go (judgeFirst plainRules S room known (drop at steps)) refl h
     where
       list-of : StepAnswer → ℕ
       list-of (RightStep a b) = a
@@ -65,10 +67,10 @@ module _ (S : Scope) (room : ℕ) (known : List Words) (steps : Words) (at : ℕ
       larger (resolution i j e L) = omega arith
       larger (reduction i a L) = omega arith
 
-      go : (j : Judged) → judgeFirst S room known (drop at steps) ≡ j → RightStep list next ≡ stepAnswer at j → Taken S room known steps at list next
+      go : (j : Judged) → judgeFirst plainRules S room known (drop at steps) ≡ j → RightStep list next ≡ stepAnswer at j → Taken S room known steps at list next
       go (wrong r) e q = let z : _≡_ {A = ℕ} 0 1 = cc in absurd (omega arith)
       go (right s) e q =
-          let r = rightly S room known (drop at steps) s e in
+          let r = rightly plainRules S room known (drop at steps) s e in
           let p = step-places steps at within s (r .was-read) in
           let l : list ≡ listOf at s = ap list-of q in
           let n : next ≡ at + sizeOf s = ap next-of q in
@@ -83,18 +85,18 @@ module _ (S : Scope) (room : ℕ) (known : List Words) (steps : Words) (at : ℕ
             onward = rw n (larger s);
           }
 
-  pub wrong-run : (r : Reason) → WrongStep r ≡ stepAnswer at (judgeFirst S room known (drop at steps)) → run S room known zero (drop at steps) ≡ refused (refusal r (suc (length known)))
-  wrong-run r h = go (judgeFirst S room known (drop at steps)) refl h
+  pub wrong-run : (r : Reason) → WrongStep r ≡ stepAnswer at (judgeFirst plainRules S room known (drop at steps)) → run plainRules S room known zero (drop at steps) ≡ refused (refusal r (suc (length known)))
+  wrong-run r h = go (judgeFirst plainRules S room known (drop at steps)) refl h
     where
       same : (q r : Reason) → WrongStep r ≡ WrongStep q → q ≡ r
       same q r e = cc
 
-      go : (j : Judged) → judgeFirst S room known (drop at steps) ≡ j → WrongStep r ≡ stepAnswer at j → run S room known zero (drop at steps) ≡ refused (refusal r (suc (length known)))
+      go : (j : Judged) → judgeFirst plainRules S room known (drop at steps) ≡ j → WrongStep r ≡ stepAnswer at j → run plainRules S room known zero (drop at steps) ≡ refused (refusal r (suc (length known)))
       go (right s) e q = let z : _≡_ {A = ℕ} 0 1 = cc in absurd (omega arith)
       go (wrong p) e q = refuse (drop-cons steps at (pos 0) within) (e ∙ ap wrong (same p r q))
         where
-          refuse : drop at steps ≡ getD steps at (pos 0) ∷ drop (suc at) steps → judgeFirst S room known (drop at steps) ≡ wrong r → run S room known zero (drop at steps) ≡ refused (refusal r (suc (length known)))
-          refuse d j = rw d (run-wrong S room known (getD steps at (pos 0)) (drop (suc at) steps) r (rw d at j))
+          refuse : drop at steps ≡ getD steps at (pos 0) ∷ drop (suc at) steps → judgeFirst plainRules S room known (drop at steps) ≡ wrong r → run plainRules S room known zero (drop at steps) ≡ refused (refusal r (suc (length known)))
+          refuse d j = rw d (run-wrong plainRules S room known (getD steps at (pos 0)) (drop (suc at) steps) r (rw d at j))
 
 -- The run after a right step, with its start kept.
 module _ (prefix clauses steps : List ℤ) (inputs : ℕ) (starts : List ℕ) (known at list next : ℕ)
@@ -108,11 +110,11 @@ module _ (prefix clauses steps : List ℤ) (inputs : ℕ) (starts : List ℕ) (k
       rw (add-one known) (stored-step inputs clauses steps starts known list past room-left ∙ ap (λ (C : Words). stored inputs clauses steps starts known ++ (C ∷ [])) (taken .statement))
 
   pub taken-run :
-      run (scopeOf prefix clauses) (length starts) (stored inputs clauses steps starts known) zero (drop at steps)
-      ≡ run (scopeOf prefix clauses) (length starts) (stored inputs clauses steps (set starts known list) (known + 1)) zero (drop next steps)
+      run plainRules (scopeOf prefix clauses) (length starts) (stored inputs clauses steps starts known) zero (drop at steps)
+      ≡ run plainRules (scopeOf prefix clauses) (length starts) (stored inputs clauses steps (set starts known list) (known + 1)) zero (drop next steps)
   taken-run =
-      run-right (scopeOf prefix clauses) (length starts) (stored inputs clauses steps starts known) (drop at steps) (taken .taken) (taken .first)
-      ∙ ap₂ (λ (Cs : List Words) (ws : Words). run (scopeOf prefix clauses) (length starts) Cs zero ws) (sym taken-stored) (drop-drop (sizeOf (taken .taken)) at steps ∙ ap (λ (n : ℕ). drop n steps) (sym (taken .after)))
+      run-right plainRules (scopeOf prefix clauses) (length starts) (stored inputs clauses steps starts known) (drop at steps) (taken .taken) (taken .first)
+      ∙ ap₂ (λ (Cs : List Words) (ws : Words). run plainRules (scopeOf prefix clauses) (length starts) Cs zero ws) (sym taken-stored) (drop-drop (sizeOf (taken .taken)) at steps ∙ ap (λ (n : ℕ). drop n steps) (sym (taken .after)))
 
   pub taken-in-range : AllWords InRange (stored inputs clauses steps starts known) → AllWords InRange (stored inputs clauses steps (set starts known list) (known + 1))
   taken-in-range all =
@@ -168,8 +170,8 @@ module _ (inputs : ℕ) (clauses steps : Words) (starts : List ℕ) (known k : �
 -- The run under way: what is left to run comes to the same as the whole; `room` is the length of the starts.
 pub record Going (prefix clauses steps : List ℤ) (inputs room : ℕ) (scratch starts : List ℕ) (known at : ℕ) : Type 0 where
   pub whole :
-      run (scopeOf prefix clauses) room (clausesOf clauses) zero steps
-      ≡ run (scopeOf prefix clauses) room (stored inputs clauses steps starts known) zero (drop at steps)
+      run plainRules (scopeOf prefix clauses) room (clausesOf clauses) zero steps
+      ≡ run plainRules (scopeOf prefix clauses) room (stored inputs clauses steps starts known) zero (drop at steps)
   pub ready : Ready prefix scratch
   pub room-is : length starts ≡ room
   pub past : inputs ≤ known
@@ -214,7 +216,7 @@ module _ (prefix clauses steps : List ℤ) (inputs room : ℕ) (scratch starts :
   -- A wrong one ends the run.
   pub going-refused :
       (r : Reason) → at < length steps
-      → WrongStep r ≡ stepAnswer at (judgeFirst (scopeOf prefix clauses) (length starts) (stored inputs clauses steps starts known) (drop at steps))
+      → WrongStep r ≡ stepAnswer at (judgeFirst plainRules (scopeOf prefix clauses) (length starts) (stored inputs clauses steps starts known) (drop at steps))
       → RunDone prefix clauses steps inputs (Refused (refusal r (known + 1))) starts
   going-refused r h e =
       let w = wrong-run (scopeOf prefix clauses) (length starts) (stored inputs clauses steps starts known) steps at h r e in

@@ -22,13 +22,14 @@ use Rattle.formula.specs.declared.literal.Word.{Word}
 use Rattle.formula.specs.declared.literal.Word.the-variants.{Zero, TooLarge, Positive, Negative}
 use Rattle.formula.specs.declared.refusal.Reason.{Reason}
 use Rattle.formula.specs.declared.refusal.Reason.the-variants.{WrongPivot, BrokenStep, NoRoom}
+use Rattle.checker.specs.Rules.{plainRules}
 use Rattle.checker.specs.Words.{Words, holds}
 use Rattle.checker.specs.Words.Places.{clauseAt}
 use Rattle.checker.specs.declared.result.Judgement.the-variants.{Right, Wrong}
 use Rattle.checker.specs.declared.step.StepAnswer.the-variants.{Right as RightStep, Wrong as WrongStep}
 use Rattle.checker.specs.Steps.{Scope, Step, sizeOf, readStep, resolvent, positiveExistential, unless, judgeResolution, judgeReduction, judge, judgeFirst}
-use Rattle.checker.specs.Lawful.Deciding.{found-member}
-use Rattle.checker.specs.Lawful.Running.{AllWords}
+use Rattle.checker.specs.Lawful.{AllWords}
+use Rattle.checker.specs.Lawful.Laws.{found-member}
 use Rattle.checker.specs.Verdict.{scopeOf}
 use Rattle.checker.specs.Numbered.{tableOf, storedAt, stored}
 use Rattle.checker.specs.Numbered.Laws.{stored-get}
@@ -152,19 +153,19 @@ module _ (prefix clauses : List ℤ) (a : Admitted prefix clauses) where
 
 -- The step's answer, by what was read and judged.
 module _ (S : Scope) (room : ℕ) (known : List Words) (ws : Words) (at : ℕ) where
-  pub step-broken : readStep ws ≡ none → WrongStep BrokenStep ≡ stepAnswer at (judgeFirst S room known ws)
+  pub step-broken : readStep plainRules ws ≡ none → WrongStep BrokenStep ≡ stepAnswer at (judgeFirst plainRules S room known ws)
   unfolding judgeFirst
   step-broken e = rw e
 
-  pub step-no-room : (s : Step) → readStep ws ≡ some s → room ≤ length known → WrongStep NoRoom ≡ stepAnswer at (judgeFirst S room known ws)
+  pub step-no-room : (s : Step) → readStep plainRules ws ≡ some s → room ≤ length known → WrongStep NoRoom ≡ stepAnswer at (judgeFirst plainRules S room known ws)
   unfolding judgeFirst
   step-no-room s e h = rw (e, le-ltb (length known) room h)
 
-  pub step-right : (s : Step) → readStep ws ≡ some s → length known < room → judge S known s ≡ none → RightStep (listOf at s) (at + sizeOf s) ≡ stepAnswer at (judgeFirst S room known ws)
+  pub step-right : (s : Step) → readStep plainRules ws ≡ some s → length known < room → judge S known s ≡ none → RightStep (listOf at s) (at + sizeOf s) ≡ stepAnswer at (judgeFirst plainRules S room known ws)
   unfolding judgeFirst
   step-right s e h j = rw (e, lt-ltb (length known) room h, j)
 
-  pub step-wrong : (s : Step) (r : Reason) → readStep ws ≡ some s → length known < room → judge S known s ≡ some r → WrongStep r ≡ stepAnswer at (judgeFirst S room known ws)
+  pub step-wrong : (s : Step) (r : Reason) → readStep plainRules ws ≡ some s → length known < room → judge S known s ≡ some r → WrongStep r ≡ stepAnswer at (judgeFirst plainRules S room known ws)
   unfolding judgeFirst
   step-wrong s r e h j = rw (e, lt-ltb (length known) room h, j)
 

@@ -1,10 +1,10 @@
--- What an accepted verdict says (01, "Steps"; wish 2) and what makes it, with nothing supposed of tables or room; Exact.antt has the
--- wish as its sentence. The verdict is blocked only where an existential of the clause depends. And wish 3 for the checker: an
+-- What an accepted verdict says (01, "Steps"; wish 2) and what makes it, with nothing supposed of tables or room, by any rules that
+-- write steps with the kinds 1 and 2; Exact.antt has the wish as its sentence, by 01's. The verdict is blocked only where an existential of the clause depends. And wish 3 for the checker: an
 -- accepted proof makes the game lost. Assumes nothing.
 use Prim.Native.Nat.{ℕ, zero, suc, _+_, _-_, _≤_}
 use mathlib.Core.Path.{_≡_, refl, ap, sym, _∙_}
 use mathlib.Core.Logic.{_≢_}
-use mathlib.Core.Bool.{Bool, true, false}
+use mathlib.Core.Bool.{Bool, true}
 use mathlib.Core.Option.{Option, none, some}
 use mathlib.Core.List.{List, [], List·Memᴰ, Memᴰ·map, Memᴰ·of-map}
 use native.Mathlib.Omega.{arith}
@@ -21,40 +21,40 @@ use Rattle.formula.specs.Decode.{literalOf, clauseOf, clausesOf, formulaOf}
 use Rattle.formula.specs.Decode.Laws.{magnitude-negated, clauses-no-zero}
 use Rattle.formula.specs.Tables.{zeros, tablesRefusal, Admitted}
 use Rattle.formula.specs.Tables.Laws.{admitted-closed, admitted-clause-distinct, admitted-proper}
-use Rattle.formula.specs.Refusal.{refusal, number}
+use Rattle.formula.specs.Refusal.{refusal, require, number}
 use Rattle.formula.specs.declared.refusal.Refusal.{Refusal}
 use Rattle.formula.specs.declared.refusal.Reason.the-variants.{Oversized, NoRoom, NoConclusion, Blocked}
 use Rattle.checker.specs.declared.verdict.Verdict.{Verdict}
 use Rattle.checker.specs.declared.verdict.Verdict.the-variants.{Accepted, Refused}
+use Rattle.checker.specs.Rules.{Rules, PlainKinds}
+use Rattle.checker.specs.Rules.Laws.{require-passed}
 use Rattle.checker.specs.Words.{Words}
 use Rattle.checker.specs.Steps.{Outcome, ended, refused, run}
 use Rattle.checker.specs.Steps.Tests.{opposite-zero}
 use Rattle.checker.specs.Lawful.{numberedClauses}
-use Rattle.checker.specs.Lawful.Deciding.{found-member}
-use Rattle.checker.specs.Lawful.Running.{numbered-length, run-lawful, lawful-run, run-blocked, RunEnds, RunBlocked}
+use Rattle.checker.specs.Lawful.Laws.{numbered-length}
+use Rattle.checker.specs.Lawful.Steps.{run-lawful, lawful-run, run-blocked, RunEnds, RunBlocked}
 use Rattle.checker.specs.Derived.{AllDerived, lawful-steps-derived, derived-lost}
 use Rattle.checker.specs.Refutation.{Refutation, FirstEmpty}
-use Rattle.checker.specs.Refutation.Laws.{first-empty-sound, first-empty-complete}
-use Rattle.checker.specs.Verdict.{scopeOf, scratchBound, firstEmpty, concluded, conclude, ifAdmitted, ifFits, sizedVerdict, verdictOf}
-use Rattle.checker.specs.Verdict.Deciding.{scope-decides}
+use Rattle.checker.specs.Refutation.FirstEmptyClause.{first-empty-sound, first-empty-complete, first-empty-member}
+use Rattle.checker.specs.Verdict.{scopeOf, firstEmpty, concluded, conclude, ifAdmitted, sizedVerdict, verdictOf}
+use Rattle.checker.specs.Verdict.TableScope.{scope-decides}
 use Rattle.checker.specs.Verdict.Early.{tables-early}
 
 -- What an accepted verdict says: admitted tables, bounds and room, and a refutation; `empty` is the first empty clause's number,
 -- `count` the number of steps.
-pub record Accepting (prefix clauses words : List ℤ) (scratch starts empty count : ℕ) : Type 0 where
+pub record Accepting (rules : Rules) (prefix clauses words : List ℤ) (scratch starts empty count : ℕ) : Type 0 where
   pub admitted : Admitted prefix clauses
   pub sized : length words ≤ proofBound
-  pub scratch-fits : scratchBound ≤ scratch
+  pub scratch-fits : rules .scratch ≤ scratch
   pub refutation : Refutation prefix clauses words
   pub starts-fit : length (numberedClauses (clausesOf clauses) (refutation .steps)) ≤ starts
-  pub first-empty : FirstEmpty (numberedClauses (clausesOf clauses) (refutation .steps)) empty
+  pub place : ℕ
+  pub place-numbered : empty ≡ suc place
+  pub first-empty : FirstEmpty (numberedClauses (clausesOf clauses) (refutation .steps)) place
   pub counted : count ≡ length (refutation .steps)
 
 -- The order of refusals, taken apart.
-fits-passed : (b : Bool) (r : Refusal) (later v : Verdict) → v ≢ Refused r → ifFits b r later ≡ v → (b ≡ true) × (later ≡ v)
-fits-passed true r later v n h = (refl, h)
-fits-passed false r later v n h = absurd (n (sym h))
-
 admitted-passed : (o : Option Refusal) (later v : Verdict) → ((r : Refusal) → o ≡ some r → v ≢ Refused r) → ifAdmitted o later ≡ v → (o ≡ none) × (later ≡ v)
 admitted-passed none later v n h = (refl, h)
 admitted-passed (some r) later v n h = absurd (n r refl (sym h))
@@ -72,48 +72,51 @@ numbers-same a b c d e = (ap first e, ap second e)
     second (Refused r) = 0
 
 -- What stands before the steps has passed.
-pub record Passed (prefix clauses steps : List ℤ) (scratch room : ℕ) : Type 0 where
+pub record Passed (rules : Rules) (prefix clauses steps : List ℤ) (scratch room : ℕ) : Type 0 where
   pub admitted : Admitted prefix clauses
   pub sized : length steps ≤ proofBound
-  pub scratch-fits : scratchBound ≤ scratch
+  pub scratch-fits : rules .scratch ≤ scratch
   pub inputs-fit : zeros clauses ≤ room
 
-module _ (prefix clauses steps : List ℤ) (scratch room : ℕ) where
+module _ (rules : Rules) (plain : PlainKinds rules) (prefix clauses steps : List ℤ) (scratch room : ℕ) where
   abbrev outcome : Outcome
-  outcome = run (scopeOf prefix clauses) room (clausesOf clauses) zero steps
+  outcome = run rules (scopeOf prefix clauses) room (clausesOf clauses) zero steps
 
   abbrev F : Formula
   F = formulaOf prefix clauses
 
-  pub passed-verdict : Passed prefix clauses steps scratch room → verdictOf prefix clauses steps scratch room ≡ conclude (zeros clauses) outcome
+  pub passed-verdict : Passed rules prefix clauses steps scratch room → verdictOf rules prefix clauses steps scratch room ≡ conclude (zeros clauses) outcome
   unfolding verdictOf sizedVerdict
   passed-verdict p =
       rw (
         p .admitted .passes,
         le-leb (length steps) proofBound (p .sized),
-        le-leb scratchBound scratch (p .scratch-fits),
+        le-leb (rules .scratch) scratch (p .scratch-fits),
         le-leb (zeros clauses) room (p .inputs-fit),
       )
 
   -- A verdict that no test before the steps gave: those refuse with numbers up to 9.
   verdict-passed :
       (v : Verdict) → ((q : Refusal) → number (q .reason) ≤ 9 → v ≢ Refused q)
-      → verdictOf prefix clauses steps scratch room ≡ v
-      → Passed prefix clauses steps scratch room × (conclude (zeros clauses) outcome ≡ v)
+      → verdictOf rules prefix clauses steps scratch room ≡ v
+      → Passed rules prefix clauses steps scratch room × (conclude (zeros clauses) outcome ≡ v)
   unfolding verdictOf sizedVerdict
   verdict-passed v n h =
       let a = admitted-passed (tablesRefusal prefix clauses) _ v (λ r e. n r (tables-early prefix clauses r e)) h in
-      let b = fits-passed (leb (length steps) proofBound) (refusal Oversized 0) _ v (n (refusal Oversized 0) (omega arith)) (a .1) in
-      let c = fits-passed (leb scratchBound scratch) (refusal NoRoom 0) _ v (n (refusal NoRoom 0) (omega arith)) (b .1) in
-      let d = fits-passed (leb (zeros clauses) room) (refusal NoRoom (suc room)) _ v (n (refusal NoRoom (suc room)) (omega arith)) (c .1) in (
+      let b = test (leb (length steps) proofBound) (refusal Oversized 0) (omega arith) _ (a .1) in
+      let c = test (leb (rules .scratch) scratch) (refusal NoRoom 0) (omega arith) _ (b .1) in
+      let d = test (leb (zeros clauses) room) (refusal NoRoom (suc room)) (omega arith) _ (c .1) in (
         record {
           admitted = record { passes = a .0 };
           sized = leb-true (length steps) proofBound (b .0);
-          scratch-fits = leb-true scratchBound scratch (c .0);
+          scratch-fits = leb-true (rules .scratch) scratch (c .0);
           inputs-fit = leb-true (zeros clauses) room (d .0);
         },
         d .1,
       )
+    where
+      test : (b : Bool) (q : Refusal) → number (q .reason) ≤ 9 → (later : Verdict) → require b (Refused q) later ≡ v → (b ≡ true) × (later ≡ v)
+      test b q small later e = require-passed b (Refused q) later v (λ k. n q small (sym k)) e
 
   accepted-apart : (n m : ℕ) (q : Refusal) → Accepted (record { 0 = n }) m ≢ Refused q
   accepted-apart n m q e = let z : _≡_ {A = ℕ} 0 1 = cc in omega arith
@@ -124,23 +127,23 @@ module _ (prefix clauses steps : List ℤ) (scratch room : ℕ) where
 
   -- Accepted: the words are a refutation.
   pub accepted-refutation :
-      (n m : ℕ) → verdictOf prefix clauses steps scratch room ≡ Accepted (record { 0 = n }) m
-      → Accepting prefix clauses steps scratch room n m
+      (n m : ℕ) → verdictOf rules prefix clauses steps scratch room ≡ Accepted (record { 0 = n }) m
+      → Accepting rules prefix clauses steps scratch room n m
   accepted-refutation n m h =
       let p = verdict-passed (Accepted (record { 0 = n }) m) (λ q small. accepted-apart n m q) h in
       go (p .0) outcome refl (p .1)
     where
       finish :
-          Passed prefix clauses steps scratch room
+          Passed rules prefix clauses steps scratch room
           → (final : List Words) → RunEnds F room final (clausesOf clauses) steps
           → (o : Option ℕ) → firstEmpty 1 final ≡ o
           → concluded (zeros clauses) final o ≡ Accepted (record { 0 = n }) m
-          → Accepting prefix clauses steps scratch room n m
+          → Accepting rules prefix clauses steps scratch room n m
       finish p final ends none f k = absurd (accepted-apart n m (refusal NoConclusion (length final)) (sym k))
       finish p final ends (some k) f q =
           let same = numbers-same k (length final - zeros clauses) n m q in
           let inputs : length (clausesOf clauses) ≡ zeros clauses = admitted-closed prefix clauses (p .admitted) in
-          let first : FirstEmpty final n = rw (← same .0) (first-empty-sound final k f) in
+          let first = first-empty-sound final k f in
           let size : length final ≡ length (clausesOf clauses) + length (ends .steps) = rw (← ends .numbered) (numbered-length (clausesOf clauses) (ends .steps)) in
           let counts = same .1 in
           record {
@@ -152,40 +155,42 @@ module _ (prefix clauses steps : List ℤ) (scratch room : ℕ) where
                   steps = ends .steps;
                   written = ends .written;
                   lawful = ends .lawful;
-                  some-empty = rw (ends .numbered) (found-member final (first .place) [] (first .empty));
+                  some-empty = rw (ends .numbered) (first-empty-member final (first .0) (first .2));
                 };
             starts-fit = rw (ends .numbered) (ends .fits (rw inputs (p .inputs-fit)));
-            first-empty = rw (ends .numbered) first;
+            place = first .0;
+            place-numbered = sym (same .0) ∙ first .1;
+            first-empty = rw (ends .numbered) (first .2);
             counted = omega arith;
           }
 
-      go : Passed prefix clauses steps scratch room → (o : Outcome) → outcome ≡ o → conclude (zeros clauses) o ≡ Accepted (record { 0 = n }) m → Accepting prefix clauses steps scratch room n m
+      go : Passed rules prefix clauses steps scratch room → (o : Outcome) → outcome ≡ o → conclude (zeros clauses) o ≡ Accepted (record { 0 = n }) m → Accepting rules prefix clauses steps scratch room n m
       go p (ended final) e k =
-          finish p final (run-lawful (scopeOf prefix clauses) F (scope-decides prefix clauses) room final (clausesOf clauses) zero steps inputs-no-zero e) (firstEmpty 1 final) refl k
+          finish p final (run-lawful rules plain (scopeOf prefix clauses) F (scope-decides prefix clauses) room final (clausesOf clauses) steps inputs-no-zero e) (firstEmpty 1 final) refl k
       go p (refused r) e k = absurd (accepted-apart n m r (sym k))
 
-  -- A refutation is accepted.
+  -- A refutation is accepted, where steps may follow an empty clause.
   pub refutation-accepted :
-      (n m : ℕ) → Accepting prefix clauses steps scratch room n m
-      → verdictOf prefix clauses steps scratch room ≡ Accepted (record { 0 = n }) m
-  refutation-accepted n m r =
+      rules .afterwards ≡ none → (n m : ℕ) → Accepting rules prefix clauses steps scratch room n m
+      → verdictOf rules prefix clauses steps scratch room ≡ Accepted (record { 0 = n }) m
+  refutation-accepted goes-on n m r =
       let list = r .refutation .steps in
       let known = numberedClauses (clausesOf clauses) list in
       let fits = r .starts-fit in
       let inputs : length (clausesOf clauses) ≡ zeros clauses = admitted-closed prefix clauses (r .admitted) in
       let size : length known ≡ length (clausesOf clauses) + length list = numbered-length (clausesOf clauses) list in
       let ran : outcome ≡ ended known =
-      rw (r .refutation .written) (lawful-run (scopeOf prefix clauses) F (scope-decides prefix clauses) room list (clausesOf clauses) (r .refutation .lawful) inputs-no-zero (omega arith)) in
-      let first : firstEmpty 1 known ≡ some n = first-empty-complete known n (r .first-empty) in
+      rw (r .refutation .written) (lawful-run rules plain (scopeOf prefix clauses) F (scope-decides prefix clauses) room goes-on list (clausesOf clauses) (r .refutation .lawful) inputs-no-zero (omega arith)) in
+      let first : firstEmpty 1 known ≡ some n = first-empty-complete known (r .place) (r .first-empty) ∙ ap {B = Option ℕ} some (sym (r .place-numbered)) in
       let counts : length known - zeros clauses ≡ m = let c = r .counted in omega arith in
       passed-verdict (record { admitted = r .admitted; sized = r .sized; scratch-fits = r .scratch-fits; inputs-fit = omega arith })
       ∙ rw (ran, first, counts)
 
   -- Refused as blocked: after lawful steps stands a reduction whose clause holds an existential that depends.
   pub blocked-depends :
-      (place : ℕ) → verdictOf prefix clauses steps scratch room ≡ Refused (refusal Blocked place)
+      rules .afterwards ≢ some Blocked → (place : ℕ) → verdictOf rules prefix clauses steps scratch room ≡ Refused (refusal Blocked place)
       → RunBlocked F (clausesOf clauses) steps place
-  blocked-depends place h = go outcome refl (verdict-passed (Refused (refusal Blocked place)) late h .1)
+  blocked-depends apart place h = go outcome refl (verdict-passed (Refused (refusal Blocked place)) late h .1)
     where
       late : (q : Refusal) → number (q .reason) ≤ 9 → Refused (refusal Blocked place) ≢ Refused q
       late q small e =
@@ -206,24 +211,26 @@ module _ (prefix clauses steps : List ℤ) (scratch room : ℕ) where
       go : (o : Outcome) → outcome ≡ o → conclude (zeros clauses) o ≡ Refused (refusal Blocked place) → RunBlocked F (clausesOf clauses) steps place
       go (ended final) e k = absurd (finish final (firstEmpty 1 final) k)
       go (refused r) e k =
-          run-blocked (scopeOf prefix clauses) F (scope-decides prefix clauses) room (clausesOf clauses) zero steps place inputs-no-zero
+          run-blocked rules plain (scopeOf prefix clauses) F (scope-decides prefix clauses) room apart (clausesOf clauses) steps place inputs-no-zero
           (e ∙ ap refused (same r (refusal Blocked place) k))
 
   -- The input clauses of tables that pass are derived.
   pub inputs-derived : Admitted prefix clauses → AllDerived F (clausesOf clauses)
-  inputs-derived a C m =
-      record {
-        derivation = leaf (clauseOf C);
-        valid = Memᴰ·map clauseOf m;
-        concluded = λ x k. Memᴰ·map literalOf k;
-        conclusion = λ l k. Memᴰ·of-map literalOf C k;
-        nonzero = inputs-no-zero C m;
-        one-sign = λ x k i. inputs-no-zero C m x k (opposite-zero x (sym (distinct-images natAbs C (admitted-clause-distinct prefix clauses a C m) k i (sym (magnitude-negated x)))));
-      }
+  inputs-derived a C m = (
+    leaf (clauseOf C),
+    record {
+      valid = Memᴰ·map clauseOf m;
+      concluded = λ x k. Memᴰ·map literalOf k;
+      conclusion = λ l k. Memᴰ·of-map literalOf C k;
+      nonzero = inputs-no-zero C m;
+      one-sign = λ x k i. inputs-no-zero C m x k (opposite-zero x (sym (distinct-images natAbs C (admitted-clause-distinct prefix clauses a C m) k i (sym (magnitude-negated x)))));
+    },
+  )
 
   -- Accepted: the game is lost.
-  pub accepted-lost : (n m : ℕ) → verdictOf prefix clauses steps scratch room ≡ Accepted (record { 0 = n }) m → Lost F
+  pub accepted-lost : (n m : ℕ) → verdictOf rules prefix clauses steps scratch room ≡ Accepted (record { 0 = n }) m → Lost F
   accepted-lost n m h =
       let r = accepted-refutation n m h in
       let derived = lawful-steps-derived F (clausesOf clauses) (r .refutation .steps) (r .refutation .lawful) (inputs-derived (r .admitted)) in
-      derived-lost F (admitted-proper prefix clauses (r .admitted)) (derived [] (r .refutation .some-empty))
+      let empty = derived [] (r .refutation .some-empty) in
+      derived-lost F (admitted-proper prefix clauses (r .admitted)) (empty .0) (empty .1)

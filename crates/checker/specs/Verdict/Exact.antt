@@ -1,6 +1,6 @@
 -- Wish 2 as its sentence: within 01's bounds and room, on tables that 01 admits, the verdict is accepted exactly when the step
 -- words are a refutation; its two numbers are then those of the refutation. Definitions: Refutation.antt. Assumes nothing.
-use Prim.Native.Nat.{ℕ}
+use Prim.Native.Nat.{ℕ, suc}
 use mathlib.Core.Path.{_≡_, refl, sym, _∙_}
 use mathlib.Core.Logic.{_↔_}
 use mathlib.Core.List.{List}
@@ -10,9 +10,11 @@ use Rattle.formula.specs.Decode.{clausesOf}
 use Rattle.formula.specs.Tables.{Admitted}
 use Rattle.checker.specs.declared.verdict.Verdict.{Verdict}
 use Rattle.checker.specs.declared.verdict.Verdict.the-variants.{Accepted}
+use Rattle.checker.specs.Rules.{plainRules}
+use Rattle.checker.specs.Rules.Laws.{plain-kinds}
 use Rattle.checker.specs.Lawful.{numberedClauses}
 use Rattle.checker.specs.Refutation.{Refutation, FirstEmpty, Within}
-use Rattle.checker.specs.Refutation.Laws.{empty-first}
+use Rattle.checker.specs.Refutation.FirstEmptyClause.{empty-first}
 use Rattle.checker.specs.Verdict.{verdictOf}
 use Rattle.checker.specs.Verdict.Accuracy.{numbers-same, accepted-refutation, refutation-accepted}
 
@@ -24,33 +26,35 @@ pub record IsAccepted (v : Verdict) : Type 0 where
 
 module _ (prefix clauses words : List ℤ) (scratch starts : ℕ) (admitted : Admitted prefix clauses) (within : Within clauses words scratch starts) where
   refuted :
-      (r : Refutation prefix clauses words) (n : ℕ) → FirstEmpty (numberedClauses (clausesOf clauses) (r .steps)) n
-      → verdictOf prefix clauses words scratch starts ≡ Accepted (record { 0 = n }) (length (r .steps))
-  refuted r n f =
-      refutation-accepted prefix clauses words scratch starts n (length (r .steps))
+      (r : Refutation prefix clauses words) (place : ℕ) → FirstEmpty (numberedClauses (clausesOf clauses) (r .steps)) place
+      → verdictOf plainRules prefix clauses words scratch starts ≡ Accepted (record { 0 = suc place }) (length (r .steps))
+  refuted r place f =
+      refutation-accepted plainRules plain-kinds prefix clauses words scratch starts refl (suc place) (length (r .steps))
       (record {
         admitted = admitted;
         sized = within .sized;
         scratch-fits = within .scratch-fits;
         refutation = r;
         starts-fit = within .starts-fit (r .steps) (r .written);
+        place = place;
+        place-numbered = refl;
         first-empty = f;
         counted = refl;
       })
 
-  pub accepted-exactly : IsAccepted (verdictOf prefix clauses words scratch starts) ↔ Refutation prefix clauses words
+  pub accepted-exactly : IsAccepted (verdictOf plainRules prefix clauses words scratch starts) ↔ Refutation prefix clauses words
   accepted-exactly = (
-    λ a. accepted-refutation prefix clauses words scratch starts (a .empty) (a .count) (a .accepted) .refutation,
+    λ a. accepted-refutation plainRules plain-kinds prefix clauses words scratch starts (a .empty) (a .count) (a .accepted) .refutation,
     λ r. let f = empty-first (numberedClauses (clausesOf clauses) (r .steps)) (r .some-empty) in
-        record { empty = f .0; count = length (r .steps); accepted = refuted r (f .0) (f .1) },
+        record { empty = suc (f .0); count = length (r .steps); accepted = refuted r (f .0) (f .1) },
   )
 
   -- The number of steps, and the number of the first empty clause.
   pub accepted-numbers :
-      (empty count : ℕ) → verdictOf prefix clauses words scratch starts ≡ Accepted (record { 0 = empty }) count
+      (empty count : ℕ) → verdictOf plainRules prefix clauses words scratch starts ≡ Accepted (record { 0 = empty }) count
       → (r : Refutation prefix clauses words)
-      → (count ≡ length (r .steps)) × FirstEmpty (numberedClauses (clausesOf clauses) (r .steps)) empty
+      → (count ≡ length (r .steps)) × ((place : ℕ) × (empty ≡ suc place) × FirstEmpty (numberedClauses (clausesOf clauses) (r .steps)) place)
   accepted-numbers empty count h r =
       let f = empty-first (numberedClauses (clausesOf clauses) (r .steps)) (r .some-empty) in
-      let same = numbers-same empty count (f .0) (length (r .steps)) (sym h ∙ refuted r (f .0) (f .1)) in
-      (same .1, rw (same .0) (f .1))
+      let same = numbers-same empty count (suc (f .0)) (length (r .steps)) (sym h ∙ refuted r (f .0) (f .1)) in
+      (same .1, (f .0, same .0, f .1))

@@ -14,6 +14,7 @@ use Rattle.formula.specs.Tables.{isIn, zeros, prefixRefusal, clausesRefusal, ta
 use Rattle.formula.specs.Refusal.{refusal}
 use Rattle.formula.specs.declared.refusal.Reason.the-variants.{NoRoom, WrongPivot, Tautology, Blocked, Misstated, NoConclusion}
 use Rattle.checker.specs.declared.verdict.Verdict.the-variants.{Accepted, Refused}
+use Rattle.checker.specs.Rules.{plainRules}
 use Rattle.checker.specs.Words.{sameWord, holds, without, closes}
 use Rattle.checker.specs.Steps.{readStep, opposed, lists, covers, states, blocked, judgeResolution, judgeReduction, judgeFirst, run}
 use Rattle.checker.specs.Verdict.{firstEmpty, sizedVerdict, verdictOf}
@@ -37,9 +38,9 @@ exampleSteps x =
 
 pub positions :
     -- b: accepted, empty clause 9, 5 steps
-    (verdictOf examplePrefix exampleClauses (exampleSteps (pos 4)) 8200 9 ≡ Accepted (record { 0 = 9 }) 5)
+    (verdictOf plainRules examplePrefix exampleClauses (exampleSteps (pos 4)) 8200 9 ≡ Accepted (record { 0 = 9 }) 5)
     -- d: a dependent existential is in the clause
-    × (verdictOf
+    × (verdictOf plainRules
     (negsuc 0 ∷ negsuc 1 ∷ pos 3 ∷ [])
     (pos 1 ∷ pos 2 ∷ negsuc 2 ∷ pos 0 ∷ negsuc 0 ∷ negsuc 1 ∷ pos 3 ∷ pos 0 ∷ [])
     (pos 2 ∷ pos 1 ∷ pos 1 ∷ pos 2 ∷ negsuc 2 ∷ pos 0 ∷ [])
@@ -47,11 +48,11 @@ pub positions :
     3
     ≡ Refused (refusal Blocked 3))
     -- f: nothing at all
-    × (verdictOf [] [] [] 8200 0 ≡ Refused (refusal NoConclusion 0))
+    × (verdictOf plainRules [] [] [] 8200 0 ≡ Refused (refusal NoConclusion 0))
     -- g: the clause word 0 alone
-    × (verdictOf [] (pos 0 ∷ []) [] 8200 1 ≡ Accepted (record { 0 = 1 }) 0)
+    × (verdictOf plainRules [] (pos 0 ∷ []) [] 8200 1 ≡ Accepted (record { 0 = 1 }) 0)
     -- h: the step is right, no clause is empty
-    × (verdictOf
+    × (verdictOf plainRules
     (pos 1 ∷ negsuc 1 ∷ [])
     (pos 1 ∷ pos 2 ∷ pos 0 ∷ [])
     (pos 2 ∷ pos 1 ∷ pos 2 ∷ pos 1 ∷ pos 0 ∷ [])
@@ -59,9 +60,9 @@ pub positions :
     2
     ≡ Refused (refusal NoConclusion 2))
     -- i: the empty clause is the step's
-    × (verdictOf (negsuc 0 ∷ []) (pos 1 ∷ pos 0 ∷ []) (pos 2 ∷ pos 1 ∷ pos 1 ∷ pos 0 ∷ []) 8200 2 ≡ Accepted (record { 0 = 2 }) 1)
+    × (verdictOf plainRules (negsuc 0 ∷ []) (pos 1 ∷ pos 0 ∷ []) (pos 2 ∷ pos 1 ∷ pos 1 ∷ pos 0 ∷ []) 8200 2 ≡ Accepted (record { 0 = 2 }) 1)
     -- j: a universal pivot
-    × (verdictOf
+    × (verdictOf plainRules
     (negsuc 0 ∷ [])
     (pos 1 ∷ pos 0 ∷ negsuc 0 ∷ pos 0 ∷ [])
     (pos 1 ∷ pos 1 ∷ pos 2 ∷ pos 1 ∷ pos 0 ∷ [])
@@ -69,7 +70,7 @@ pub positions :
     3
     ≡ Refused (refusal WrongPivot 3))
     -- k: the result holds 2 and −2
-    × (verdictOf
+    × (verdictOf plainRules
     (pos 1 ∷ pos 2 ∷ [])
     (pos 1 ∷ pos 2 ∷ pos 0 ∷ negsuc 0 ∷ negsuc 1 ∷ pos 0 ∷ [])
     (pos 1 ∷ pos 1 ∷ pos 2 ∷ pos 1 ∷ pos 2 ∷ negsuc 1 ∷ pos 0 ∷ [])
@@ -77,10 +78,10 @@ pub positions :
     3
     ≡ Refused (refusal Tautology 3))
     -- the checklist: b with its second step's 4 made 3
-    × (verdictOf examplePrefix exampleClauses (exampleSteps (pos 3)) 8200 9 ≡ Refused (refusal Misstated 6))
+    × (verdictOf plainRules examplePrefix exampleClauses (exampleSteps (pos 3)) 8200 9 ≡ Refused (refusal Misstated 6))
     -- scratch of 8,199 bytes is short; starts are short by one, at an input clause and at the last step
-    × (verdictOf examplePrefix exampleClauses (exampleSteps (pos 4)) 8199 9 ≡ Refused (refusal NoRoom 0))
-    × (verdictOf examplePrefix exampleClauses (exampleSteps (pos 4)) 8200 3 ≡ Refused (refusal NoRoom 4))
-    × (verdictOf examplePrefix exampleClauses (exampleSteps (pos 4)) 8200 8 ≡ Refused (refusal NoRoom 9))
+    × (verdictOf plainRules examplePrefix exampleClauses (exampleSteps (pos 4)) 8199 9 ≡ Refused (refusal NoRoom 0))
+    × (verdictOf plainRules examplePrefix exampleClauses (exampleSteps (pos 4)) 8200 3 ≡ Refused (refusal NoRoom 4))
+    × (verdictOf plainRules examplePrefix exampleClauses (exampleSteps (pos 4)) 8200 8 ≡ Refused (refusal NoRoom 9))
 unfolding sameWord holds without firstClause closes readStep opposed lists covers states blocked judgeResolution judgeReduction judgeFirst run firstEmpty sizedVerdict verdictOf wordOf clausesOf isIn zeros prefixRefusal clausesRefusal tablesRefusal same after existentials holdsLiteral together joined literals reach member pair depends ℕ-discrete isUniversal
 positions = (refl, refl, refl, refl, refl, refl, refl, refl, refl, refl, refl, refl)

@@ -3,6 +3,8 @@ use Prim.Native.Nat.{ℕ}
 use mathlib.Core.Path.{ap, sym, _∙_}
 use lib.ListN.{length, replicate}
 use borrow.Author.Needs.{needs}
+use Rattle.checker.specs.Rules.{plainRules}
+use Rattle.checker.specs.Rules.Laws.{plain-kinds}
 use Rattle.checker.specs.Verdict.Accuracy.{accepted-lost}
 use Rattle.checker.specs.Verdict.Parts.{cleared-whole}
 use Rattle.checker.proofs.proof.check_proof.Statement.{statement}
@@ -21,7 +23,7 @@ returns c =
       verdict = judged .judge-proof .ensures;
       scratch-cleared = bytes .clear-bytes .ensures ∙ cleared-whole (judged .judge-proof .last .1 .1 .1 .0) ∙ ap (λ (n : ℕ). replicate {A = ℕ} n 0) (judged .judge-proof .kept .1 .1 .1 .0);
       starts-cleared = numbers .clear-numbers .ensures ∙ cleared-whole (judged .judge-proof .last .1 .1 .1 .1 .0) ∙ ap (λ (n : ℕ). replicate {A = ℕ} n 0) (judged .judge-proof .kept .1 .1 .1 .1 .0);
-      lost = λ empty count e. accepted-lost prefix clauses steps (length (start .args .scratch .now)) (length (start .args .starts .now)) (empty .0) count (sym (judged .judge-proof .ensures) ∙ e);
+      lost = λ empty count e. accepted-lost plainRules plain-kinds prefix clauses steps (length (start .args .scratch .now)) (length (start .args .starts .now)) (empty .0) count (sym (judged .judge-proof .ensures) ∙ e);
     }
 
 pub check-proof-spec : {M : Type 1} → statement M

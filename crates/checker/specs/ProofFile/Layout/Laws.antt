@@ -13,11 +13,12 @@ use lib.Seq.{getD-append-add, take-at, drop-at, drop-drop}
 use mir.Syntax.{w32}
 use mir.Val.{ofZ, Fits, SFits}
 use mir.ValLaws.{toZ-ofZ, ofZ-toZ}
+use Rattle.qbf.specs.Connectives.{and-both}
 use Rattle.formula.specs.Bounds.{proofBound}
 use Rattle.formula.specs.Refusal.{refusal}
 use Rattle.formula.specs.declared.refusal.Reason.the-variants.{Oversized, NoRoom, OtherFormula}
 use Rattle.checker.specs.ProofFile.{number4, numberAt, wordsOf, mark4, markAt, trailerStart, distance, clauseCount, hasTrailer, stepBytes, stepCount, read, refused, proofReading}
-use Rattle.checker.specs.ProofFile.Laws.{both, drop-four, step-bytes-length, step-words-length, bytes-part, read-of, trailer-within, refusal-oversized, refusal-other-formula, refusal-no-room, refusal-none}
+use Rattle.checker.specs.ProofFile.Laws.{drop-four, step-bytes-length, step-words-length, bytes-part, read-of, trailer-within, refusal-oversized, refusal-other-formula, refusal-no-room, refusal-none}
 use Rattle.checker.specs.ProofFile.Passed.{Bytes, Trailer}
 use Rattle.checker.specs.ProofFile.Layout.{bytes4, wordBytes, trailerBytes, fileOf}
 
@@ -190,9 +191,9 @@ module _ (file : List ℕ) (at : ℕ) (within : at + 4 ≤ length file) where
   mark-there : markAt file at ≡ true → drop at file ≡ (0x51 ∷ 0x44 ∷ 0x52 ∷ 0x31 ∷ []) ++ drop (at + 4) file
   unfolding markAt mark4
   mark-there m =
-      let last = both _ (eqb (getD file (at + 3) 0) 0x31) m in
-      let third = both _ (eqb (getD file (at + 2) 0) 0x52) (last .0) in
-      let first = both (eqb (getD file at 0) 0x51) (eqb (getD file (at + 1) 0) 0x44) (third .0) in
+      let last = and-both _ (eqb (getD file (at + 3) 0) 0x31) m in
+      let third = and-both _ (eqb (getD file (at + 2) 0) 0x52) (last .0) in
+      let first = and-both (eqb (getD file at 0) 0x51) (eqb (getD file (at + 1) 0) 0x44) (third .0) in
       drop-four file at within
       ∙ rw (eqb-true (getD file at 0) 0x51 (first .0), eqb-true (getD file (at + 1) 0) 0x44 (first .1), eqb-true (getD file (at + 2) 0) 0x52 (third .1), eqb-true (getD file (at + 3) 0) 0x31 (last .1))
 

@@ -15,7 +15,7 @@ use Rattle.qbf.specs.Dependency.Laws.{depends-sound, depends-complete}
 use Rattle.dependency.specs.Row.{isNegated, isUniversal}
 use Rattle.formula.specs.Decode.{entryOf, prefixOf, formulaOf}
 use Rattle.checker.specs.Words.Laws.{holds-sound, holds-complete}
-use Rattle.checker.specs.Lawful.Deciding.{Decides}
+use Rattle.checker.specs.Lawful.Judged.{Decides}
 use Rattle.checker.specs.Verdict.{scopeOf}
 
 -- An entry right of a variable's own is an entry.

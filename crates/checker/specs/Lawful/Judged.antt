@@ -1,25 +1,26 @@
 -- The tests of a step against the law: where the three tests of a scope decide what they ask of a formula, a step is judged
 -- right exactly when it is lawful, and blocked only where an existential of the clause depends. Assumes nothing.
-use Prim.Native.Nat.{ℕ, zero, suc}
+use Prim.Native.Nat.{ℕ}
 use mathlib.Core.Path.{_≡_, refl, sym, _∙_}
 use mathlib.Core.Logic.{_⊎_, inl, inr, _≢_}
 use mathlib.Core.Bool.{Bool, true, false, not, _&&_, false≢true}
 use mathlib.Core.Option.{Option, none, some}
-use mathlib.Core.List.{List, [], _∷_, List·Memᴰ, List·Memᴰ·head, List·Memᴰ·tail, List·Memᴰ·not-nil}
+use mathlib.Core.List.{List, [], List·Memᴰ, List·Memᴰ·not-nil}
 use native.Mathlib.Omega.{arith}
 use borrow.Author.Tests.{not-true}
-use lib.ListN.{getElem?}
 use lib.IntN.{ℤ, pos, negsuc, negℤ, natAbs}
 use Rattle.qbf.specs.Connectives.{and-both, both-and}
 use Rattle.qbf.specs.Formula.{Formula, Existential, Universal}
 use Rattle.qbf.specs.Dependency.{Depends}
 use Rattle.formula.specs.declared.refusal.Reason.{Reason}
-use Rattle.formula.specs.declared.refusal.Reason.the-variants.{NotEarlier, WrongPivot, Tautology, Blocked, Misstated}
+use Rattle.formula.specs.declared.refusal.Reason.the-variants.{WrongPivot, Tautology, Blocked, Misstated}
+use Rattle.checker.specs.Rules.Laws.{require-passed}
 use Rattle.checker.specs.Words.{Words, holds, without}
 use Rattle.checker.specs.Words.Laws.{not-true-false, holds-sound, holds-complete, without-member, member-without}
 use Rattle.checker.specs.Steps.{Scope, Step, resolution, reduction, antecedent, resolvent, opposed, states, positiveExistential, blocked, unless, judgeStatement, judgeResolution, judgeReduction, judge}
 use Rattle.checker.specs.Steps.Tests.{opposed-found, unopposed, states-sound, states-complete, in-resolvent, resolvent-in, blocked-found, unblocked}
-use Rattle.checker.specs.Lawful.{Numbered, Resolvent, Reduct, LawfulResolution, LawfulReduction, Lawful}
+use Rattle.checker.specs.Lawful.{Numbered, Resolvent, Reduct, LawfulResolution, LawfulReduction, Lawful, NoZeros}
+use Rattle.checker.specs.Lawful.Laws.{numbered-member, antecedent-numbered, numbered-antecedent}
 
 -- The tests of a scope decide what they ask of a formula.
 pub record Decides (S : Scope) (F : Formula) : Type 0 where
@@ -30,59 +31,19 @@ pub record Decides (S : Scope) (F : Formula) : Type 0 where
   pub dependent-sound : (u e : ℕ) → S .dependent u e ≡ true → Existential (F .prefix) e × Depends F u e
   pub dependent-complete : (u e : ℕ) → Depends F u e → S .dependent u e ≡ true
 
--- No clause holds the word 0.
-abbrev pub NoZeros : List Words → Type 0
-NoZeros known = (C : Words) → List·Memᴰ C known → (x : ℤ) → List·Memᴰ x C → x ≢ pos 0
-
--- A clause found by its place is one of them.
-pub found-member : (known : List Words) (n : ℕ) (C : Words) → getElem? known n ≡ some C → List·Memᴰ C known
-found-member [] n C e = let z : _≡_ {A = ℕ} 0 1 = cc in absurd (omega arith)
-found-member (D ∷ known) zero C e = List·Memᴰ·head (sym (same D C e))
-  where
-    same : (D C : Words) → _≡_ {A = Option Words} (some D) (some C) → D ≡ C
-    same D C q = cc
-found-member (D ∷ known) (suc n) C e = List·Memᴰ·tail (found-member known n C e)
-
-pub numbered-member : (known : List Words) (i : ℤ) (C : Words) → Numbered known i C → List·Memᴰ C known
-numbered-member known i C n = found-member known (n .place) C (n .stands)
-
-pub antecedent-numbered : (known : List Words) (i : ℤ) (C : Words) → antecedent known i ≡ some C → Numbered known i C
-antecedent-numbered known (pos zero) C e = let z : _≡_ {A = ℕ} 0 1 = cc in absurd (omega arith)
-antecedent-numbered known (pos (suc n)) C e = record { place = n; is = refl; stands = e }
-antecedent-numbered known (negsuc n) C e = let z : _≡_ {A = ℕ} 0 1 = cc in absurd (omega arith)
-
-pub numbered-antecedent : (known : List Words) (i : ℤ) (C : Words) → Numbered known i C → antecedent known i ≡ some C
-numbered-antecedent known i C n = rw (n .is) (n .stands)
-
--- A test that must pass.
-unless-none : (b : Bool) (r : Reason) (o : Option Reason) → unless b r o ≡ none → (b ≡ true) × (o ≡ none)
-unless-none true r o e = (refl, e)
-unless-none false r o e = let z : _≡_ {A = ℕ} 0 1 = cc in absurd (omega arith)
-
 no-reason : {r : Reason} {A : Type 0} → _≡_ {A = Option Reason} (some r) none → A
 no-reason e = let z : _≡_ {A = ℕ} 0 1 = cc in absurd (omega arith)
 
-none-blocked : {A : Type 0} → _≡_ {A = Option Reason} none (some Blocked) → A
-none-blocked e = let z : _≡_ {A = ℕ} 0 1 = cc in absurd (omega arith)
-
-misstated-blocked : {A : Type 0} → _≡_ {A = Option Reason} (some Misstated) (some Blocked) → A
-misstated-blocked e = let z : _≡_ {A = ℕ} 0 1 = cc in absurd (omega arith)
-
-pivot-blocked : {A : Type 0} → _≡_ {A = Option Reason} (some WrongPivot) (some Blocked) → A
-pivot-blocked e = let z : _≡_ {A = ℕ} 0 1 = cc in absurd (omega arith)
-
-earlier-blocked : {A : Type 0} → _≡_ {A = Option Reason} (some NotEarlier) (some Blocked) → A
-earlier-blocked e = let z : _≡_ {A = ℕ} 0 1 = cc in absurd (omega arith)
-
-tautology-blocked : {A : Type 0} → _≡_ {A = Option Reason} (some Tautology) (some Blocked) → A
-tautology-blocked e = let z : _≡_ {A = ℕ} 0 1 = cc in absurd (omega arith)
+-- A test that must pass.
+unless-none : (b : Bool) (r : Reason) (o : Option Reason) → unless b r o ≡ none → (b ≡ true) × (o ≡ none)
+unless-none b r o e = require-passed b (some r) o none (λ q. no-reason q) e
 
 statement-blocked : (R L : Words) → judgeStatement R L ≡ some Blocked → ⊥
 statement-blocked R L h = go (states R L) h
   where
     go : (b : Bool) → unless b Misstated none ≡ some Blocked → ⊥
-    go true e = none-blocked e
-    go false e = misstated-blocked e
+    go true e = let z : _≡_ {A = ℕ} 0 1 = cc in omega arith
+    go false e = let z : _≡_ {A = ℕ} 0 1 = cc in omega arith
 
 -- Where a reduction is blocked: a is a universal literal of the clause, and an existential of the clause depends on its variable.
 pub record Blocks (F : Formula) (known : List Words) (i a : ℤ) : Type 0 where
@@ -228,13 +189,13 @@ module _ (S : Scope) (F : Formula) (D : Decides S F) where
   judge-blocked known (resolution i j e L) h = go (antecedent known i) (antecedent known j) h
     where
       tests : (C E : Words) (a b : Bool) → unless a WrongPivot (unless b Tautology (judgeStatement (resolvent e C E) L)) ≡ some Blocked → ⊥
-      tests C E false b k = pivot-blocked k
-      tests C E true false k = tautology-blocked k
+      tests C E false b k = let z : _≡_ {A = ℕ} 0 1 = cc in omega arith
+      tests C E true false k = let z : _≡_ {A = ℕ} 0 1 = cc in omega arith
       tests C E true true k = statement-blocked (resolvent e C E) L k
 
       go : (A B : Option Words) → judgeResolution S e L A B ≡ some Blocked → ⊥
-      go none B k = earlier-blocked k
-      go (some C) none k = earlier-blocked k
+      go none B k = let z : _≡_ {A = ℕ} 0 1 = cc in omega arith
+      go (some C) none k = let z : _≡_ {A = ℕ} 0 1 = cc in omega arith
       go (some C) (some E) k =
           tests C E (positiveExistential S e && holds e C && holds (negℤ e) E) (not (opposed [] (resolvent e C E))) k
   judge-blocked known (reduction i a L) h = go (antecedent known i) refl h
@@ -244,7 +205,7 @@ module _ (S : Scope) (F : Formula) (D : Decides S F) where
           → (p b : Bool) → (S .universal (natAbs a) && holds a C) ≡ p → blocked S (natAbs a) C ≡ b
           → unless p WrongPivot (unless (not b) Blocked (judgeStatement (without a C) L)) ≡ some Blocked
           → Blocks F known i a
-      tests C n false b q e k = pivot-blocked k
+      tests C n false b q e k = let z : _≡_ {A = ℕ} 0 1 = cc in absurd (omega arith)
       tests C n true true q e k =
           let t = blocked-found S (natAbs a) C e in
           let d = D .dependent-sound (natAbs a) (natAbs (t .0)) (t .2) in
@@ -262,5 +223,5 @@ module _ (S : Scope) (F : Formula) (D : Decides S F) where
       tests C n true false q e k = absurd (statement-blocked (without a C) L k)
 
       go : (A : Option Words) → antecedent known i ≡ A → judgeReduction S a L A ≡ some Blocked → Blocks F known i a
-      go none p k = earlier-blocked k
+      go none p k = let z : _≡_ {A = ℕ} 0 1 = cc in absurd (omega arith)
       go (some C) p k = tests C (antecedent-numbered known i C p) (S .universal (natAbs a) && holds a C) (blocked S (natAbs a) C) refl refl k

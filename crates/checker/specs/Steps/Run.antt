@@ -1,0 +1,242 @@
+-- Laws of the run and of its first step: words that are skipped, a wrong step, a right one; what a step was that is judged right, or
+-- refused as blocked; and the steps that a run has passed where it ends or stops. Assumes nothing.
+use Prim.Native.Nat.{ℕ, zero, suc, _≤_, _<_}
+use mathlib.Core.Path.{_≡_, refl, ap, sym, _∙_}
+use mathlib.Core.Logic.{_≢_}
+use mathlib.Core.Bool.{Bool, true, false}
+use mathlib.Core.Option.{Option, none, some}
+use mathlib.Core.List.{List, [], _∷_, _++_, append-nil}
+use native.Mathlib.Omega.{arith}
+use borrow.Author.Tests.{ltb-true, lt-ltb}
+use lib.Dec.{ltb}
+use lib.ListN.{length, drop}
+use lib.IntN.{ℤ}
+use Rattle.formula.specs.Refusal.{refusal}
+use Rattle.formula.specs.declared.refusal.Reason.{Reason}
+use Rattle.formula.specs.declared.refusal.Refusal.{Refusal}
+use Rattle.formula.specs.declared.refusal.Reason.the-variants.{NoRoom, BrokenStep, Blocked}
+use Rattle.checker.specs.Rules.{Rules}
+use Rattle.checker.specs.Rules.Laws.{require-passed}
+use Rattle.checker.specs.Words.{Words}
+use Rattle.checker.specs.Steps.{
+  Scope,
+  Step,
+  statedBy,
+  sizeOf,
+  readStep,
+  judge,
+  Judged,
+  right,
+  wrong,
+  judgedAs,
+  judgeRead,
+  someEmpty,
+  refuseAfter,
+  judgeFirst,
+  Outcome,
+  ended,
+  refused,
+  less-one,
+  run,
+}
+use Rattle.checker.specs.Steps.Written.{size-positive}
+use Rattle.checker.specs.Lawful.{numberedClauses}
+use Rattle.checker.specs.Lawful.Laws.{length-snoc, numbered-step}
+
+-- To skip words is to run the others.
+pub run-skip : (rules : Rules) (S : Scope) (room : ℕ) (known : List Words) (skip : ℕ) (ws : Words) → run rules S room known skip ws ≡ run rules S room known zero (drop skip ws)
+unfolding run
+run-skip rules S room known zero [] = refl
+run-skip rules S room known (suc skip) [] = refl
+run-skip rules S room known zero (w ∷ ws) = refl
+run-skip rules S room known (suc skip) (w ∷ ws) = run-skip rules S room known skip ws
+
+-- A right step was not refused for where it stands.
+after-right : (o : Option Reason) (b : Bool) (j : Judged) (s : Step) → refuseAfter o b j ≡ right s → j ≡ right s
+after-right none b j s h = h
+after-right (some r) true j s h = let z : _≡_ {A = ℕ} 0 1 = cc in absurd (omega arith)
+after-right (some r) false j s h = h
+
+module _ (rules : Rules) (S : Scope) (room : ℕ) (known : List Words) where
+  nothing-right : (s : Step) → judgeFirst rules S room known [] ≡ right s → ⊥
+  unfolding judgeFirst readStep
+  nothing-right s h = let e = after-right (rules .afterwards) (someEmpty known) (wrong BrokenStep) s h in let z : _≡_ {A = ℕ} 0 1 = cc in omega arith
+
+  -- A right step, and on with the words after it.
+  pub run-right :
+      (ws : Words) (s : Step) → judgeFirst rules S room known ws ≡ right s
+      → run rules S room known zero ws ≡ run rules S room (known ++ (statedBy s ∷ [])) zero (drop (sizeOf s) ws)
+  unfolding run
+  run-right [] s e = absurd (nothing-right s e)
+  run-right (w ∷ ws) s e =
+      rw (e, size-positive s) (run-skip rules S room (known ++ (statedBy s ∷ [])) (less-one (sizeOf s)) ws)
+
+  -- A wrong one.
+  pub run-wrong : (w : ℤ) (ws : Words) (r : Reason) → judgeFirst rules S room known (w ∷ ws) ≡ wrong r → run rules S room known zero (w ∷ ws) ≡ refused (refusal r (suc (length known)))
+  unfolding run
+  run-wrong w ws r e = rw e
+
+-- A step that was judged right: it was read, there is room, and the judge had nothing to say.
+pub record Rightly (rules : Rules) (S : Scope) (room : ℕ) (known : List Words) (ws : Words) (s : Step) : Type 0 where
+  pub was-read : readStep rules ws ≡ some s
+  pub fits : length known < room
+  pub judged : judge S known s ≡ none
+
+reason : (r : Reason) → _≡_ {A = Judged} (wrong r) (wrong Blocked) → _≡_ {A = Option Reason} (some r) (some Blocked)
+reason r e = cc
+
+after-blocked : (o : Option Reason) (b : Bool) (j : Judged) → o ≢ some Blocked → refuseAfter o b j ≡ wrong Blocked → j ≡ wrong Blocked
+after-blocked none b j n h = h
+after-blocked (some r) true j n h = absurd (n (reason r h))
+after-blocked (some r) false j n h = h
+
+module _ (rules : Rules) (S : Scope) (room : ℕ) (known : List Words) where
+  -- Where the rules have a reason against steps after an empty clause: it comes ahead of all else, and before one it says nothing.
+  pub after-refused : (r : Reason) → rules .afterwards ≡ some r → someEmpty known ≡ true → (ws : Words) → judgeFirst rules S room known ws ≡ wrong r
+  unfolding judgeFirst
+  after-refused r a e ws = ap (λ (o : Option Reason). refuseAfter o (someEmpty known) (judgeRead S room known (readStep rules ws))) a ∙ rw e
+
+  pub before-judged : someEmpty known ≡ false → (ws : Words) → judgeFirst rules S room known ws ≡ judgeRead S room known (readStep rules ws)
+  unfolding judgeFirst
+  before-judged e ws = go (rules .afterwards)
+    where
+      go : (o : Option Reason) → refuseAfter o (someEmpty known) (judgeRead S room known (readStep rules ws)) ≡ judgeRead S room known (readStep rules ws)
+      go none = refl
+      go (some r) = rw e
+
+  pub rightly : (ws : Words) (s : Step) → judgeFirst rules S room known ws ≡ right s → Rightly rules S room known ws s
+  unfolding judgeFirst
+  rightly ws s h = go (readStep rules ws) refl (after-right (rules .afterwards) (someEmpty known) (judgeRead S room known (readStep rules ws)) s h)
+    where
+      same : (t u : Step) → _≡_ {A = Judged} (right t) (right u) → t ≡ u
+      same t u e = cc
+
+      judging : (t : Step) (o : Option Reason) → judge S known t ≡ o → readStep rules ws ≡ some t → length known < room → judgedAs t o ≡ right s → Rightly rules S room known ws s
+      judging t none j e f k =
+          let q = same t s k in
+          record { was-read = rw (← q) e; fits = f; judged = rw (← q) j }
+      judging t (some r) j e f k = let z : _≡_ {A = ℕ} 0 1 = cc in absurd (omega arith)
+
+      go : (o : Option Step) → readStep rules ws ≡ o → judgeRead S room known o ≡ right s → Rightly rules S room known ws s
+      go none e k = let z : _≡_ {A = ℕ} 0 1 = cc in absurd (omega arith)
+      go (some t) e k =
+          let p = require-passed (ltb (length known) room) (wrong NoRoom) (judgedAs t (judge S known t)) (right s) (λ q. let z : _≡_ {A = ℕ} 0 1 = cc in omega arith) k in
+          judging t (judge S known t) refl e (ltb-true (length known) room (p .0)) (p .1)
+
+  pub right-first :
+      rules .afterwards ≡ none
+      → (ws : Words) (s : Step) → readStep rules ws ≡ some s → length known < room → judge S known s ≡ none
+      → judgeFirst rules S room known ws ≡ right s
+  unfolding judgeFirst
+  right-first goes-on ws s e f j =
+      ap (λ (o : Option Reason). refuseAfter o (someEmpty known) (judgeRead S room known (readStep rules ws))) goes-on ∙ rw (e, lt-ltb (length known) room f, j)
+
+  -- A step that was refused as blocked was read, and judged so.
+  module _ (apart : rules .afterwards ≢ some Blocked) where
+    pub blocked-first : (ws : Words) → judgeFirst rules S room known ws ≡ wrong Blocked → (s : Step) × (readStep rules ws ≡ some s) × (judge S known s ≡ some Blocked)
+    unfolding judgeFirst
+    blocked-first ws h = go (readStep rules ws) refl (after-blocked (rules .afterwards) (someEmpty known) (judgeRead S room known (readStep rules ws)) apart h)
+      where
+        judging : (t : Step) (o : Option Reason) → judge S known t ≡ o → readStep rules ws ≡ some t → judgedAs t o ≡ wrong Blocked → (s : Step) × (readStep rules ws ≡ some s) × (judge S known s ≡ some Blocked)
+        judging t none j e k = let z : _≡_ {A = ℕ} 0 1 = cc in absurd (omega arith)
+        judging t (some r) j e k = (t, e, j ∙ reason r k)
+
+        go : (o : Option Step) → readStep rules ws ≡ o → judgeRead S room known o ≡ wrong Blocked → (s : Step) × (readStep rules ws ≡ some s) × (judge S known s ≡ some Blocked)
+        go none e k = let z : _≡_ {A = ℕ} 0 1 = cc in absurd (omega arith)
+        go (some t) e k =
+            let p = require-passed (ltb (length known) room) (wrong NoRoom) (judgedAs t (judge S known t)) (wrong Blocked) (λ q. let z : _≡_ {A = ℕ} 0 1 = cc in omega arith) k in
+            judging t (judge S known t) refl e (p .1)
+
+-- The words are read as these steps one after the other, each judged right after the clauses before it, and `rest` is left.
+abbrev pub Passes : Rules → Scope → ℕ → List Words → Words → List Step → Words → Type 0
+Passes rules S room known ws [] rest = ws ≡ rest
+Passes rules S room known ws (s ∷ steps) rest =
+    (judgeFirst rules S room known ws ≡ right s) × Passes rules S room (known ++ (statedBy s ∷ [])) (drop (sizeOf s) ws) steps rest
+
+-- What is left after steps that pass: no word, or a first step that is wrong.
+pub data Left (rules : Rules) (S : Scope) (room : ℕ) (known : List Words) : Words → Type 0 where
+  nothing : Left rules S room known []
+  wrong-step : {w : ℤ} {ws : Words} (r : Reason) → judgeFirst rules S room known (w ∷ ws) ≡ wrong r → Left rules S room known (w ∷ ws)
+
+-- The words as the run takes them.
+pub record Passage (rules : Rules) (S : Scope) (room : ℕ) (known : List Words) (ws : Words) : Type 0 where
+  pub steps : List Step
+  pub rest : Words
+  pub passes : Passes rules S room known ws steps rest
+  pub left : Left rules S room (numberedClauses known steps) rest
+
+-- By any rules: steps that pass are run through, and a run has passed steps up to where it ends or stops.
+module _ (rules : Rules) (S : Scope) (room : ℕ) where
+  pub passes-run :
+      (steps : List Step) (known : List Words) (ws rest : Words) → Passes rules S room known ws steps rest
+      → run rules S room known zero ws ≡ run rules S room (numberedClauses known steps) zero rest
+  passes-run [] known ws rest p = rw (p, append-nil known)
+  passes-run (s ∷ steps) known ws rest p =
+      run-right rules S room known ws s (p .0)
+      ∙ passes-run steps (known ++ (statedBy s ∷ [])) (drop (sizeOf s) ws) rest (p .1)
+      ∙ rw (numbered-step known s steps)
+
+  pub passes-fits :
+      (steps : List Step) (known : List Words) (ws rest : Words) → Passes rules S room known ws steps rest
+      → length known ≤ room → length (numberedClauses known steps) ≤ room
+  passes-fits [] known ws rest p f = rw (append-nil known) f
+  passes-fits (s ∷ steps) known ws rest p f =
+      rw (← numbered-step known s steps)
+      (passes-fits steps (known ++ (statedBy s ∷ [])) (drop (sizeOf s) ws) rest (p .1) (rw (length-snoc known (statedBy s)) (rightly rules S room known ws s (p .0) .fits)))
+
+  pub run-passage : (known : List Words) (skip : ℕ) (ws : Words) → Passage rules S room known (drop skip ws)
+  run-passage known zero [] = record { steps = []; rest = []; passes = refl; left = nothing }
+  run-passage known (suc skip) [] = record { steps = []; rest = []; passes = refl; left = nothing }
+  run-passage known (suc skip) (w ∷ ws) = run-passage known skip ws
+  run-passage known zero (w ∷ ws) =
+      go (judgeFirst rules S room known (w ∷ ws)) refl (λ s. run-passage (known ++ (statedBy s ∷ [])) (less-one (sizeOf s)) ws)
+    where
+      go :
+          (j : Judged) → judgeFirst rules S room known (w ∷ ws) ≡ j
+          → ((s : Step) → Passage rules S room (known ++ (statedBy s ∷ [])) (drop (less-one (sizeOf s)) ws))
+          → Passage rules S room known (w ∷ ws)
+      go (right s) e later =
+          let t = later s in
+          record { steps = s ∷ t .steps; rest = t .rest; passes = (e, rw (size-positive s) (t .passes)); left = rw (← numbered-step known s (t .steps)) (t .left) }
+      go (wrong r) e later = record { steps = []; rest = w ∷ ws; passes = refl; left = rw (append-nil known) (wrong-step r e) }
+
+  module _ (known : List Words) (ws : Words) where
+    -- The run from where it ends or stops.
+    run-left : (o : Outcome) → run rules S room known zero ws ≡ o → (t : Passage rules S room known ws) → run rules S room (numberedClauses known (t .steps)) zero (t .rest) ≡ o
+    run-left o h t = sym (passes-run (t .steps) known ws (t .rest) (t .passes)) ∙ h
+
+    pub run-ended :
+        (final : List Words) → run rules S room known zero ws ≡ ended final
+        → (steps : List Step) × Passes rules S room known ws steps [] × (numberedClauses known steps ≡ final)
+    unfolding run
+    run-ended final h =
+        let t = run-passage known zero ws in
+        let e = ends (t .rest) (numberedClauses known (t .steps)) (t .left) (run-left (ended final) h t) in
+        (t .steps, rw (e .0) at (t .passes), e .1)
+      where
+        ends : (rest : Words) (n : List Words) → Left rules S room n rest → run rules S room n zero rest ≡ ended final → (rest ≡ []) × (n ≡ final)
+        ends [] n nothing e = (refl, cc)
+        ends (w ∷ rest) n (wrong-step r j) e =
+            let stops = run-wrong rules S room n w rest r j in
+            let z : _≡_ {A = ℕ} 0 1 = cc in
+            absurd (omega arith)
+
+    pub run-stopped :
+        (stop : Refusal) → run rules S room known zero ws ≡ refused stop
+        → (steps : List Step) × ((rest : Words) × Passes rules S room known ws steps rest × (judgeFirst rules S room (numberedClauses known steps) rest ≡ wrong (stop .reason)) × (stop .place ≡ suc (length (numberedClauses known steps))))
+    unfolding run
+    run-stopped stop h =
+        let t = run-passage known zero ws in
+        let e = stops (t .rest) (numberedClauses known (t .steps)) (t .left) (run-left (refused stop) h t) in
+        (t .steps, (t .rest, t .passes, e .0, e .1))
+      where
+        same : (a b : Refusal) → _≡_ {A = Outcome} (refused a) (refused b) → a ≡ b
+        same a b e = cc
+
+        stops :
+            (rest : Words) (n : List Words) → Left rules S room n rest → run rules S room n zero rest ≡ refused stop
+            → (judgeFirst rules S room n rest ≡ wrong (stop .reason)) × (stop .place ≡ suc (length n))
+        stops [] n nothing e = let z : _≡_ {A = ℕ} 0 1 = cc in absurd (omega arith)
+        stops (w ∷ rest) n (wrong-step r j) e =
+            let q = same (refusal r (suc (length n))) stop (sym (run-wrong rules S room n w rest r j) ∙ e) in
+            (j ∙ ap (λ (x : Refusal). wrong (x .reason)) q, sym (ap (λ (x : Refusal). x .place) q))
