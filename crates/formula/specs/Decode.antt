@@ -9,7 +9,7 @@ use lib.ListN.{drop}
 use lib.IntN.{ℤ, pos, negsuc}
 use Rattle.qbf.specs.Literal.{Literal, literal, Clause, Matrix}
 use Rattle.qbf.specs.Formula.{Formula}
-pub use Rattle.formula.specs.Prefix.{entryOf, prefixOf}
+use Rattle.formula.specs.Prefix.{prefixOf}
 use mathlib.Core.Bool.{true, false}
 
 abbrev pub literalOf : ℤ → Literal

@@ -17,7 +17,7 @@ abbrev pub entryOf : ℤ → Entry
 entryOf (pos v) = entry v existential
 entryOf (negsuc n) = entry (suc n) universal
 
-abbrev pub prefixOf : List ℤ → Prefix
+unfoldable pub prefixOf : List ℤ → Prefix
 prefixOf ws = map entryOf ws
 
 -- The words of entries.

@@ -13,7 +13,8 @@ use Rattle.qbf.specs.Formula.Laws.{existential-not-universal, existentials-memb
 use Rattle.qbf.specs.Dependency.{Depends}
 use Rattle.qbf.specs.Dependency.Laws.{depends-sound, depends-complete}
 use Rattle.dependency.specs.Row.{isNegated, isUniversal}
-use Rattle.formula.specs.Decode.{entryOf, prefixOf, formulaOf}
+use Rattle.formula.specs.Decode.{formulaOf}
+use Rattle.formula.specs.Prefix.{entryOf, prefixOf}
 use Rattle.checker.specs.Words.Laws.{holds-sound, holds-complete}
 use Rattle.checker.specs.Lawful.Judged.{Decides}
 use Rattle.checker.specs.Verdict.{scopeOf}

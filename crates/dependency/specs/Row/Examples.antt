@@ -43,5 +43,5 @@ pub lettered-rows :
     × (rowOf positionC 2 ≡ 0 ∷ 0 ∷ 0 ∷ 1 ∷ replicate 1021 0)
     × (rowOf positionE 1 ≡ 0 ∷ 0 ∷ 1 ∷ 1 ∷ replicate 1021 0)
     × (rowOf positionL 1 ≡ replicate 1025 0)
-unfolding rowOf rowBelow clausesOf depends member pair reach joined together holds literals existentials after same ℕ-discrete
+unfolding prefixOf rowOf rowBelow clausesOf depends member pair reach joined together holds literals existentials after same ℕ-discrete
 lettered-rows = (refl, refl, refl, refl, refl)

@@ -62,5 +62,5 @@ module _ (p c : List ℤ) (a : Admitted p c) (h : entryCount p ≤ gameBound) wh
 
 -- Known positions f and g of 01: no tables at all, and the clause word 0 alone.
 pub evaluation-known : (evaluationOf [] [] ≡ True) × (evaluationOf [] (pos 0 ∷ []) ≡ False)
-unfolding evaluationOf tablesRefusal zeros prefixRefusal clausesRefusal wordOf clausesOf lost falsified satisfied
+unfolding prefixOf evaluationOf tablesRefusal zeros prefixRefusal clausesRefusal wordOf clausesOf lost falsified satisfied
 evaluation-known = (refl, refl)

@@ -12,7 +12,6 @@ use lib.IntN.{ℤ, pos, negsuc, negℤ, natAbs}
 use Rattle.qbf.specs.Literal.{Literal, neg}
 use Rattle.qbf.specs.Formula.{variables}
 use Rattle.formula.specs.Decode.{literalOf, putFirst, clausesOf, firstClause, laterWords, NoZero, clauseOf}
-pub use Rattle.formula.specs.Prefix.Laws.{entry-variable, prefix-variables}
 
 -- A word and its magnitude.
 pub magnitude-positive : (w : ℤ) → (w ≡ pos 0 → ⊥) → 1 ≤ natAbs w

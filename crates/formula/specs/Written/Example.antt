@@ -28,5 +28,5 @@ pub written-example :
     ++ (45 ∷ 52 ∷ 32 ∷ 49 ∷ 32 ∷ 48 ∷ 10 ∷ [])
     -- -1 -3 0
     ++ (45 ∷ 49 ∷ 32 ∷ 45 ∷ 51 ∷ 32 ∷ 48 ∷ 10 ∷ [])
-unfolding written headerText largest letterOf runs runLine variablesText clauseLine literalText flatMap clausesOf zeros digits decimal
+unfolding written headerText largest letterOf runs runLine variablesText clauseLine literalText flatMap clausesOf zeros digits decimal Rattle.formula.specs.Prefix.prefixOf
 written-example = refl

@@ -14,7 +14,8 @@ use Rattle.qbf.specs.Formula.Laws.{quantifiers-exclusive}
 use Rattle.qbf.specs.Dependency.{depends}
 use Rattle.qbf.specs.Dependency.Laws.{depends-sound}
 use Rattle.formula.specs.Decimal.Laws.{length-decimal}
-use Rattle.formula.specs.Decode.{entryOf, prefixOf, formulaOf}
+use Rattle.formula.specs.Decode.{formulaOf}
+use Rattle.formula.specs.Prefix.{entryOf, prefixOf}
 use Rattle.formula.specs.Tables.{Admitted}
 use Rattle.formula.specs.Tables.Laws.{admitted-prefix-length, admitted-proper}
 use Rattle.formula.specs.Writing.{Bounded}
