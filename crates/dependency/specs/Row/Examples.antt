@@ -9,6 +9,7 @@ use Rattle.qbf.specs.Literal.{same}
 use Rattle.qbf.specs.Formula.{Formula, after, existentials}
 use Rattle.qbf.specs.Path.{holds, together, joined, literals, reach}
 use Rattle.qbf.specs.Dependency.{member, pair, depends}
+use Rattle.formula.specs.Prefix.{prefixOf}
 use Rattle.formula.specs.Decode.{clausesOf, formulaOf}
 use Rattle.dependency.specs.Row.{rowBelow, rowOf}
 
