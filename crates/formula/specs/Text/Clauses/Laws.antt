@@ -51,13 +51,14 @@ use Rattle.formula.specs.Text.Clauses.{
 use Rattle.formula.specs.Text.Laws.{literal-fine, from-end, from-token, from-stopped}
 use Rattle.formula.specs.Refusal.{refusal, require}
 use Rattle.formula.specs.Token.{nextToken}
+use Rattle.formula.specs.Token.Laws.{FoundAt}
 use Rattle.formula.specs.declared.refusal.Reason.the-variants.{Miscount}
 use Rattle.formula.specs.declared.refusal.Refusal.{Refusal}
 use Rattle.formula.specs.declared.token.Token.{Token}
 use Rattle.formula.specs.declared.token.Token.the-variants.{Natural}
 use Rattle.formula.specs.declared.clauses.ClauseStep.{ClauseStep}
 use Rattle.formula.specs.declared.clauses.ClauseStep.the-variants.{Literal, Closed, Refused as NoStep}
-use Rattle.formula.specs.declared.token.Next.the-variants.{End, Found}
+use Rattle.formula.specs.declared.token.Next.the-variants.{End}
 use Rattle.formula.specs.declared.clauses.ClausesAnswer.the-variants.{Refused as NoClauses}
 
 -- One more word of a table.
@@ -265,7 +266,7 @@ clauses-begin text from v c table marks h =
       sofar = λ rp P L. record { marked = marked-begins marks P L; opened = refl; reads = refl };
     }
 
-module _ (text : List ℕ) (from v c : ℕ) (table₀ table : List ℤ) (marks₀ marks : List ℕ) (at used closed start : ℕ) (I : ClausesSoFar text from v c table₀ table marks₀ marks at used closed start) where
+module _ {text : List ℕ} {from v c : ℕ} {table₀ table : List ℤ} {marks₀ marks : List ℕ} {at used closed start : ℕ} (I : ClausesSoFar text from v c table₀ table marks₀ marks at used closed start) where
   pub clauses-end : nextToken text at ≡ End → (prefixRoom : ℕ) (P : Prefix) → Listed marks₀ P → ClausesPost text from v c prefixRoom P table₀ table (clausesEnd (length text) (ltb start used) (ltb closed c) used)
   unfolding ending
   clauses-end e rp P L =
@@ -277,55 +278,57 @@ module _ (text : List ℕ) (from v c : ℕ) (table₀ table : List ℤ) (marks�
       go false true e = e
       go false false e = (e, I .room)
 
-  -- The token at hand goes to a clause, or is one too many.
-  clauses-step : (t : Token) (p k : ℕ) (b : Bool) → nextToken text at ≡ Found t p k → ltb closed c ≡ b → (prefixRoom : ℕ) (P : Prefix) → Listed marks₀ P → readingFrom prefixRoom (length table₀) text (clauses v c P []) from ≡ readingFrom prefixRoom (length table₀) text (require b (stopped (refusal Miscount p)) (clauseToken prefixRoom (length table₀) p v c P (take used table) t)) k
-  unfolding step
-  clauses-step t p k b e f rp P L =
-      let R = I .sofar rp P L in
-      R .reads ∙ from-token rp (length table₀) text (clauses v c P (take used table)) at t p k e ∙ rw (R .marked .count, f)
+  module _ {t : Token} {p k : ℕ} (f : FoundAt text at t p k) where
+    -- The token at hand goes to a clause, or is one too many.
+    clauses-step : (b : Bool) → ltb closed c ≡ b → (prefixRoom : ℕ) (P : Prefix) → Listed marks₀ P → readingFrom prefixRoom (length table₀) text (clauses v c P []) from ≡ readingFrom prefixRoom (length table₀) text (require b (stopped (refusal Miscount p)) (clauseToken prefixRoom (length table₀) p v c P (take used table) t)) k
+    unfolding step
+    clauses-step b e rp P L =
+        let R = I .sofar rp P L in
+        R .reads ∙ from-token rp (length table₀) text (clauses v c P (take used table)) f ∙ rw (R .marked .count, e)
 
-  pub clauses-over : (t : Token) (p k : ℕ) → nextToken text at ≡ Found t p k → c ≤ closed → (table′ : List ℤ) (prefixRoom : ℕ) (P : Prefix) → Listed marks₀ P → ClausesPost text from v c prefixRoom P table₀ table′ (NoClauses (refusal Miscount p))
-  clauses-over t p k e h table′ rp P L =
-      clauses-step t p k false e (le-ltb closed c h) rp P L ∙ from-stopped rp (length table₀) text (refusal Miscount p) k
+    pub clauses-over : c ≤ closed → (table′ : List ℤ) (prefixRoom : ℕ) (P : Prefix) → Listed marks₀ P → ClausesPost text from v c prefixRoom P table₀ table′ (NoClauses (refusal Miscount p))
+    clauses-over h table′ rp P L =
+        clauses-step false (le-ltb closed c h) rp P L ∙ from-stopped rp (length table₀) text (refusal Miscount p) k
 
-  pub clauses-refuse : (t : Token) (p k : ℕ) (r : Refusal) (table′ : List ℤ) (marks′ : List ℕ) → nextToken text at ≡ Found t p k → closed < c → ClauseTokenPost t p v used closed table marks table′ marks′ (NoStep r) → (prefixRoom : ℕ) (P : Prefix) → Listed marks₀ P → ClausesPost text from v c prefixRoom P table₀ table′ (NoClauses r)
-  clauses-refuse t p k r table′ marks′ e h post rp P L =
-      clauses-step t p k true e (lt-ltb closed c h) rp P L ∙ rw (← I .same, post .states rp c P (I .sofar rp P L .marked)) (from-stopped rp (length table) text r k)
+    module _ (h : closed < c) where
+      pub clauses-refuse : {r : Refusal} {table′ : List ℤ} {marks′ : List ℕ} → ClauseTokenPost t p v used closed table marks table′ marks′ (NoStep r) → (prefixRoom : ℕ) (P : Prefix) → Listed marks₀ P → ClausesPost text from v c prefixRoom P table₀ table′ (NoClauses r)
+      clauses-refuse {r} post rp P L =
+          clauses-step true (lt-ltb closed c h) rp P L ∙ rw (← I .same, post .states rp c P (I .sofar rp P L .marked)) (from-stopped rp (length table) text r k)
 
-  pub clauses-literal : (t : Token) (p k : ℕ) (table′ : List ℤ) (marks′ : List ℕ) → nextToken text at ≡ Found t p k → closed < c → length table′ ≡ length table → ClauseTokenPost t p v used closed table marks table′ marks′ Literal → ClausesSoFar text from v c table₀ table′ marks₀ marks′ k (used + 1) closed start
-  clauses-literal t p k table′ marks′ e h l post =
-      record {
-        room = omega (arith, l, post .stores .0);
-        same = l ∙ I .same;
-        size = post .stores .1;
-        begun = omega (arith, I .begun);
-        few = I .few;
-        sofar = λ rp P L. more rp P L (post .states rp c P (I .sofar rp P L .marked));
-      }
-    where
-      more : (rp : ℕ) (P : Prefix) → Listed marks₀ P → TokenStates t p v used closed table table′ marks′ rp c P Literal → ClausesRead text from v c (length table₀) table′ marks′ k (used + 1) closed start rp P
-      more rp P L s =
+      pub clauses-literal : {table′ : List ℤ} {marks′ : List ℕ} → length table′ ≡ length table → ClauseTokenPost t p v used closed table marks table′ marks′ Literal → ClausesSoFar text from v c table₀ table′ marks₀ marks′ k (used + 1) closed start
+      clauses-literal {table′} {marks′} l post =
           record {
-            marked = s .1;
-            opened = s .2 ∙ sym (lt-ltb start (used + 1) (omega (arith, I .begun)));
-            reads = clauses-step t p k true e (lt-ltb closed c h) rp P L ∙ rw (← I .same, s .0);
+            room = omega (arith, l, post .stores .0);
+            same = l ∙ I .same;
+            size = post .stores .1;
+            begun = omega (arith, I .begun);
+            few = I .few;
+            sofar = λ rp P L. more rp P L (post .states rp c P (I .sofar rp P L .marked));
           }
+        where
+          more : (rp : ℕ) (P : Prefix) → Listed marks₀ P → TokenStates t p v used closed table table′ marks′ rp c P Literal → ClausesRead text from v c (length table₀) table′ marks′ k (used + 1) closed start rp P
+          more rp P L s =
+              record {
+                marked = s .1;
+                opened = s .2 ∙ sym (lt-ltb start (used + 1) (omega (arith, I .begun)));
+                reads = clauses-step true (lt-ltb closed c h) rp P L ∙ rw (← I .same, s .0);
+              }
 
-  pub clauses-closed : (t : Token) (p k : ℕ) (table′ : List ℤ) (marks′ : List ℕ) → nextToken text at ≡ Found t p k → closed < c → length table′ ≡ length table → ClauseTokenPost t p v used closed table marks table′ marks′ Closed → ClausesSoFar text from v c table₀ table′ marks₀ marks′ k (used + 1) (closed + 1) (used + 1)
-  clauses-closed t p k table′ marks′ e h l post =
-      record {
-        room = omega (arith, l, post .stores .0);
-        same = l ∙ I .same;
-        size = post .stores .1;
-        begun = omega arith;
-        few = omega arith;
-        sofar = λ rp P L. more rp P L (post .states rp c P (I .sofar rp P L .marked));
-      }
-    where
-      more : (rp : ℕ) (P : Prefix) → Listed marks₀ P → TokenStates t p v used closed table table′ marks′ rp c P Closed → ClausesRead text from v c (length table₀) table′ marks′ k (used + 1) (closed + 1) (used + 1) rp P
-      more rp P L s =
+      pub clauses-closed : {table′ : List ℤ} {marks′ : List ℕ} → length table′ ≡ length table → ClauseTokenPost t p v used closed table marks table′ marks′ Closed → ClausesSoFar text from v c table₀ table′ marks₀ marks′ k (used + 1) (closed + 1) (used + 1)
+      clauses-closed {table′} {marks′} l post =
           record {
-            marked = s .1;
-            opened = s .2 ∙ sym (le-ltb (used + 1) (used + 1) (omega arith));
-            reads = clauses-step t p k true e (lt-ltb closed c h) rp P L ∙ rw (← I .same, s .0);
+            room = omega (arith, l, post .stores .0);
+            same = l ∙ I .same;
+            size = post .stores .1;
+            begun = omega arith;
+            few = omega arith;
+            sofar = λ rp P L. more rp P L (post .states rp c P (I .sofar rp P L .marked));
           }
+        where
+          more : (rp : ℕ) (P : Prefix) → Listed marks₀ P → TokenStates t p v used closed table table′ marks′ rp c P Closed → ClausesRead text from v c (length table₀) table′ marks′ k (used + 1) (closed + 1) (used + 1) rp P
+          more rp P L s =
+              record {
+                marked = s .1;
+                opened = s .2 ∙ sym (le-ltb (used + 1) (used + 1) (omega arith));
+                reads = clauses-step true (lt-ltb closed c h) rp P L ∙ rw (← I .same, s .0);
+              }
