@@ -39,16 +39,16 @@ use Rattle.formula.specs.Text.Sets.{Listed}
 use Rattle.formula.specs.Text.Clauses.{
   Marked,
   literalStep,
+  markedRefusal,
   LiteralPost,
   closingStep,
   ClosingPost,
   TokenStates,
-  TokenStores,
   ClauseTokenPost,
   clausesEnd,
   ClausesPost,
 }
-use Rattle.formula.specs.Text.Laws.{literal-fine, from-end, from-token, from-stopped}
+use Rattle.formula.specs.Text.Laws.{literal-fine, closing-fine, from-end, from-token, from-stopped}
 use Rattle.formula.specs.Refusal.{refusal, require}
 use Rattle.formula.specs.Token.{nextToken}
 use Rattle.formula.specs.Token.Laws.{FoundAt}
@@ -172,73 +172,56 @@ pub literal-none : (x : Option Refusal) → Literal ≡ literalStep x → x ≡ 
 literal-none none e = refl
 literal-none (some r) e = let z : _≡_ {A = ℕ} 0 1 = cc in absurd (omega arith)
 
-literal-never : (x : Option Refusal) → Closed ≡ literalStep x → ⊥
-literal-never none e = let z : _≡_ {A = ℕ} 0 1 = cc in omega arith
-literal-never (some r) e = let z : _≡_ {A = ℕ} 0 1 = cc in omega arith
+-- What a literal does to the state and to the tables, by its answer; `token` is read as the literal.
+module _ {n place v : ℕ} {positive : Bool} {used closed : ℕ} {table : List ℤ} {marks : List ℕ} {table′ : List ℤ} {marks′ : List ℕ} {answer : ClauseStep} (small : v ≤ variableBound) (room : used ≤ length table) (size : length marks ≡ variableBound + 1) (token : Token) (isLiteral : (prefixRoom c : ℕ) (P : Prefix) → clauseToken prefixRoom (length table) place v c P (take used table) token ≡ putLiteral prefixRoom (length table) place v c P (take used table) positive n) (post : LiteralPost n place v positive used closed table marks table′ marks′ answer) where
+  abbrev judged : Option Refusal
+  judged = markedRefusal place v n marks closed used (length table)
 
-literal-some : (x : Option Refusal) (r : Refusal) → NoStep r ≡ literalStep x → x ≡ some r
-literal-some none r e = let z : _≡_ {A = ℕ} 0 1 = cc in absurd (omega arith)
-literal-some (some q) r e = cc
+  literal-judged : (prefixRoom c : ℕ) (P : Prefix) → Marked marks P (take used table) closed → clauseToken prefixRoom (length table) place v c P (take used table) token ≡ unless stopped judged (clauses v c P (take used table ++ (signed positive n ∷ [])))
+  literal-judged prefixRoom c P M =
+      isLiteral prefixRoom c P ∙ rw (length-take-le used table room, literal-refusal-marks place v n (isIn n (listed P)) (ltb 0 (getD marks n 0)) (isIn n (openClause (take used table))) (eqb (getD marks n 0) (closed + 2)) used (length table) (λ h. M .says n (omega (arith, small))) (λ h. M .holds n (omega (arith, small))))
 
-closing-none : (x : Option Refusal) → Closed ≡ closingStep x → x ≡ none
-closing-none none e = refl
-closing-none (some r) e = let z : _≡_ {A = ℕ} 0 1 = cc in absurd (omega arith)
-
-closing-never : (x : Option Refusal) → Literal ≡ closingStep x → ⊥
-closing-never none e = let z : _≡_ {A = ℕ} 0 1 = cc in omega arith
-closing-never (some r) e = let z : _≡_ {A = ℕ} 0 1 = cc in omega arith
-
-closing-some : (x : Option Refusal) (r : Refusal) → NoStep r ≡ closingStep x → x ≡ some r
-closing-some none r e = let z : _≡_ {A = ℕ} 0 1 = cc in absurd (omega arith)
-closing-some (some q) r e = cc
-
-module _ (place v used closed : ℕ) (table : List ℤ) (marks : List ℕ) (prefixRoom c : ℕ) (P : Prefix) (small : v ≤ variableBound) (room : used ≤ length table) (M : Marked marks P (take used table) closed) where
-  -- A literal is judged by the marks.
-  literal-judged : (positive : Bool) (n : ℕ) → putLiteral prefixRoom (length table) place v c P (take used table) positive n ≡ unless (literalRefusal place v n (ltb 0 (getD marks n 0)) (eqb (getD marks n 0) (closed + 2)) used (length table)) (clauses v c P (take used table ++ (signed positive n ∷ [])))
-  literal-judged positive n =
-      rw (length-take-le used table room, literal-refusal-marks place v n (isIn n (listed P)) (ltb 0 (getD marks n 0)) (isIn n (openClause (take used table))) (eqb (getD marks n 0) (closed + 2)) used (length table) (λ h. M .says n (omega (arith, small))) (λ h. M .holds n (omega (arith, small))))
-
-  -- What a literal, or a closing 0, does to the state, by its answer.
-  pub literal-states : (token : Token) (positive : Bool) (n : ℕ) (table′ : List ℤ) (marks′ : List ℕ) (answer : ClauseStep) → clauseToken prefixRoom (length table) place v c P (take used table) token ≡ putLiteral prefixRoom (length table) place v c P (take used table) positive n → LiteralPost n place v positive used closed table marks table′ marks′ answer → TokenStates token place v used closed table table′ marks′ prefixRoom c P answer
-  literal-states token positive n table′ marks′ Literal e post =
-      let q = literal-none (literalRefusal place v n (ltb 0 (getD marks n 0)) (eqb (getD marks n 0) (closed + 2)) used (length table)) (post .answers) in
-      let f = literal-fine place v n (ltb 0 (getD marks n 0)) (eqb (getD marks n 0) (closed + 2)) used (length table) q in
-      let stored = post .stores in
-      let pushed : take (used + 1) table′ ≡ take used table ++ (signed positive n ∷ []) = rw (stored .0) (take-push table used (signed positive n) (stored .2)) in
-      let m = marked-literal marks P (take used table) closed M positive n (stored .3) (f .isBound) in
-      (rw pushed (e ∙ literal-judged positive n ∙ rw q), rw (pushed, stored .1) m, rw (pushed, open-literal [] (take used table) positive n (marked-proper marks P (take used table) closed M n (f .isBound))))
-  literal-states token positive n table′ marks′ Closed e post = absurd (literal-never (literalRefusal place v n (ltb 0 (getD marks n 0)) (eqb (getD marks n 0) (closed + 2)) used (length table)) (post .answers))
-  literal-states token positive n table′ marks′ (NoStep r) e post =
-      let q = literal-some (literalRefusal place v n (ltb 0 (getD marks n 0)) (eqb (getD marks n 0) (closed + 2)) used (length table)) r (post .answers) in
-      e ∙ literal-judged positive n ∙ rw q
-
-  pub closing-states : (table′ : List ℤ) (answer : ClauseStep) → ClosingPost place used table table′ answer → TokenStates (Natural 0) place v used closed table table′ marks prefixRoom c P answer
-  closing-states table′ Closed post =
-      let q = closing-none (closingRefusal place used (length table)) (post .answers) in
-      let stored = post .stores in
-      let pushed : take (used + 1) table′ ≡ take used table ++ (pos 0 ∷ []) = rw (stored .0) (take-push table used (pos 0) (stored .1)) in
-      (rw (pushed, length-take-le used table room, q), rw pushed (marked-closing marks P (take used table) closed M), rw (pushed, open-closing [] (take used table)))
-  closing-states table′ Literal post = absurd (closing-never (closingRefusal place used (length table)) (post .answers))
-  closing-states table′ (NoStep r) post =
-      let q = closing-some (closingRefusal place used (length table)) r (post .answers) in
-      rw (length-take-le used table room, q)
+  pub literal-post : ClauseTokenPost token place v used closed table marks table′ marks′ answer
+  literal-post = go judged refl (post .answers)
+    where
+      go : (o : Option Refusal) → judged ≡ o → answer ≡ literalStep o → ClauseTokenPost token place v used closed table marks table′ marks′ answer
+      go none e a =
+          let f = literal-fine place v n (ltb 0 (getD marks n 0)) (eqb (getD marks n 0) (closed + 2)) used (length table) e in
+          let stored = rw a at (post .stores) in
+          let pushed : take (used + 1) table′ ≡ take used table ++ (signed positive n ∷ []) = rw (stored .0) (take-push table used (signed positive n) (f .fits)) in
+          rw a (record {
+            states = λ rp c P M. (
+              rw pushed (literal-judged rp c P M ∙ rw e),
+              rw (pushed, stored .1) (marked-literal marks P (take used table) closed M positive n (omega (arith, f .inRange, small)) (f .isBound)),
+              rw (pushed, open-literal [] (take used table) positive n (marked-proper marks P (take used table) closed M n (f .isBound))),
+            );
+            stores = (f .fits, rw (stored .1, length-set) size);
+          })
+      go (some r) e a = rw a (record { states = λ rp c P M. literal-judged rp c P M ∙ rw e; stores = tt })
 
 -- A number that is not 0 is a literal.
-pub natural-literal : (prefixRoom place v c used : ℕ) (table : List ℤ) (P : Prefix) (n : ℕ) → (n ≡ 0 → ⊥) → clauseToken prefixRoom (length table) place v c P (take used table) (Natural n) ≡ putLiteral prefixRoom (length table) place v c P (take used table) true n
-natural-literal prefixRoom place v c used table P zero z = absurd (z refl)
-natural-literal prefixRoom place v c used table P (suc n) z = refl
+pub natural-literal : (place v used : ℕ) (table : List ℤ) (n : ℕ) → (n ≡ 0 → ⊥) → (prefixRoom c : ℕ) (P : Prefix) → clauseToken prefixRoom (length table) place v c P (take used table) (Natural n) ≡ putLiteral prefixRoom (length table) place v c P (take used table) true n
+natural-literal place v used table zero z prefixRoom c P = absurd (z refl)
+natural-literal place v used table (suc n) z prefixRoom c P = refl
 
--- What a literal, or a closing 0, leaves in the tables.
-pub literal-stores : (n place v : ℕ) (positive : Bool) (used closed : ℕ) (table : List ℤ) (marks : List ℕ) (table′ : List ℤ) (marks′ : List ℕ) (answer : ClauseStep) → length marks ≡ variableBound + 1 → LiteralPost n place v positive used closed table marks table′ marks′ answer → TokenStores used table marks′ answer
-literal-stores n place v positive used closed table marks table′ marks′ Literal h post =
-    (post .stores .2, rw (post .stores .1, length-set) h)
-literal-stores n place v positive used closed table marks table′ marks′ Closed h post = absurd (literal-never (literalRefusal place v n (ltb 0 (getD marks n 0)) (eqb (getD marks n 0) (closed + 2)) used (length table)) (post .answers))
-literal-stores n place v positive used closed table marks table′ marks′ (NoStep r) h post = tt
-
-pub closing-stores : (place used : ℕ) (table table′ : List ℤ) (marks : List ℕ) (answer : ClauseStep) → length marks ≡ variableBound + 1 → ClosingPost place used table table′ answer → TokenStores used table marks answer
-closing-stores place used table table′ marks Closed h post = (post .stores .1, h)
-closing-stores place used table table′ marks Literal h post = absurd (closing-never (closingRefusal place used (length table)) (post .answers))
-closing-stores place used table table′ marks (NoStep r) h post = tt
+-- The same of a closing 0.
+pub closing-post : {place v used closed : ℕ} {table table′ : List ℤ} {marks : List ℕ} {answer : ClauseStep} → used ≤ length table → length marks ≡ variableBound + 1 → ClosingPost place used table table′ answer → ClauseTokenPost (Natural 0) place v used closed table marks table′ marks answer
+closing-post {place} {v} {used} {closed} {table} {table′} {marks} {answer} room size post = go (closingRefusal place used (length table)) refl (post .answers)
+  where
+    go : (o : Option Refusal) → closingRefusal place used (length table) ≡ o → answer ≡ closingStep o → ClauseTokenPost (Natural 0) place v used closed table marks table′ marks answer
+    go none e a =
+        let f = closing-fine place used (length table) e in
+        let stored = rw a at (post .stores) in
+        let pushed : take (used + 1) table′ ≡ take used table ++ (pos 0 ∷ []) = rw stored (take-push table used (pos 0) (f .fits)) in
+        rw a (record {
+          states = λ rp c P M. (
+            rw (pushed, length-take-le used table room, e),
+            rw pushed (marked-closing marks P (take used table) closed M),
+            rw (pushed, open-closing [] (take used table)),
+          );
+          stores = (f .fits, size);
+        })
+    go (some r) e a = rw a (record { states = λ rp c P M. rw (length-take-le used table room, e); stores = tt })
 
 -- Among the clauses, at the place `at`: `used` words are used, `closed` clauses are closed, the open one from `start` on.
 pub record ClausesRead (text : List ℕ) (from v c : ℕ) (room : ℕ) (table : List ℤ) (marks : List ℕ) (at used closed start prefixRoom : ℕ) (P : Prefix) : Type 0 where

@@ -20,7 +20,7 @@ use Rattle.formula.specs.Prefix.Laws.{prefix-none, prefix-words, put-ent
 use Rattle.formula.specs.Tables.{isIn, zeros}
 use Rattle.formula.specs.Token.{aWord, eWord, nextToken}
 use Rattle.formula.specs.Token.Laws.{FoundAt}
-use Rattle.formula.specs.Text.{betweenSets, inSet, clauses, isWord, unless, opens, openFrom, variableRefusal, setToken, clausesToken, step, ending, readingFrom}
+use Rattle.formula.specs.Text.{betweenSets, inSet, clauses, stopped, isWord, unless, opens, openFrom, variableRefusal, setToken, clausesToken, step, ending, readingFrom}
 use Rattle.formula.specs.Text.Distinct.{or-no}
 use Rattle.formula.specs.Text.Laws.{variable-fine, from-end, from-token, from-stopped}
 use Rattle.formula.specs.Text.Sets.{Listed, listing, ListingPost, setClosing, SetTokenPost, SetPost, SetsPost}
@@ -70,54 +70,40 @@ variable-refusal-marks at v n known marked fits e = go (leb n v) refl
     go true f = rw (e (leb-true n v f))
     go false f = rw f
 
-listing-none : (more used : ℕ) (x : Option Refusal) → Lists more ≡ listing used x → (x ≡ none) × (more ≡ used)
-listing-none more used none e = (refl, cc)
-listing-none more used (some r) e = let z : _≡_ {A = ℕ} 0 1 = cc in absurd (omega arith)
+-- What a number other than 0 does to the state and to the tables, by its answer.
+module _ {n place v : ℕ} {q : Quantifier} {used : ℕ} {prefix : List ℤ} {marks : List ℕ} {prefix′ : List ℤ} {marks′ : List ℕ} {answer : SetStep} (filled : Bool) (small : v ≤ variableBound) (room : used ≤ length prefix) (L : Listed marks (prefixOf (take used prefix))) (z : 0 < n) (post : ListingPost n place v q used prefix marks prefix′ marks′ answer) where
+  -- It is judged by its mark.
+  abbrev judged : Option Refusal
+  judged = variableRefusal place v n (ltb 0 (getD marks n 0)) (entryFits (length prefix) used)
 
-listing-never : (used : ℕ) (x : Option Refusal) → Closes ≡ listing used x → ⊥
-listing-never used none e = let z : _≡_ {A = ℕ} 0 1 = cc in omega arith
-listing-never used (some r) e = let z : _≡_ {A = ℕ} 0 1 = cc in omega arith
+  set-judged : (m c clauseRoom : ℕ) → m ≡ n → setToken (length prefix) clauseRoom place v c q filled (prefixOf (take used prefix)) (Natural m) ≡ unless stopped judged (inSet v c q true (prefixOf (take used prefix) ++ (entry m q ∷ [])))
+  set-judged zero c clauseRoom e = absurd (omega arith)
+  set-judged (suc m) c clauseRoom e =
+      rw (prefix-words (take used prefix), length-take-le used prefix room, ← e, variable-refusal-marks place v (suc m) (isIn (suc m) (listed (prefixOf (take used prefix)))) (ltb 0 (getD marks (suc m) 0)) (entryFits (length prefix) used) (λ h. L .says (suc m) (omega (arith, small))))
 
-listing-some : (used : ℕ) (x : Option Refusal) (r : Refusal) → NoListing r ≡ listing used x → x ≡ some r
-listing-some used none r e = let z : _≡_ {A = ℕ} 0 1 = cc in absurd (omega arith)
-listing-some used (some q) r e = cc
-
-module _ (place v : ℕ) (q : Quantifier) (filled : Bool) (used : ℕ) (prefix : List ℤ) (marks : List ℕ) (small : v ≤ variableBound) (room : used ≤ length prefix) (L : Listed marks (prefixOf (take used prefix))) where
-  -- A number that is not 0 is judged by the marks.
-  set-judged : (n c clauseRoom : ℕ) → 0 < n → setToken (length prefix) clauseRoom place v c q filled (prefixOf (take used prefix)) (Natural n) ≡ unless (variableRefusal place v n (ltb 0 (getD marks n 0)) (entryFits (length prefix) used)) (inSet v c q true (prefixOf (take used prefix) ++ (entry n q ∷ [])))
-  set-judged zero c clauseRoom z = absurd (omega arith)
-  set-judged (suc n) c clauseRoom z =
-      rw (prefix-words (take used prefix), length-take-le used prefix room, variable-refusal-marks place v (suc n) (isIn (suc n) (listed (prefixOf (take used prefix)))) (ltb 0 (getD marks (suc n) 0)) (entryFits (length prefix) used) (λ h. L .says (suc n) (omega (arith, small))))
-
-  -- What a variable does to the state and to the tables, by its answer.
-  pub variable-post : (n : ℕ) (prefix′ : List ℤ) (marks′ : List ℕ) (answer : SetStep) → 0 < n → ListingPost n place v q used prefix marks prefix′ marks′ answer → SetTokenPost (Natural n) place v q filled used prefix marks prefix′ marks′ answer
-  variable-post n prefix′ marks′ (Lists more) z post =
-      let e = listing-none more (usedAfter used) (variableRefusal place v n (ltb 0 (getD marks n 0)) (entryFits (length prefix) used)) (post .answers) in
-      let f = variable-fine place v n (ltb 0 (getD marks n 0)) (entryFits (length prefix) used) (e .0) in
-      let stored = post .stores in
-      let pushed : prefixOf (take more prefix′) ≡ prefixOf (take used prefix) ++ (entry n q ∷ []) = rw (stored .0, e .1) (put-entries prefix used n q (f .room) z) in
-      record {
-        states = λ c rc. rw pushed (set-judged n c rc z ∙ rw (e .0));
-        stores = (
-          rw (e .1) (put-more used),
-          rw (e .1) (put-within (length prefix) used (f .room)),
-          rw (pushed, stored .1) (listed-more marks (prefixOf (take used prefix)) q n (omega (arith, f .inRange, small)) z L),
-        );
-      }
-  variable-post n prefix′ marks′ Closes z post =
-      absurd (listing-never (usedAfter used) (variableRefusal place v n (ltb 0 (getD marks n 0)) (entryFits (length prefix) used)) (post .answers))
-  variable-post n prefix′ marks′ (NoListing r) z post =
-      let e = listing-some (usedAfter used) (variableRefusal place v n (ltb 0 (getD marks n 0)) (entryFits (length prefix) used)) r (post .answers) in
-      record { states = λ c rc. set-judged n c rc z ∙ rw e; stores = tt }
-
-  -- A set's closing 0, and what is no number without minus.
-  pub closing-post : (n : ℕ) → n ≤ 0 → SetTokenPost (Natural n) place v q filled used prefix marks prefix marks (setClosing filled place)
-  closing-post zero z = go filled
+  pub variable-post : SetTokenPost (Natural n) place v q filled used prefix marks prefix′ marks′ answer
+  variable-post = go judged refl (post .answers)
     where
-      go : (filled : Bool) → SetTokenPost (Natural 0) place v q filled used prefix marks prefix marks (setClosing filled place)
-      go true = record { states = λ c rc. refl; stores = (refl, refl) }
-      go false = record { states = λ c rc. refl; stores = tt }
-  closing-post (suc n) z = absurd (omega arith)
+      go : (o : Option Refusal) → judged ≡ o → answer ≡ listing (usedAfter used) o → SetTokenPost (Natural n) place v q filled used prefix marks prefix′ marks′ answer
+      go none e a =
+          let f = variable-fine place v n (ltb 0 (getD marks n 0)) (entryFits (length prefix) used) e in
+          let stored = rw a at (post .stores) in
+          let pushed : prefixOf (take (usedAfter used) prefix′) ≡ prefixOf (take used prefix) ++ (entry n q ∷ []) = rw (stored .0) (put-entries prefix used n q (f .room) z) in
+          rw a (record {
+            states = λ c rc. rw pushed (set-judged n c rc refl ∙ rw e);
+            stores = (
+              put-more used,
+              put-within (length prefix) used (f .room),
+              rw (pushed, stored .1) (listed-more marks (prefixOf (take used prefix)) q n (omega (arith, f .inRange, small)) z L),
+            );
+          })
+      go (some r) e a = rw a (record { states = λ c rc. set-judged n c rc refl ∙ rw e; stores = tt })
+
+-- A set's closing 0.
+pub closing-post : (n place v : ℕ) (q : Quantifier) (filled : Bool) (used : ℕ) (prefix : List ℤ) (marks : List ℕ) → n ≤ 0 → SetTokenPost (Natural n) place v q filled used prefix marks prefix marks (setClosing filled place)
+closing-post zero place v q true used prefix marks z = record { states = λ c rc. refl; stores = (refl, refl) }
+closing-post zero place v q false used prefix marks z = record { states = λ c rc. refl; stores = tt }
+closing-post (suc n) place v q filled used prefix marks z = absurd (omega arith)
 
 -- In a set, at the place `at`: `used` words were used as it began, n are now.
 pub record SetSoFar (text : List ℕ) (start v : ℕ) (q : Quantifier) (used : ℕ) (prefix₀ prefix : List ℤ) (marks : List ℕ) (at n : ℕ) : Type 0 where
