@@ -58,10 +58,10 @@ pub data State : Type 0 where
   clauses : (v c : ℕ) (P : Prefix) (words : List ℤ) → State
   stopped : Refusal → State
 
--- A refusal stops; without one the state follows.
-abbrev pub unless : Option Refusal → State → State
-unless (some r) s = stopped r
-unless none s = s
+-- What answers by the refusal that there may be: without one, what is done.
+abbrev pub unless : {A : Type 0} → (Refusal → A) → Option Refusal → (done : A) → A
+unless refuses (some r) done = refuses r
+unless refuses none done = done
 
 -- The variable n with a sign.
 abbrev pub signed : Bool → ℕ → ℤ
@@ -132,7 +132,7 @@ module _ (prefixRoom clauseRoom : ℕ) where
   abbrev pub setNumber : (at v c : ℕ) (q : Quantifier) (filled : Bool) (P : Prefix) → ℕ → State
   setNumber at v c q filled P zero = require filled (stopped (refusal BadToken at)) (betweenSets v c P)
   setNumber at v c q filled P (suc n) =
-      unless (variableRefusal at v (suc n) (isIn (suc n) (listed P)) (entryFits prefixRoom (length (wordsOf P))))
+      unless stopped (variableRefusal at v (suc n) (isIn (suc n) (listed P)) (entryFits prefixRoom (length (wordsOf P))))
       (inSet v c q true (P ++ (entry (suc n) q ∷ [])))
 
   abbrev pub setToken : (at v c : ℕ) (q : Quantifier) (filled : Bool) (P : Prefix) → Token → State
@@ -143,12 +143,12 @@ module _ (prefixRoom clauseRoom : ℕ) where
   -- A token of a clause: a literal, or the closing 0.
   abbrev pub putLiteral : (at v c : ℕ) (P : Prefix) (words : List ℤ) (positive : Bool) → ℕ → State
   putLiteral at v c P words positive n =
-      unless (literalRefusal at v n (isIn n (listed P)) (isIn n (openClause words)) (length words) clauseRoom)
+      unless stopped (literalRefusal at v n (isIn n (listed P)) (isIn n (openClause words)) (length words) clauseRoom)
       (clauses v c P (words ++ (signed positive n ∷ [])))
 
   abbrev pub clauseNumber : (at v c : ℕ) (P : Prefix) (words : List ℤ) → ℕ → State
   clauseNumber at v c P words zero =
-      unless (closingRefusal at (length words) clauseRoom) (clauses v c P (words ++ (pos 0 ∷ [])))
+      unless stopped (closingRefusal at (length words) clauseRoom) (clauses v c P (words ++ (pos 0 ∷ [])))
   clauseNumber at v c P words (suc n) = putLiteral at v c P words true (suc n)
 
   abbrev pub clauseToken : (at v c : ℕ) (P : Prefix) (words : List ℤ) → Token → State

@@ -129,7 +129,7 @@ Sound (clauses v c P words) =
     (v ≤ variableBound) × (c ≤ countBound) × PrefixPasses v P × ClausesPass c P words
 Sound (stopped r) = Unit {0}
 
-unless-sound : (x : Option Refusal) (s : State) → (x ≡ none → Sound s) → Sound (unless x s)
+unless-sound : (x : Option Refusal) (s : State) → (x ≡ none → Sound s) → Sound (unless stopped x s)
 unless-sound (some r) s h = tt
 unless-sound none s h = h refl
 

@@ -4,7 +4,7 @@ pub mod Laws
 use Prim.Native.Nat.{ℕ, _+_, _≤_, _<_}
 use mathlib.Core.Path.{_≡_}
 use mathlib.Core.Bool.{Bool, true, false, not}
-use mathlib.Core.Option.{Option, none, some}
+use mathlib.Core.Option.{Option}
 use mathlib.Core.List.{List, []}
 use lib.IntN.{ℤ, pos}
 use lib.ListN.{length, getD, set, take}
@@ -14,7 +14,7 @@ use Rattle.formula.specs.Bounds.{variableBound}
 use Rattle.formula.specs.Refusal.{refusal, require}
 use Rattle.formula.specs.Prefix.{prefixWords}
 use Rattle.formula.specs.Tables.{isIn, zeros}
-use Rattle.formula.specs.Text.{read, refused, clauses, stopped, signed, openClause, isOpen, literalRefusal, closingRefusal, clauseToken, readingFrom}
+use Rattle.formula.specs.Text.{read, refused, clauses, stopped, unless, signed, openClause, isOpen, literalRefusal, closingRefusal, clauseToken, readingFrom}
 use Rattle.formula.specs.declared.refusal.Reason.the-variants.{Unfinished, Miscount}
 use Rattle.formula.specs.declared.refusal.Refusal.{Refusal}
 use Rattle.formula.specs.declared.token.Token.{Token}
@@ -35,27 +35,28 @@ pub record Marked (marks : List ℕ) (P : Prefix) (words : List ℤ) (closed : �
 
 -- A literal of the variable n: refused, or written and marked.
 abbrev pub literalStep : Option Refusal → ClauseStep
-literalStep none = Literal
-literalStep (some r) = NoStep r
+literalStep x = unless NoStep x Literal
+
+-- By its variable's mark.
+abbrev pub markedRefusal : (at v n : ℕ) (marks : List ℕ) (closed used room : ℕ) → Option Refusal
+markedRefusal at v n marks closed used room = literalRefusal at v n (ltb 0 (getD marks n 0)) (eqb (getD marks n 0) (closed + 2)) used room
 
 abbrev pub LiteralStores : (n : ℕ) (positive : Bool) (used closed : ℕ) (table : List ℤ) (marks : List ℕ) (table′ : List ℤ) (marks′ : List ℕ) → ClauseStep → Type 0
-LiteralStores n positive used closed table marks table′ marks′ Literal =
-    (table′ ≡ set table used (signed positive n)) × (marks′ ≡ set marks n (closed + 2)) × (used < length table) × (n ≤ variableBound)
+LiteralStores n positive used closed table marks table′ marks′ Literal = (table′ ≡ set table used (signed positive n)) × (marks′ ≡ set marks n (closed + 2))
 LiteralStores n positive used closed table marks table′ marks′ Closed = Unit {0}
 LiteralStores n positive used closed table marks table′ marks′ (NoStep r) = Unit {0}
 
 pub record LiteralPost (n place variables : ℕ) (positive : Bool) (used closed : ℕ) (table : List ℤ) (marks : List ℕ) (table′ : List ℤ) (marks′ : List ℕ) (answer : ClauseStep) : Type 0 where
-  pub answers : answer ≡ literalStep (literalRefusal place variables n (ltb 0 (getD marks n 0)) (eqb (getD marks n 0) (closed + 2)) used (length table))
+  pub answers : answer ≡ literalStep (markedRefusal place variables n marks closed used (length table))
   pub stores : LiteralStores n positive used closed table marks table′ marks′ answer
 
 -- A clause's closing 0: refused, or written.
 abbrev pub closingStep : Option Refusal → ClauseStep
-closingStep none = Closed
-closingStep (some r) = NoStep r
+closingStep x = unless NoStep x Closed
 
 abbrev pub ClosingStores : (used : ℕ) (table table′ : List ℤ) → ClauseStep → Type 0
 ClosingStores used table table′ Literal = Unit {0}
-ClosingStores used table table′ Closed = (table′ ≡ set table used (pos 0)) × (used < length table)
+ClosingStores used table table′ Closed = table′ ≡ set table used (pos 0)
 ClosingStores used table table′ (NoStep r) = Unit {0}
 
 pub record ClosingPost (place used : ℕ) (table table′ : List ℤ) (answer : ClauseStep) : Type 0 where

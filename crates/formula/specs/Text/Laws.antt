@@ -11,11 +11,11 @@ use lib.ListN.{length}
 use Rattle.formula.specs.Bounds.{matrixBound}
 use Rattle.formula.specs.Refusal.{require}
 use Rattle.formula.specs.Token.{Placed, placed, nextToken}
-use Rattle.formula.specs.Token.Laws.{no-token, token-found}
+use Rattle.formula.specs.Token.Laws.{FoundAt, no-token}
 use Rattle.formula.specs.Text.{refused, State, stopped, variableRefusal, literalRefusal, closingRefusal, step, run, ending, readingFrom}
 use Rattle.formula.specs.declared.refusal.Refusal.{Refusal}
 use Rattle.formula.specs.declared.token.Token.{Token}
-use Rattle.formula.specs.declared.token.Next.the-variants.{End, Found}
+use Rattle.formula.specs.declared.token.Next.the-variants.{End}
 
 -- A test that did not refuse.
 pub require-none : (b : Bool) (r : Refusal) (later : Option Refusal) → require b (some r) later ≡ none → (b ≡ true) × (later ≡ none)
@@ -78,9 +78,9 @@ module _ (prefixRoom clauseRoom : ℕ) (text : List ℕ) where
   unfolding run
   from-end s at e = rw (no-token text at e)
 
-  pub from-token : (s : State) (at : ℕ) (t : Token) (p n : ℕ) → nextToken text at ≡ Found t p n → readingFrom prefixRoom clauseRoom text s at ≡ readingFrom prefixRoom clauseRoom text (step prefixRoom clauseRoom s (placed t p)) n
+  pub from-token : (s : State) {at : ℕ} {t : Token} {p n : ℕ} → FoundAt text at t p n → readingFrom prefixRoom clauseRoom text s at ≡ readingFrom prefixRoom clauseRoom text (step prefixRoom clauseRoom s (placed t p)) n
   unfolding run
-  from-token s at t p n e = rw (token-found text at t p n e .tokens)
+  from-token s f = rw (f .tokens)
 
   run-stopped : (r : Refusal) (ts : List Placed) → run prefixRoom clauseRoom (stopped r) ts ≡ stopped r
   unfolding run step

@@ -4,7 +4,7 @@ pub mod Laws
 use Prim.Native.Nat.{ℕ, _+_, _≤_, _<_}
 use mathlib.Core.Path.{_≡_}
 use mathlib.Core.Bool.{Bool, true, false}
-use mathlib.Core.Option.{Option, none, some}
+use mathlib.Core.Option.{Option}
 use mathlib.Core.List.{List, []}
 use lib.IntN.{ℤ}
 use lib.ListN.{length, getD, set, take}
@@ -14,7 +14,7 @@ use Rattle.formula.specs.Bounds.{variableBound}
 use Rattle.formula.specs.Refusal.{refusal, require}
 use Rattle.formula.specs.Prefix.{prefixOf, entryFits, putEntry, usedAfter}
 use Rattle.formula.specs.Tables.{isIn}
-use Rattle.formula.specs.Text.{refused, betweenSets, inSet, clauses, stopped, variableRefusal, setToken, readingFrom}
+use Rattle.formula.specs.Text.{refused, betweenSets, inSet, clauses, stopped, unless, variableRefusal, setToken, readingFrom}
 use Rattle.formula.specs.declared.refusal.Reason.the-variants.{BadToken}
 use Rattle.formula.specs.declared.refusal.Refusal.{Refusal}
 use Rattle.formula.specs.declared.token.Token.{Token}
@@ -32,8 +32,7 @@ pub record Listed (marks : List ℕ) (P : Prefix) : Type 0 where
 
 -- A variable n of a set: refused, or written and marked, `more` words being used then.
 abbrev pub listing : ℕ → Option Refusal → SetStep
-listing more none = Lists more
-listing more (some r) = NoListing r
+listing more x = unless NoListing x (Lists more)
 
 abbrev pub ListingStores : (n : ℕ) (q : Quantifier) (used : ℕ) (prefix : List ℤ) (marks : List ℕ) (prefix′ : List ℤ) (marks′ : List ℕ) → SetStep → Type 0
 ListingStores n q used prefix marks prefix′ marks′ (Lists more) = (prefix′ ≡ putEntry prefix used (entry n q)) × (marks′ ≡ set marks n 1)

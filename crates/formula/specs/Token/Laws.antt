@@ -97,8 +97,8 @@ pub record FoundAt (text : List ℕ) (at : ℕ) (t : Token) (p n : ℕ) : Type 0
 pub no-token : (text : List ℕ) (at : ℕ) → nextToken text at ≡ End → tokensAt text at ≡ []
 no-token text at e = rw e at (next-tokens (drop at text) at between)
 
-pub token-found : (text : List ℕ) (at : ℕ) (t : Token) (p n : ℕ) → nextToken text at ≡ Found t p n → FoundAt text at t p n
-token-found text at t p n e =
+pub token-found : (text : List ℕ) (at : ℕ) {t : Token} {p n : ℕ} → nextToken text at ≡ Found t p n → FoundAt text at t p n
+token-found text at {t} {p} {n} e =
     let h : NextTokens (Found t p n) (tokensAt text at) at between (drop at text) = rw e at (next-tokens (drop at text) at between) in
     let k : n ≤ at + (length text - at) = rw length-drop at (h .2) in
     let s : at + (n - at) ≡ n = omega (arith, h .1) in

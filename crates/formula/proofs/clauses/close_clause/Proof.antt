@@ -16,7 +16,7 @@ returns-2 c = record { answers = rw (c .new2 .ensures) (simp (lt-ltb _ _ (c .bef
 
 returns-3 : tie.Need-returns-3
 unfolding closingRefusal
-returns-3 c = record { answers = simp (lt-ltb _ _ (c .before .if1 .left), lt-ltb _ _ (c .if2 .left)); stores = (refl, search needs) }
+returns-3 c = record { answers = simp (lt-ltb _ _ (c .before .if1 .left), lt-ltb _ _ (c .if2 .left)); stores = refl }
 
 pub close-clause-spec : {M : Type 1} → statement M
 close-clause-spec =

@@ -5,9 +5,8 @@ use native.Mathlib.Omega.{arith}
 use lib.ListN.{length, getD}
 use lib.Dec.{ltb, eqb}
 use Rattle.formula.specs.Bounds.{variableBound}
-use Rattle.formula.specs.Text.{literalRefusal}
 use Rattle.formula.specs.Text.Laws.{LiteralFine, literal-fine}
-use Rattle.formula.specs.Text.Clauses.{literalStep}
+use Rattle.formula.specs.Text.Clauses.{literalStep, markedRefusal}
 use Rattle.formula.specs.Text.Clauses.Laws.{literal-none}
 use Rattle.formula.proofs.SignedWord.{signed-back}
 use borrow.Author.Needs.{needs}
@@ -15,13 +14,13 @@ use Rattle.formula.proofs.clauses.put_literal.Statement.{statement}
 use Rattle.formula.proofs.clauses.put_literal.Tie as tie
 
 -- the literal as it is judged, by its variable's mark
-judged-at : (c : tie.After-judge-literal) → let args = c .before .before .before .args in c .judge-literal .result ≡ literalStep (literalRefusal (args .place) (args .variables) (args .n) (ltb 0 (getD (args .marks .now) (args .n) 0)) (eqb (getD (args .marks .now) (args .n) 0) (args .closed + 2)) (args .used) (length (args .clauses .now)))
+judged-at : (c : tie.After-judge-literal) → let args = c .before .before .before .args in c .judge-literal .result ≡ literalStep (markedRefusal (args .place) (args .variables) (args .n) (args .marks .now) (args .closed) (args .used) (length (args .clauses .now)))
 judged-at c = rw (← c .before .mark-of .ensures) (c .judge-literal .ensures)
 
 fine-at : (c : tie.After-enum-told2) → let args = c .before .before .before .before .before .args in LiteralFine (args .variables) (args .n) (ltb 0 (getD (args .marks .now) (args .n) 0)) (eqb (getD (args .marks .now) (args .n) 0) (args .closed + 2)) (args .used) (length (args .clauses .now))
 fine-at c =
     let args = c .before .before .before .before .before .args in
-    literal-fine (args .place) (args .variables) (args .n) _ _ (args .used) _ (literal-none (literalRefusal (args .place) (args .variables) (args .n) (ltb 0 (getD (args .marks .now) (args .n) 0)) (eqb (getD (args .marks .now) (args .n) 0) (args .closed + 2)) (args .used) (length (args .clauses .now))) (sym (c .enum-told2 .given .1) ∙ judged-at (c .before .before)))
+    literal-fine (args .place) (args .variables) (args .n) _ _ (args .used) _ (literal-none (markedRefusal (args .place) (args .variables) (args .n) (args .marks .now) (args .closed) (args .used) (length (args .clauses .now))) (sym (c .enum-told2 .given .1) ∙ judged-at (c .before .before)))
 
 small-at : (c : tie.After-enum-told2) → c .before .before .before .before .before .args .n ≤ variableBound
 small-at c = omega (arith, fine-at c .inRange, c .before .before .before .before .before .pre .0)
@@ -52,7 +51,7 @@ returns-3 c =
     let args = c .before .before .before .before .before .before .args in
     record {
       answers = sym (c .before .enum-told2 .given .1) ∙ judged-at (c .before .before .before);
-      stores = (rw (c .signed-word .ensures, signed-back (args .positive) (args .n) (small-at (c .before))), refl, fine-at (c .before) .fits, small-at (c .before));
+      stores = (rw (c .signed-word .ensures, signed-back (args .positive) (args .n) (small-at (c .before))), refl);
     }
 
 pub put-literal-spec : {M : Type 1} → statement M

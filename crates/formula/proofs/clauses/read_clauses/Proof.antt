@@ -4,7 +4,7 @@ use mathlib.Core.Path.{sym, _∙_}
 use mathlib.Core.List.{[]}
 use native.Mathlib.Omega.{arith}
 use lib.ListN.{length}
-use Rattle.formula.specs.Token.Laws.{token-found}
+use Rattle.formula.specs.Token.Laws.{FoundAt, token-found}
 use Rattle.formula.specs.Text.Clauses.Laws.{ClausesSoFar, clauses-begin, clauses-end, clauses-over, clauses-refuse, clauses-literal, clauses-closed}
 use borrow.Author.Needs.{needs}
 use Rattle.formula.proofs.clauses.read_clauses.Statement.{statement}
@@ -21,69 +21,35 @@ loop-holds c =
     let args = c .before .args in
     clauses-begin (args .text .now) (args .from) (args .variables) (args .count) (args .clauses .now) (args .marks .now) (c .before .pre .2)
 
+-- the token that was found
+found : (c : tie.After-known-told Inv-loop μ-loop) → let g = c .before .token .given in FoundAt (c .before .before .before .before .before .before .args .text .now) (c .before .before .before .before .loop .at) (g .0 .0) (g .0 .1 .0) (g .0 .1 .1 .0)
+found c = token-found (c .before .before .before .before .before .before .args .text .now) (c .before .before .before .before .loop .at) (sym (c .before .before .before .next-token .ensures) ∙ c .before .token .given .1)
+
 returns : tie.Need-returns Inv-loop μ-loop
-returns c =
-    let l = c .before .before .before .before .loop in
-    let args = c .before .before .before .before .before .before .args in
-    rw (c .clauses-end .ensures) (clauses-end (args .text .now) (args .from) (args .variables) (args .count) (args .clauses .now) (l .clauses) (args .marks .now) (l .marks) (l .at) (l .used) (l .closed) (l .start) (l .inv) (sym (c .before .before .before .next-token .ensures) ∙ c .before .enum-told .given .1))
+returns c = rw (c .clauses-end .ensures) (clauses-end (c .before .before .before .before .loop .inv) (sym (c .before .before .before .next-token .ensures) ∙ c .before .enum-told .given .1))
 
 returns-2 : tie.Need-returns-2 Inv-loop μ-loop
-returns-2 c =
-    let l = c .before .before .before .before .before .before .loop in
-    let args = c .before .before .before .before .before .before .before .before .args in
-    let g = c .before .before .before .token .given in
-    let e = sym (c .before .before .before .before .before .next-token .ensures) ∙ g .1 in
-    rw (c .new .ensures) (clauses-over (args .text .now) (args .from) (args .variables) (args .count) (args .clauses .now) (l .clauses) (args .marks .now) (l .marks) (l .at) (l .used) (l .closed) (l .start) (l .inv) (g .0 .0) (g .0 .1 .0) (g .0 .1 .1 .0) e (c .before .if1 .taken) [])
+returns-2 c = rw (c .new .ensures) (clauses-over (c .before .before .before .before .before .before .loop .inv) (found (c .before .before)) (c .before .if1 .taken) [])
 
 clause-token-requires : tie.Need-clause-token-requires Inv-loop μ-loop
-clause-token-requires c κs =
-    let l = c .before .before .before .before .before .before .before .loop in
-    (search needs, search needs, l .inv .size, l .inv .room)
+clause-token-requires c κs = let I = c .before .before .before .before .before .before .before .loop .inv in (search needs, search needs, I .size, I .room)
 
 returns-3 : tie.Need-returns-3 Inv-loop μ-loop
-returns-3 c =
-    let l = c .before .before .before .before .before .before .before .before .before .before .before .before .loop in
-    let args = c .before .before .before .before .before .before .before .before .before .before .before .before .before .before .args in
-    let g = c .before .before .before .before .before .before .before .before .before .token .given in
-    let e = sym (c .before .before .before .before .before .before .before .before .before .before .before .next-token .ensures) ∙ g .1 in
-    let post = rw (c .before .r .given .1) at (c .before .before .before .before .clause-token .ensures) in
-    clauses-refuse (args .text .now) (args .from) (args .variables) (args .count) (args .clauses .now) (l .clauses) (args .marks .now) (l .marks) (l .at) (l .used) (l .closed) (l .start) (l .inv) (g .0 .0) (g .0 .1 .0) (g .0 .1 .1 .0) (c .before .r .given .0 .0) _ _ e (c .before .before .before .before .before .before .before .if1 .left) post
+returns-3 c = clauses-refuse (c .before .before .before .before .before .before .before .before .before .before .before .before .loop .inv) (found (c .before .before .before .before .before .before .before .before)) (c .before .before .before .before .before .before .before .if1 .left) (rw (c .before .r .given .1) at (c .before .before .before .before .clause-token .ensures))
 
 loop-less : tie.Need-loop-less Inv-loop μ-loop
-loop-less c =
-    let l = c .before .before .before .before .before .before .before .before .before .before .before .loop in
-    let args = c .before .before .before .before .before .before .before .before .before .before .before .before .before .args in
-    let g = c .before .before .before .before .before .before .before .before .token .given in
-    let e = sym (c .before .before .before .before .before .before .before .before .before .before .next-token .ensures) ∙ g .1 in
-    let f = token-found (args .text .now) (l .at) (g .0 .0) (g .0 .1 .0) (g .0 .1 .1 .0) e in
-    omega (arith, f .after, f .inside)
+loop-less c = let f = found (c .before .before .before .before .before .before .before) in omega (arith, f .after, f .inside)
 
 loop-again : tie.Need-loop-again Inv-loop μ-loop
 loop-again c =
-    let l = c .before .before .before .before .before .before .before .before .before .before .before .loop in
-    let args = c .before .before .before .before .before .before .before .before .before .before .before .before .before .args in
-    let g = c .before .before .before .before .before .before .before .before .token .given in
-    let e = sym (c .before .before .before .before .before .before .before .before .before .before .next-token .ensures) ∙ g .1 in
-    let post = rw (c .enum-told2 .given .1) at (c .before .before .before .clause-token .ensures) in
-    clauses-literal (args .text .now) (args .from) (args .variables) (args .count) (args .clauses .now) (l .clauses) (args .marks .now) (l .marks) (l .at) (l .used) (l .closed) (l .start) (l .inv) (g .0 .0) (g .0 .1 .0) (g .0 .1 .1 .0) _ _ e (c .before .before .before .before .before .before .if1 .left) (search needs) post
+    clauses-literal (c .before .before .before .before .before .before .before .before .before .before .before .loop .inv) (found (c .before .before .before .before .before .before .before)) (c .before .before .before .before .before .before .if1 .left) (search needs) (rw (c .enum-told2 .given .1) at (c .before .before .before .clause-token .ensures))
 
 loop-less-2 : tie.Need-loop-less-2 Inv-loop μ-loop
-loop-less-2 c =
-    let l = c .before .before .before .before .before .before .before .before .before .before .before .loop in
-    let args = c .before .before .before .before .before .before .before .before .before .before .before .before .before .args in
-    let g = c .before .before .before .before .before .before .before .before .token .given in
-    let e = sym (c .before .before .before .before .before .before .before .before .before .before .next-token .ensures) ∙ g .1 in
-    let f = token-found (args .text .now) (l .at) (g .0 .0) (g .0 .1 .0) (g .0 .1 .1 .0) e in
-    omega (arith, f .after, f .inside)
+loop-less-2 c = let f = found (c .before .before .before .before .before .before .before) in omega (arith, f .after, f .inside)
 
 loop-again-2 : tie.Need-loop-again-2 Inv-loop μ-loop
 loop-again-2 c =
-    let l = c .before .before .before .before .before .before .before .before .before .before .before .loop in
-    let args = c .before .before .before .before .before .before .before .before .before .before .before .before .before .args in
-    let g = c .before .before .before .before .before .before .before .before .token .given in
-    let e = sym (c .before .before .before .before .before .before .before .before .before .before .next-token .ensures) ∙ g .1 in
-    let post = rw (c .enum-told3 .given .1) at (c .before .before .before .clause-token .ensures) in
-    clauses-closed (args .text .now) (args .from) (args .variables) (args .count) (args .clauses .now) (l .clauses) (args .marks .now) (l .marks) (l .at) (l .used) (l .closed) (l .start) (l .inv) (g .0 .0) (g .0 .1 .0) (g .0 .1 .1 .0) _ _ e (c .before .before .before .before .before .before .if1 .left) (search needs) post
+    clauses-closed (c .before .before .before .before .before .before .before .before .before .before .before .loop .inv) (found (c .before .before .before .before .before .before .before)) (c .before .before .before .before .before .before .if1 .left) (search needs) (rw (c .enum-told3 .given .1) at (c .before .before .before .clause-token .ensures))
 
 pub read-clauses-spec : {M : Type 1} → statement M
 read-clauses-spec =

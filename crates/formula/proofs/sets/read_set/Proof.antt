@@ -4,7 +4,7 @@ use mathlib.Core.Path.{sym, _∙_}
 use mathlib.Core.List.{[]}
 use native.Mathlib.Omega.{arith}
 use lib.ListN.{length}
-use Rattle.formula.specs.Token.Laws.{token-found}
+use Rattle.formula.specs.Token.Laws.{FoundAt, token-found}
 use Rattle.formula.specs.Text.Sets.Laws.{SetSoFar, set-begins, set-ends, set-closes, set-refuses, set-lists}
 use borrow.Author.Needs.{needs}
 use Rattle.formula.specs.Prefix.{quantifierOf}
@@ -22,52 +22,27 @@ loop-holds c =
     let args = c .before .args in
     set-begins (args .text .now) (args .from) (args .variables) (quantifierOf (args .existential)) (args .used) (args .prefix .now) (args .marks .now) (c .before .pre .1) (c .before .pre .2)
 
+-- the token that `set_token` was given
+found : (c : tie.After-set-token Inv-loop μ-loop) → let g = c .before .before .before .before .token .given in FoundAt (c .before .before .before .before .before .before .before .before .before .args .text .now) (c .before .before .before .before .before .before .before .loop .at) (g .0 .0) (g .0 .1 .0) (g .0 .1 .1 .0)
+found c = token-found (c .before .before .before .before .before .before .before .before .before .args .text .now) (c .before .before .before .before .before .before .before .loop .at) (sym (c .before .before .before .before .before .before .next-token .ensures) ∙ c .before .before .before .before .token .given .1)
+
 returns : tie.Need-returns Inv-loop μ-loop
-returns c =
-    let l = c .before .before .before .before .loop in
-    let args = c .before .before .before .before .before .before .args in
-    rw (c .new .ensures) (set-ends (args .text .now) (args .from) (args .variables) (quantifierOf (args .existential)) (args .used) (args .prefix .now) (l .prefix) (l .marks) (l .at) (l .n) (l .inv) (sym (c .before .before .before .next-token .ensures) ∙ c .before .enum-told .given .1) [] [])
+returns c = rw (c .new .ensures) (set-ends (c .before .before .before .before .loop .inv) (sym (c .before .before .before .next-token .ensures) ∙ c .before .enum-told .given .1) [] [])
 
 set-token-requires : tie.Need-set-token-requires Inv-loop μ-loop
-set-token-requires c κs =
-    let l = c .before .before .before .before .before .before .loop in
-    (search needs, l .inv .room, l .inv .listed)
+set-token-requires c κs = let I = c .before .before .before .before .before .before .loop .inv in (search needs, I .room, I .listed)
 
 returns-2 : tie.Need-returns-2 Inv-loop μ-loop
-returns-2 c =
-    let l = c .before .before .before .before .before .before .before .before .before .before .before .loop in
-    let args = c .before .before .before .before .before .before .before .before .before .before .before .before .before .args in
-    let g = c .before .before .before .before .before .before .before .before .token .given in
-    let e = sym (c .before .before .before .before .before .before .before .before .before .before .next-token .ensures) ∙ g .1 in
-    let post = rw (c .before .r .given .1) at (c .before .before .before .before .set-token .ensures) in
-    set-refuses (args .text .now) (args .from) (args .variables) (quantifierOf (args .existential)) (args .used) (args .prefix .now) (l .prefix) (l .marks) (l .at) (l .n) (l .inv) (g .0 .0) (g .0 .1 .0) (g .0 .1 .1 .0) (c .before .r .given .0 .0) _ _ e post
+returns-2 c = set-refuses (c .before .before .before .before .before .before .before .before .before .before .before .loop .inv) (found (c .before .before .before .before)) (rw (c .before .r .given .1) at (c .before .before .before .before .set-token .ensures))
 
 returns-3 : tie.Need-returns-3 Inv-loop μ-loop
-returns-3 c =
-    let l = c .before .before .before .before .before .before .before .before .before .before .loop in
-    let args = c .before .before .before .before .before .before .before .before .before .before .before .before .args in
-    let g = c .before .before .before .before .before .before .before .token .given in
-    let e = sym (c .before .before .before .before .before .before .before .before .before .next-token .ensures) ∙ g .1 in
-    let post = rw (c .enum-told2 .given .1) at (c .before .before .before .set-token .ensures) in
-    set-closes (args .text .now) (args .from) (args .variables) (quantifierOf (args .existential)) (args .used) (args .prefix .now) (l .prefix) (l .marks) (l .at) (l .n) (l .inv) (g .0 .0) (g .0 .1 .0) (g .0 .1 .1 .0) _ _ e post
+returns-3 c = set-closes (c .before .before .before .before .before .before .before .before .before .before .loop .inv) (found (c .before .before .before)) (rw (c .enum-told2 .given .1) at (c .before .before .before .set-token .ensures))
 
 loop-less : tie.Need-loop-less Inv-loop μ-loop
-loop-less c =
-    let l = c .before .before .before .before .before .before .before .before .before .before .before .loop in
-    let args = c .before .before .before .before .before .before .before .before .before .before .before .before .before .args in
-    let g = c .before .before .before .before .before .before .before .before .token .given in
-    let e = sym (c .before .before .before .before .before .before .before .before .before .before .next-token .ensures) ∙ g .1 in
-    let f = token-found (args .text .now) (l .at) (g .0 .0) (g .0 .1 .0) (g .0 .1 .1 .0) e in
-    omega (arith, f .after, f .inside)
+loop-less c = let f = found (c .before .before .before .before) in omega (arith, f .after, f .inside)
 
 loop-again : tie.Need-loop-again Inv-loop μ-loop
-loop-again c =
-    let l = c .before .before .before .before .before .before .before .before .before .before .before .loop in
-    let args = c .before .before .before .before .before .before .before .before .before .before .before .before .before .args in
-    let g = c .before .before .before .before .before .before .before .before .token .given in
-    let e = sym (c .before .before .before .before .before .before .before .before .before .before .next-token .ensures) ∙ g .1 in
-    let post = rw (c .before .more .given .1) at (c .before .before .before .before .set-token .ensures) in
-    set-lists (args .text .now) (args .from) (args .variables) (quantifierOf (args .existential)) (args .used) (args .prefix .now) (l .prefix) (l .marks) (l .at) (l .n) (l .inv) (g .0 .0) (g .0 .1 .0) (g .0 .1 .1 .0) (c .before .more .given .0 .0) _ _ e (search needs) post
+loop-again c = set-lists (c .before .before .before .before .before .before .before .before .before .before .before .loop .inv) (found (c .before .before .before .before)) (search needs) (rw (c .before .more .given .1) at (c .before .before .before .before .set-token .ensures))
 
 pub read-set-spec : {M : Type 1} → statement M
 read-set-spec =

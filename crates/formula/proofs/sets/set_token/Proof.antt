@@ -2,7 +2,6 @@
 use mathlib.Core.Path.{refl}
 use Rattle.formula.specs.Text.Sets.Laws.{variable-post, closing-post}
 use borrow.Author.Needs.{needs}
-use Rattle.formula.specs.Prefix.{quantifierOf}
 use Rattle.formula.proofs.sets.set_token.Statement.{statement}
 use Rattle.formula.proofs.sets.set_token.Tie as tie
 
@@ -11,15 +10,12 @@ list-variable-requires c κs = (search needs, search needs, c .before .before .b
 
 returns : tie.Need-returns
 returns c =
-    let args = c .before .before .before .before .before .before .before .before .args in
     let pre = c .before .before .before .before .before .before .before .before .pre in
-    rw (c .before .before .before .before .before .before .token .given .1) (variable-post (args .place) (args .variables) (quantifierOf (args .existential)) (args .filled) (args .used) (args .prefix .now) (args .marks .now) (pre .0) (pre .1) (pre .2) _ _ _ _ (c .before .before .before .before .if1 .taken) (c .before .list-variable .ensures))
+    rw (c .before .before .before .before .before .before .token .given .1) (variable-post (c .before .before .before .before .before .before .before .before .args .filled) (pre .0) (pre .1) (pre .2) (c .before .before .before .before .if1 .taken) (c .before .list-variable .ensures))
 
 returns-2 : tie.Need-returns-2
 returns-2 c =
-    let args = c .before .before .before .before .before .args in
-    let pre = c .before .before .before .before .before .pre in
-    rw (c .before .before .before .token .given .1, c .close-set .ensures) (closing-post (args .place) (args .variables) (quantifierOf (args .existential)) (args .filled) (args .used) (args .prefix .now) (args .marks .now) (pre .0) (pre .1) (pre .2) _ (c .before .if1 .left))
+    rw (c .before .before .before .token .given .1, c .close-set .ensures) (closing-post _ _ _ _ _ _ _ _ (c .before .if1 .left))
 
 returns-3 : tie.Need-returns-3
 returns-3 c = rw (c .new .ensures, c .before .enum-told .given .1) (record { states = λ n rc. refl; stores = tt })

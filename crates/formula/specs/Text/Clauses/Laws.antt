@@ -39,25 +39,26 @@ use Rattle.formula.specs.Text.Sets.{Listed}
 use Rattle.formula.specs.Text.Clauses.{
   Marked,
   literalStep,
+  markedRefusal,
   LiteralPost,
   closingStep,
   ClosingPost,
   TokenStates,
-  TokenStores,
   ClauseTokenPost,
   clausesEnd,
   ClausesPost,
 }
-use Rattle.formula.specs.Text.Laws.{literal-fine, from-end, from-token, from-stopped}
+use Rattle.formula.specs.Text.Laws.{literal-fine, closing-fine, from-end, from-token, from-stopped}
 use Rattle.formula.specs.Refusal.{refusal, require}
 use Rattle.formula.specs.Token.{nextToken}
+use Rattle.formula.specs.Token.Laws.{FoundAt}
 use Rattle.formula.specs.declared.refusal.Reason.the-variants.{Miscount}
 use Rattle.formula.specs.declared.refusal.Refusal.{Refusal}
 use Rattle.formula.specs.declared.token.Token.{Token}
 use Rattle.formula.specs.declared.token.Token.the-variants.{Natural}
 use Rattle.formula.specs.declared.clauses.ClauseStep.{ClauseStep}
 use Rattle.formula.specs.declared.clauses.ClauseStep.the-variants.{Literal, Closed, Refused as NoStep}
-use Rattle.formula.specs.declared.token.Next.the-variants.{End, Found}
+use Rattle.formula.specs.declared.token.Next.the-variants.{End}
 use Rattle.formula.specs.declared.clauses.ClausesAnswer.the-variants.{Refused as NoClauses}
 
 -- One more word of a table.
@@ -171,73 +172,56 @@ pub literal-none : (x : Option Refusal) → Literal ≡ literalStep x → x ≡ 
 literal-none none e = refl
 literal-none (some r) e = let z : _≡_ {A = ℕ} 0 1 = cc in absurd (omega arith)
 
-literal-never : (x : Option Refusal) → Closed ≡ literalStep x → ⊥
-literal-never none e = let z : _≡_ {A = ℕ} 0 1 = cc in omega arith
-literal-never (some r) e = let z : _≡_ {A = ℕ} 0 1 = cc in omega arith
+-- What a literal does to the state and to the tables, by its answer; `token` is read as the literal.
+module _ {n place v : ℕ} {positive : Bool} {used closed : ℕ} {table : List ℤ} {marks : List ℕ} {table′ : List ℤ} {marks′ : List ℕ} {answer : ClauseStep} (small : v ≤ variableBound) (room : used ≤ length table) (size : length marks ≡ variableBound + 1) (token : Token) (isLiteral : (prefixRoom c : ℕ) (P : Prefix) → clauseToken prefixRoom (length table) place v c P (take used table) token ≡ putLiteral prefixRoom (length table) place v c P (take used table) positive n) (post : LiteralPost n place v positive used closed table marks table′ marks′ answer) where
+  abbrev judged : Option Refusal
+  judged = markedRefusal place v n marks closed used (length table)
 
-literal-some : (x : Option Refusal) (r : Refusal) → NoStep r ≡ literalStep x → x ≡ some r
-literal-some none r e = let z : _≡_ {A = ℕ} 0 1 = cc in absurd (omega arith)
-literal-some (some q) r e = cc
+  literal-judged : (prefixRoom c : ℕ) (P : Prefix) → Marked marks P (take used table) closed → clauseToken prefixRoom (length table) place v c P (take used table) token ≡ unless stopped judged (clauses v c P (take used table ++ (signed positive n ∷ [])))
+  literal-judged prefixRoom c P M =
+      isLiteral prefixRoom c P ∙ rw (length-take-le used table room, literal-refusal-marks place v n (isIn n (listed P)) (ltb 0 (getD marks n 0)) (isIn n (openClause (take used table))) (eqb (getD marks n 0) (closed + 2)) used (length table) (λ h. M .says n (omega (arith, small))) (λ h. M .holds n (omega (arith, small))))
 
-closing-none : (x : Option Refusal) → Closed ≡ closingStep x → x ≡ none
-closing-none none e = refl
-closing-none (some r) e = let z : _≡_ {A = ℕ} 0 1 = cc in absurd (omega arith)
-
-closing-never : (x : Option Refusal) → Literal ≡ closingStep x → ⊥
-closing-never none e = let z : _≡_ {A = ℕ} 0 1 = cc in omega arith
-closing-never (some r) e = let z : _≡_ {A = ℕ} 0 1 = cc in omega arith
-
-closing-some : (x : Option Refusal) (r : Refusal) → NoStep r ≡ closingStep x → x ≡ some r
-closing-some none r e = let z : _≡_ {A = ℕ} 0 1 = cc in absurd (omega arith)
-closing-some (some q) r e = cc
-
-module _ (place v used closed : ℕ) (table : List ℤ) (marks : List ℕ) (prefixRoom c : ℕ) (P : Prefix) (small : v ≤ variableBound) (room : used ≤ length table) (M : Marked marks P (take used table) closed) where
-  -- A literal is judged by the marks.
-  literal-judged : (positive : Bool) (n : ℕ) → putLiteral prefixRoom (length table) place v c P (take used table) positive n ≡ unless (literalRefusal place v n (ltb 0 (getD marks n 0)) (eqb (getD marks n 0) (closed + 2)) used (length table)) (clauses v c P (take used table ++ (signed positive n ∷ [])))
-  literal-judged positive n =
-      rw (length-take-le used table room, literal-refusal-marks place v n (isIn n (listed P)) (ltb 0 (getD marks n 0)) (isIn n (openClause (take used table))) (eqb (getD marks n 0) (closed + 2)) used (length table) (λ h. M .says n (omega (arith, small))) (λ h. M .holds n (omega (arith, small))))
-
-  -- What a literal, or a closing 0, does to the state, by its answer.
-  pub literal-states : (token : Token) (positive : Bool) (n : ℕ) (table′ : List ℤ) (marks′ : List ℕ) (answer : ClauseStep) → clauseToken prefixRoom (length table) place v c P (take used table) token ≡ putLiteral prefixRoom (length table) place v c P (take used table) positive n → LiteralPost n place v positive used closed table marks table′ marks′ answer → TokenStates token place v used closed table table′ marks′ prefixRoom c P answer
-  literal-states token positive n table′ marks′ Literal e post =
-      let q = literal-none (literalRefusal place v n (ltb 0 (getD marks n 0)) (eqb (getD marks n 0) (closed + 2)) used (length table)) (post .answers) in
-      let f = literal-fine place v n (ltb 0 (getD marks n 0)) (eqb (getD marks n 0) (closed + 2)) used (length table) q in
-      let stored = post .stores in
-      let pushed : take (used + 1) table′ ≡ take used table ++ (signed positive n ∷ []) = rw (stored .0) (take-push table used (signed positive n) (stored .2)) in
-      let m = marked-literal marks P (take used table) closed M positive n (stored .3) (f .isBound) in
-      (rw pushed (e ∙ literal-judged positive n ∙ rw q), rw (pushed, stored .1) m, rw (pushed, open-literal [] (take used table) positive n (marked-proper marks P (take used table) closed M n (f .isBound))))
-  literal-states token positive n table′ marks′ Closed e post = absurd (literal-never (literalRefusal place v n (ltb 0 (getD marks n 0)) (eqb (getD marks n 0) (closed + 2)) used (length table)) (post .answers))
-  literal-states token positive n table′ marks′ (NoStep r) e post =
-      let q = literal-some (literalRefusal place v n (ltb 0 (getD marks n 0)) (eqb (getD marks n 0) (closed + 2)) used (length table)) r (post .answers) in
-      e ∙ literal-judged positive n ∙ rw q
-
-  pub closing-states : (table′ : List ℤ) (answer : ClauseStep) → ClosingPost place used table table′ answer → TokenStates (Natural 0) place v used closed table table′ marks prefixRoom c P answer
-  closing-states table′ Closed post =
-      let q = closing-none (closingRefusal place used (length table)) (post .answers) in
-      let stored = post .stores in
-      let pushed : take (used + 1) table′ ≡ take used table ++ (pos 0 ∷ []) = rw (stored .0) (take-push table used (pos 0) (stored .1)) in
-      (rw (pushed, length-take-le used table room, q), rw pushed (marked-closing marks P (take used table) closed M), rw (pushed, open-closing [] (take used table)))
-  closing-states table′ Literal post = absurd (closing-never (closingRefusal place used (length table)) (post .answers))
-  closing-states table′ (NoStep r) post =
-      let q = closing-some (closingRefusal place used (length table)) r (post .answers) in
-      rw (length-take-le used table room, q)
+  pub literal-post : ClauseTokenPost token place v used closed table marks table′ marks′ answer
+  literal-post = go judged refl (post .answers)
+    where
+      go : (o : Option Refusal) → judged ≡ o → answer ≡ literalStep o → ClauseTokenPost token place v used closed table marks table′ marks′ answer
+      go none e a =
+          let f = literal-fine place v n (ltb 0 (getD marks n 0)) (eqb (getD marks n 0) (closed + 2)) used (length table) e in
+          let stored = rw a at (post .stores) in
+          let pushed : take (used + 1) table′ ≡ take used table ++ (signed positive n ∷ []) = rw (stored .0) (take-push table used (signed positive n) (f .fits)) in
+          rw a (record {
+            states = λ rp c P M. (
+              rw pushed (literal-judged rp c P M ∙ rw e),
+              rw (pushed, stored .1) (marked-literal marks P (take used table) closed M positive n (omega (arith, f .inRange, small)) (f .isBound)),
+              rw (pushed, open-literal [] (take used table) positive n (marked-proper marks P (take used table) closed M n (f .isBound))),
+            );
+            stores = (f .fits, rw (stored .1, length-set) size);
+          })
+      go (some r) e a = rw a (record { states = λ rp c P M. literal-judged rp c P M ∙ rw e; stores = tt })
 
 -- A number that is not 0 is a literal.
-pub natural-literal : (prefixRoom place v c used : ℕ) (table : List ℤ) (P : Prefix) (n : ℕ) → (n ≡ 0 → ⊥) → clauseToken prefixRoom (length table) place v c P (take used table) (Natural n) ≡ putLiteral prefixRoom (length table) place v c P (take used table) true n
-natural-literal prefixRoom place v c used table P zero z = absurd (z refl)
-natural-literal prefixRoom place v c used table P (suc n) z = refl
+pub natural-literal : (place v used : ℕ) (table : List ℤ) (n : ℕ) → (n ≡ 0 → ⊥) → (prefixRoom c : ℕ) (P : Prefix) → clauseToken prefixRoom (length table) place v c P (take used table) (Natural n) ≡ putLiteral prefixRoom (length table) place v c P (take used table) true n
+natural-literal place v used table zero z prefixRoom c P = absurd (z refl)
+natural-literal place v used table (suc n) z prefixRoom c P = refl
 
--- What a literal, or a closing 0, leaves in the tables.
-pub literal-stores : (n place v : ℕ) (positive : Bool) (used closed : ℕ) (table : List ℤ) (marks : List ℕ) (table′ : List ℤ) (marks′ : List ℕ) (answer : ClauseStep) → length marks ≡ variableBound + 1 → LiteralPost n place v positive used closed table marks table′ marks′ answer → TokenStores used table marks′ answer
-literal-stores n place v positive used closed table marks table′ marks′ Literal h post =
-    (post .stores .2, rw (post .stores .1, length-set) h)
-literal-stores n place v positive used closed table marks table′ marks′ Closed h post = absurd (literal-never (literalRefusal place v n (ltb 0 (getD marks n 0)) (eqb (getD marks n 0) (closed + 2)) used (length table)) (post .answers))
-literal-stores n place v positive used closed table marks table′ marks′ (NoStep r) h post = tt
-
-pub closing-stores : (place used : ℕ) (table table′ : List ℤ) (marks : List ℕ) (answer : ClauseStep) → length marks ≡ variableBound + 1 → ClosingPost place used table table′ answer → TokenStores used table marks answer
-closing-stores place used table table′ marks Closed h post = (post .stores .1, h)
-closing-stores place used table table′ marks Literal h post = absurd (closing-never (closingRefusal place used (length table)) (post .answers))
-closing-stores place used table table′ marks (NoStep r) h post = tt
+-- The same of a closing 0.
+pub closing-post : {place v used closed : ℕ} {table table′ : List ℤ} {marks : List ℕ} {answer : ClauseStep} → used ≤ length table → length marks ≡ variableBound + 1 → ClosingPost place used table table′ answer → ClauseTokenPost (Natural 0) place v used closed table marks table′ marks answer
+closing-post {place} {v} {used} {closed} {table} {table′} {marks} {answer} room size post = go (closingRefusal place used (length table)) refl (post .answers)
+  where
+    go : (o : Option Refusal) → closingRefusal place used (length table) ≡ o → answer ≡ closingStep o → ClauseTokenPost (Natural 0) place v used closed table marks table′ marks answer
+    go none e a =
+        let f = closing-fine place used (length table) e in
+        let stored = rw a at (post .stores) in
+        let pushed : take (used + 1) table′ ≡ take used table ++ (pos 0 ∷ []) = rw stored (take-push table used (pos 0) (f .fits)) in
+        rw a (record {
+          states = λ rp c P M. (
+            rw (pushed, length-take-le used table room, e),
+            rw pushed (marked-closing marks P (take used table) closed M),
+            rw (pushed, open-closing [] (take used table)),
+          );
+          stores = (f .fits, size);
+        })
+    go (some r) e a = rw a (record { states = λ rp c P M. rw (length-take-le used table room, e); stores = tt })
 
 -- Among the clauses, at the place `at`: `used` words are used, `closed` clauses are closed, the open one from `start` on.
 pub record ClausesRead (text : List ℕ) (from v c : ℕ) (room : ℕ) (table : List ℤ) (marks : List ℕ) (at used closed start prefixRoom : ℕ) (P : Prefix) : Type 0 where
@@ -265,7 +249,7 @@ clauses-begin text from v c table marks h =
       sofar = λ rp P L. record { marked = marked-begins marks P L; opened = refl; reads = refl };
     }
 
-module _ (text : List ℕ) (from v c : ℕ) (table₀ table : List ℤ) (marks₀ marks : List ℕ) (at used closed start : ℕ) (I : ClausesSoFar text from v c table₀ table marks₀ marks at used closed start) where
+module _ {text : List ℕ} {from v c : ℕ} {table₀ table : List ℤ} {marks₀ marks : List ℕ} {at used closed start : ℕ} (I : ClausesSoFar text from v c table₀ table marks₀ marks at used closed start) where
   pub clauses-end : nextToken text at ≡ End → (prefixRoom : ℕ) (P : Prefix) → Listed marks₀ P → ClausesPost text from v c prefixRoom P table₀ table (clausesEnd (length text) (ltb start used) (ltb closed c) used)
   unfolding ending
   clauses-end e rp P L =
@@ -277,55 +261,57 @@ module _ (text : List ℕ) (from v c : ℕ) (table₀ table : List ℤ) (marks�
       go false true e = e
       go false false e = (e, I .room)
 
-  -- The token at hand goes to a clause, or is one too many.
-  clauses-step : (t : Token) (p k : ℕ) (b : Bool) → nextToken text at ≡ Found t p k → ltb closed c ≡ b → (prefixRoom : ℕ) (P : Prefix) → Listed marks₀ P → readingFrom prefixRoom (length table₀) text (clauses v c P []) from ≡ readingFrom prefixRoom (length table₀) text (require b (stopped (refusal Miscount p)) (clauseToken prefixRoom (length table₀) p v c P (take used table) t)) k
-  unfolding step
-  clauses-step t p k b e f rp P L =
-      let R = I .sofar rp P L in
-      R .reads ∙ from-token rp (length table₀) text (clauses v c P (take used table)) at t p k e ∙ rw (R .marked .count, f)
+  module _ {t : Token} {p k : ℕ} (f : FoundAt text at t p k) where
+    -- The token at hand goes to a clause, or is one too many.
+    clauses-step : (b : Bool) → ltb closed c ≡ b → (prefixRoom : ℕ) (P : Prefix) → Listed marks₀ P → readingFrom prefixRoom (length table₀) text (clauses v c P []) from ≡ readingFrom prefixRoom (length table₀) text (require b (stopped (refusal Miscount p)) (clauseToken prefixRoom (length table₀) p v c P (take used table) t)) k
+    unfolding step
+    clauses-step b e rp P L =
+        let R = I .sofar rp P L in
+        R .reads ∙ from-token rp (length table₀) text (clauses v c P (take used table)) f ∙ rw (R .marked .count, e)
 
-  pub clauses-over : (t : Token) (p k : ℕ) → nextToken text at ≡ Found t p k → c ≤ closed → (table′ : List ℤ) (prefixRoom : ℕ) (P : Prefix) → Listed marks₀ P → ClausesPost text from v c prefixRoom P table₀ table′ (NoClauses (refusal Miscount p))
-  clauses-over t p k e h table′ rp P L =
-      clauses-step t p k false e (le-ltb closed c h) rp P L ∙ from-stopped rp (length table₀) text (refusal Miscount p) k
+    pub clauses-over : c ≤ closed → (table′ : List ℤ) (prefixRoom : ℕ) (P : Prefix) → Listed marks₀ P → ClausesPost text from v c prefixRoom P table₀ table′ (NoClauses (refusal Miscount p))
+    clauses-over h table′ rp P L =
+        clauses-step false (le-ltb closed c h) rp P L ∙ from-stopped rp (length table₀) text (refusal Miscount p) k
 
-  pub clauses-refuse : (t : Token) (p k : ℕ) (r : Refusal) (table′ : List ℤ) (marks′ : List ℕ) → nextToken text at ≡ Found t p k → closed < c → ClauseTokenPost t p v used closed table marks table′ marks′ (NoStep r) → (prefixRoom : ℕ) (P : Prefix) → Listed marks₀ P → ClausesPost text from v c prefixRoom P table₀ table′ (NoClauses r)
-  clauses-refuse t p k r table′ marks′ e h post rp P L =
-      clauses-step t p k true e (lt-ltb closed c h) rp P L ∙ rw (← I .same, post .states rp c P (I .sofar rp P L .marked)) (from-stopped rp (length table) text r k)
+    module _ (h : closed < c) where
+      pub clauses-refuse : {r : Refusal} {table′ : List ℤ} {marks′ : List ℕ} → ClauseTokenPost t p v used closed table marks table′ marks′ (NoStep r) → (prefixRoom : ℕ) (P : Prefix) → Listed marks₀ P → ClausesPost text from v c prefixRoom P table₀ table′ (NoClauses r)
+      clauses-refuse {r} post rp P L =
+          clauses-step true (lt-ltb closed c h) rp P L ∙ rw (← I .same, post .states rp c P (I .sofar rp P L .marked)) (from-stopped rp (length table) text r k)
 
-  pub clauses-literal : (t : Token) (p k : ℕ) (table′ : List ℤ) (marks′ : List ℕ) → nextToken text at ≡ Found t p k → closed < c → length table′ ≡ length table → ClauseTokenPost t p v used closed table marks table′ marks′ Literal → ClausesSoFar text from v c table₀ table′ marks₀ marks′ k (used + 1) closed start
-  clauses-literal t p k table′ marks′ e h l post =
-      record {
-        room = omega (arith, l, post .stores .0);
-        same = l ∙ I .same;
-        size = post .stores .1;
-        begun = omega (arith, I .begun);
-        few = I .few;
-        sofar = λ rp P L. more rp P L (post .states rp c P (I .sofar rp P L .marked));
-      }
-    where
-      more : (rp : ℕ) (P : Prefix) → Listed marks₀ P → TokenStates t p v used closed table table′ marks′ rp c P Literal → ClausesRead text from v c (length table₀) table′ marks′ k (used + 1) closed start rp P
-      more rp P L s =
+      pub clauses-literal : {table′ : List ℤ} {marks′ : List ℕ} → length table′ ≡ length table → ClauseTokenPost t p v used closed table marks table′ marks′ Literal → ClausesSoFar text from v c table₀ table′ marks₀ marks′ k (used + 1) closed start
+      clauses-literal {table′} {marks′} l post =
           record {
-            marked = s .1;
-            opened = s .2 ∙ sym (lt-ltb start (used + 1) (omega (arith, I .begun)));
-            reads = clauses-step t p k true e (lt-ltb closed c h) rp P L ∙ rw (← I .same, s .0);
+            room = omega (arith, l, post .stores .0);
+            same = l ∙ I .same;
+            size = post .stores .1;
+            begun = omega (arith, I .begun);
+            few = I .few;
+            sofar = λ rp P L. more rp P L (post .states rp c P (I .sofar rp P L .marked));
           }
+        where
+          more : (rp : ℕ) (P : Prefix) → Listed marks₀ P → TokenStates t p v used closed table table′ marks′ rp c P Literal → ClausesRead text from v c (length table₀) table′ marks′ k (used + 1) closed start rp P
+          more rp P L s =
+              record {
+                marked = s .1;
+                opened = s .2 ∙ sym (lt-ltb start (used + 1) (omega (arith, I .begun)));
+                reads = clauses-step true (lt-ltb closed c h) rp P L ∙ rw (← I .same, s .0);
+              }
 
-  pub clauses-closed : (t : Token) (p k : ℕ) (table′ : List ℤ) (marks′ : List ℕ) → nextToken text at ≡ Found t p k → closed < c → length table′ ≡ length table → ClauseTokenPost t p v used closed table marks table′ marks′ Closed → ClausesSoFar text from v c table₀ table′ marks₀ marks′ k (used + 1) (closed + 1) (used + 1)
-  clauses-closed t p k table′ marks′ e h l post =
-      record {
-        room = omega (arith, l, post .stores .0);
-        same = l ∙ I .same;
-        size = post .stores .1;
-        begun = omega arith;
-        few = omega arith;
-        sofar = λ rp P L. more rp P L (post .states rp c P (I .sofar rp P L .marked));
-      }
-    where
-      more : (rp : ℕ) (P : Prefix) → Listed marks₀ P → TokenStates t p v used closed table table′ marks′ rp c P Closed → ClausesRead text from v c (length table₀) table′ marks′ k (used + 1) (closed + 1) (used + 1) rp P
-      more rp P L s =
+      pub clauses-closed : {table′ : List ℤ} {marks′ : List ℕ} → length table′ ≡ length table → ClauseTokenPost t p v used closed table marks table′ marks′ Closed → ClausesSoFar text from v c table₀ table′ marks₀ marks′ k (used + 1) (closed + 1) (used + 1)
+      clauses-closed {table′} {marks′} l post =
           record {
-            marked = s .1;
-            opened = s .2 ∙ sym (le-ltb (used + 1) (used + 1) (omega arith));
-            reads = clauses-step t p k true e (lt-ltb closed c h) rp P L ∙ rw (← I .same, s .0);
+            room = omega (arith, l, post .stores .0);
+            same = l ∙ I .same;
+            size = post .stores .1;
+            begun = omega arith;
+            few = omega arith;
+            sofar = λ rp P L. more rp P L (post .states rp c P (I .sofar rp P L .marked));
           }
+        where
+          more : (rp : ℕ) (P : Prefix) → Listed marks₀ P → TokenStates t p v used closed table table′ marks′ rp c P Closed → ClausesRead text from v c (length table₀) table′ marks′ k (used + 1) (closed + 1) (used + 1) rp P
+          more rp P L s =
+              record {
+                marked = s .1;
+                opened = s .2 ∙ sym (le-ltb (used + 1) (used + 1) (omega arith));
+                reads = clauses-step true (lt-ltb closed c h) rp P L ∙ rw (← I .same, s .0);
+              }

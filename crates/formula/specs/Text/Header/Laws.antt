@@ -9,6 +9,7 @@ use lib.Dec.{leb, eqb}
 use Rattle.formula.specs.Bounds.{variableBound, countBound}
 use Rattle.formula.specs.Refusal.{refusal, require}
 use Rattle.formula.specs.Token.{pWord, cnfWord, Placed, placed, nextToken}
+use Rattle.formula.specs.Token.Laws.{FoundAt, token-found}
 use Rattle.formula.specs.Text.{refused, State, wantsP, wantsCnf, wantsV, wantsC, betweenSets, stopped, headerWord, headerNumber, step, ending, readingFrom}
 use Rattle.formula.specs.Text.Laws.{from-end, from-token, from-stopped}
 use Rattle.formula.specs.Text.Header.{valueOf, fieldOr, fieldFound, HeaderPost}
@@ -61,13 +62,13 @@ module _ (prefixRoom clauseRoom : ℕ) (text : List ℕ) where
   unfolding fieldFound
   field-read s wanted next at W = go (nextToken text at) refl
     where
-      test : (t : Token) (p k : ℕ) → nextToken text at ≡ Found t p k → (o : Option ℕ) → valueOf t wanted ≡ o → FieldReads s next at (fieldOr o p k)
-      test t p k e none f = from-token prefixRoom clauseRoom text s at t p k e ∙ rw (W .steps (placed t p), f) (from-stopped prefixRoom clauseRoom text (refusal Headless p) k)
-      test t p k e (some n) f = from-token prefixRoom clauseRoom text s at t p k e ∙ rw (W .steps (placed t p), f)
+      test : (t : Token) (p k : ℕ) → FoundAt text at t p k → (o : Option ℕ) → valueOf t wanted ≡ o → FieldReads s next at (fieldOr o p k)
+      test t p k e none f = from-token prefixRoom clauseRoom text s e ∙ rw (W .steps (placed t p), f) (from-stopped prefixRoom clauseRoom text (refusal Headless p) k)
+      test t p k e (some n) f = from-token prefixRoom clauseRoom text s e ∙ rw (W .steps (placed t p), f)
 
       go : (nx : Next) → nextToken text at ≡ nx → FieldReads s next at (fieldFound (length text) wanted nx)
       go End e = from-end prefixRoom clauseRoom text s at e ∙ W .ends
-      go (Found t p k) e = test t p k e (valueOf t wanted) refl
+      go (Found t p k) e = test t p k (token-found text at e) (valueOf t wanted) refl
 
   -- The header's four tokens.
   pub p-read : (at : ℕ) (a : FieldAnswer) → a ≡ fieldFound (length text) (WantsWord pWord) (nextToken text at) → FieldReads wantsP (λ n. wantsCnf) at a

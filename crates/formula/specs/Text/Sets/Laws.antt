@@ -18,16 +18,17 @@ use Rattle.formula.specs.Refusal.{refusal}
 use Rattle.formula.specs.Prefix.{prefixOf, entryFits, putEntry, usedAfter, quantifierOf}
 use Rattle.formula.specs.Prefix.Laws.{prefix-none, prefix-words, put-entries, put-more, put-within}
 use Rattle.formula.specs.Tables.{isIn, zeros}
-use Rattle.formula.specs.Token.{aWord, eWord, placed, nextToken}
-use Rattle.formula.specs.Token.Laws.{token-found}
-use Rattle.formula.specs.Text.{betweenSets, inSet, clauses, unless, opens, openFrom, variableRefusal, setToken, clausesToken, step, ending, readingFrom}
+use Rattle.formula.specs.Token.{aWord, eWord, nextToken}
+use Rattle.formula.specs.Token.Laws.{FoundAt}
+use Rattle.formula.specs.Text.{betweenSets, inSet, clauses, stopped, isWord, unless, opens, openFrom, variableRefusal, setToken, clausesToken, step, ending, readingFrom}
+use Rattle.formula.specs.Text.Distinct.{or-no}
 use Rattle.formula.specs.Text.Laws.{variable-fine, from-end, from-token, from-stopped}
 use Rattle.formula.specs.Text.Sets.{Listed, listing, ListingPost, setClosing, SetTokenPost, SetPost, SetsPost}
 use Rattle.formula.specs.declared.refusal.Reason.the-variants.{Unfinished}
 use Rattle.formula.specs.declared.refusal.Refusal.{Refusal}
 use Rattle.formula.specs.declared.token.Token.{Token}
-use Rattle.formula.specs.declared.token.Token.the-variants.{Natural, Negative, Word}
-use Rattle.formula.specs.declared.token.Next.the-variants.{End, Found}
+use Rattle.formula.specs.declared.token.Token.the-variants.{Natural, Word}
+use Rattle.formula.specs.declared.token.Next.the-variants.{End}
 use Rattle.formula.specs.declared.sets.SetStep.{SetStep}
 use Rattle.formula.specs.declared.sets.SetStep.the-variants.{Listed as Lists, Closed as Closes, Refused as NoListing}
 use Rattle.formula.specs.declared.sets.SetsAnswer.the-variants.{Sets, Refused as NoSets}
@@ -69,54 +70,40 @@ variable-refusal-marks at v n known marked fits e = go (leb n v) refl
     go true f = rw (e (leb-true n v f))
     go false f = rw f
 
-listing-none : (more used : ℕ) (x : Option Refusal) → Lists more ≡ listing used x → (x ≡ none) × (more ≡ used)
-listing-none more used none e = (refl, cc)
-listing-none more used (some r) e = let z : _≡_ {A = ℕ} 0 1 = cc in absurd (omega arith)
+-- What a number other than 0 does to the state and to the tables, by its answer.
+module _ {n place v : ℕ} {q : Quantifier} {used : ℕ} {prefix : List ℤ} {marks : List ℕ} {prefix′ : List ℤ} {marks′ : List ℕ} {answer : SetStep} (filled : Bool) (small : v ≤ variableBound) (room : used ≤ length prefix) (L : Listed marks (prefixOf (take used prefix))) (z : 0 < n) (post : ListingPost n place v q used prefix marks prefix′ marks′ answer) where
+  -- It is judged by its mark.
+  abbrev judged : Option Refusal
+  judged = variableRefusal place v n (ltb 0 (getD marks n 0)) (entryFits (length prefix) used)
 
-listing-never : (used : ℕ) (x : Option Refusal) → Closes ≡ listing used x → ⊥
-listing-never used none e = let z : _≡_ {A = ℕ} 0 1 = cc in omega arith
-listing-never used (some r) e = let z : _≡_ {A = ℕ} 0 1 = cc in omega arith
+  set-judged : (m c clauseRoom : ℕ) → m ≡ n → setToken (length prefix) clauseRoom place v c q filled (prefixOf (take used prefix)) (Natural m) ≡ unless stopped judged (inSet v c q true (prefixOf (take used prefix) ++ (entry m q ∷ [])))
+  set-judged zero c clauseRoom e = absurd (omega arith)
+  set-judged (suc m) c clauseRoom e =
+      rw (prefix-words (take used prefix), length-take-le used prefix room, ← e, variable-refusal-marks place v (suc m) (isIn (suc m) (listed (prefixOf (take used prefix)))) (ltb 0 (getD marks (suc m) 0)) (entryFits (length prefix) used) (λ h. L .says (suc m) (omega (arith, small))))
 
-listing-some : (used : ℕ) (x : Option Refusal) (r : Refusal) → NoListing r ≡ listing used x → x ≡ some r
-listing-some used none r e = let z : _≡_ {A = ℕ} 0 1 = cc in absurd (omega arith)
-listing-some used (some q) r e = cc
-
-module _ (place v : ℕ) (q : Quantifier) (filled : Bool) (used : ℕ) (prefix : List ℤ) (marks : List ℕ) (small : v ≤ variableBound) (room : used ≤ length prefix) (L : Listed marks (prefixOf (take used prefix))) where
-  -- A number that is not 0 is judged by the marks.
-  set-judged : (n c clauseRoom : ℕ) → 0 < n → setToken (length prefix) clauseRoom place v c q filled (prefixOf (take used prefix)) (Natural n) ≡ unless (variableRefusal place v n (ltb 0 (getD marks n 0)) (entryFits (length prefix) used)) (inSet v c q true (prefixOf (take used prefix) ++ (entry n q ∷ [])))
-  set-judged zero c clauseRoom z = absurd (omega arith)
-  set-judged (suc n) c clauseRoom z =
-      rw (prefix-words (take used prefix), length-take-le used prefix room, variable-refusal-marks place v (suc n) (isIn (suc n) (listed (prefixOf (take used prefix)))) (ltb 0 (getD marks (suc n) 0)) (entryFits (length prefix) used) (λ h. L .says (suc n) (omega (arith, small))))
-
-  -- What a variable does to the state and to the tables, by its answer.
-  pub variable-post : (n : ℕ) (prefix′ : List ℤ) (marks′ : List ℕ) (answer : SetStep) → 0 < n → ListingPost n place v q used prefix marks prefix′ marks′ answer → SetTokenPost (Natural n) place v q filled used prefix marks prefix′ marks′ answer
-  variable-post n prefix′ marks′ (Lists more) z post =
-      let e = listing-none more (usedAfter used) (variableRefusal place v n (ltb 0 (getD marks n 0)) (entryFits (length prefix) used)) (post .answers) in
-      let f = variable-fine place v n (ltb 0 (getD marks n 0)) (entryFits (length prefix) used) (e .0) in
-      let stored = post .stores in
-      let pushed : prefixOf (take more prefix′) ≡ prefixOf (take used prefix) ++ (entry n q ∷ []) = rw (stored .0, e .1) (put-entries prefix used n q (f .room) z) in
-      record {
-        states = λ c rc. rw pushed (set-judged n c rc z ∙ rw (e .0));
-        stores = (
-          rw (e .1) (put-more used),
-          rw (e .1) (put-within (length prefix) used (f .room)),
-          rw (pushed, stored .1) (listed-more marks (prefixOf (take used prefix)) q n (omega (arith, f .inRange, small)) z L),
-        );
-      }
-  variable-post n prefix′ marks′ Closes z post =
-      absurd (listing-never (usedAfter used) (variableRefusal place v n (ltb 0 (getD marks n 0)) (entryFits (length prefix) used)) (post .answers))
-  variable-post n prefix′ marks′ (NoListing r) z post =
-      let e = listing-some (usedAfter used) (variableRefusal place v n (ltb 0 (getD marks n 0)) (entryFits (length prefix) used)) r (post .answers) in
-      record { states = λ c rc. set-judged n c rc z ∙ rw e; stores = tt }
-
-  -- A set's closing 0, and what is no number without minus.
-  pub closing-post : (n : ℕ) → n ≤ 0 → SetTokenPost (Natural n) place v q filled used prefix marks prefix marks (setClosing filled place)
-  closing-post zero z = go filled
+  pub variable-post : SetTokenPost (Natural n) place v q filled used prefix marks prefix′ marks′ answer
+  variable-post = go judged refl (post .answers)
     where
-      go : (filled : Bool) → SetTokenPost (Natural 0) place v q filled used prefix marks prefix marks (setClosing filled place)
-      go true = record { states = λ c rc. refl; stores = (refl, refl) }
-      go false = record { states = λ c rc. refl; stores = tt }
-  closing-post (suc n) z = absurd (omega arith)
+      go : (o : Option Refusal) → judged ≡ o → answer ≡ listing (usedAfter used) o → SetTokenPost (Natural n) place v q filled used prefix marks prefix′ marks′ answer
+      go none e a =
+          let f = variable-fine place v n (ltb 0 (getD marks n 0)) (entryFits (length prefix) used) e in
+          let stored = rw a at (post .stores) in
+          let pushed : prefixOf (take (usedAfter used) prefix′) ≡ prefixOf (take used prefix) ++ (entry n q ∷ []) = rw (stored .0) (put-entries prefix used n q (f .room) z) in
+          rw a (record {
+            states = λ c rc. rw pushed (set-judged n c rc refl ∙ rw e);
+            stores = (
+              put-more used,
+              put-within (length prefix) used (f .room),
+              rw (pushed, stored .1) (listed-more marks (prefixOf (take used prefix)) q n (omega (arith, f .inRange, small)) z L),
+            );
+          })
+      go (some r) e a = rw a (record { states = λ c rc. set-judged n c rc refl ∙ rw e; stores = tt })
+
+-- A set's closing 0.
+pub closing-post : (n place v : ℕ) (q : Quantifier) (filled : Bool) (used : ℕ) (prefix : List ℤ) (marks : List ℕ) → n ≤ 0 → SetTokenPost (Natural n) place v q filled used prefix marks prefix marks (setClosing filled place)
+closing-post zero place v q true used prefix marks z = record { states = λ c rc. refl; stores = (refl, refl) }
+closing-post zero place v q false used prefix marks z = record { states = λ c rc. refl; stores = tt }
+closing-post (suc n) place v q filled used prefix marks z = absurd (omega arith)
 
 -- In a set, at the place `at`: `used` words were used as it began, n are now.
 pub record SetSoFar (text : List ℕ) (start v : ℕ) (q : Quantifier) (used : ℕ) (prefix₀ prefix : List ℤ) (marks : List ℕ) (at n : ℕ) : Type 0 where
@@ -131,36 +118,34 @@ pub set-begins : (text : List ℕ) (start v : ℕ) (q : Quantifier) (used : ℕ)
 set-begins text start v q used prefix marks h L =
     record { room = h; more = omega arith; same = refl; listed = L; on = omega arith; reads = λ c rc. rw (le-ltb used used (omega arith)) }
 
-module _ (text : List ℕ) (start v : ℕ) (q : Quantifier) (used : ℕ) (prefix₀ prefix : List ℤ) (marks : List ℕ) (at n : ℕ) (I : SetSoFar text start v q used prefix₀ prefix marks at n) where
+module _ {text : List ℕ} {start v : ℕ} {q : Quantifier} {used : ℕ} {prefix₀ prefix : List ℤ} {marks : List ℕ} {at n : ℕ} (I : SetSoFar text start v q used prefix₀ prefix marks at n) where
   pub set-ends : nextToken text at ≡ End → (prefix′ : List ℤ) (marks′ : List ℕ) → SetPost text start v q used prefix₀ prefix′ marks′ (NoSets (refusal Unfinished (length text)))
   unfolding ending
   set-ends e prefix′ marks′ = λ c rc. I .reads c rc ∙ from-end (length prefix₀) rc text _ at e
 
-  -- The token at hand goes to the set.
-  set-step : (t : Token) (p k : ℕ) → nextToken text at ≡ Found t p k → (c rc : ℕ) → readingFrom (length prefix₀) rc text (inSet v c q false (prefixOf (take used prefix₀))) start ≡ readingFrom (length prefix₀) rc text (setToken (length prefix₀) rc p v c q (ltb used n) (prefixOf (take n prefix)) t) k
-  unfolding step
-  set-step t p k e c rc = I .reads c rc ∙ from-token (length prefix₀) rc text _ at t p k e
+  module _ {t : Token} {p k : ℕ} (f : FoundAt text at t p k) where
+    -- The token at hand goes to the set.
+    set-step : (c rc : ℕ) → readingFrom (length prefix₀) rc text (inSet v c q false (prefixOf (take used prefix₀))) start ≡ readingFrom (length prefix₀) rc text (setToken (length prefix₀) rc p v c q (ltb used n) (prefixOf (take n prefix)) t) k
+    unfolding step
+    set-step c rc = I .reads c rc ∙ from-token (length prefix₀) rc text _ f
 
-  pub set-closes : (t : Token) (p k : ℕ) (prefix′ : List ℤ) (marks′ : List ℕ) → nextToken text at ≡ Found t p k → SetTokenPost t p v q (ltb used n) n prefix marks prefix′ marks′ Closes → SetPost text start v q used prefix₀ prefix′ marks′ (Sets n k)
-  set-closes t p k prefix′ marks′ e post =
-      let f = token-found text at t p k e in
-      rw (post .stores .0, post .stores .1) (λ c rc. set-step t p k e c rc ∙ rw (← I .same, post .states c rc), I .listed, I .room, omega (arith, f .after, I .on))
+    pub set-closes : {prefix′ : List ℤ} {marks′ : List ℕ} → SetTokenPost t p v q (ltb used n) n prefix marks prefix′ marks′ Closes → SetPost text start v q used prefix₀ prefix′ marks′ (Sets n k)
+    set-closes post =
+        rw (post .stores .0, post .stores .1) (λ c rc. set-step c rc ∙ rw (← I .same, post .states c rc), I .listed, I .room, omega (arith, f .after, I .on))
 
-  pub set-refuses : (t : Token) (p k : ℕ) (r : Refusal) (prefix′ : List ℤ) (marks′ : List ℕ) → nextToken text at ≡ Found t p k → SetTokenPost t p v q (ltb used n) n prefix marks prefix′ marks′ (NoListing r) → SetPost text start v q used prefix₀ prefix′ marks′ (NoSets r)
-  set-refuses t p k r prefix′ marks′ e post =
-      λ c rc. set-step t p k e c rc ∙ rw (← I .same, post .states c rc) (from-stopped (length prefix) rc text r k)
+    pub set-refuses : {r : Refusal} {prefix′ : List ℤ} {marks′ : List ℕ} → SetTokenPost t p v q (ltb used n) n prefix marks prefix′ marks′ (NoListing r) → SetPost text start v q used prefix₀ prefix′ marks′ (NoSets r)
+    set-refuses {r} post = λ c rc. set-step c rc ∙ rw (← I .same, post .states c rc) (from-stopped (length prefix) rc text r k)
 
-  pub set-lists : (t : Token) (p k more : ℕ) (prefix′ : List ℤ) (marks′ : List ℕ) → nextToken text at ≡ Found t p k → length prefix′ ≡ length prefix → SetTokenPost t p v q (ltb used n) n prefix marks prefix′ marks′ (Lists more) → SetSoFar text start v q used prefix₀ prefix′ marks′ k more
-  set-lists t p k more prefix′ marks′ e l post =
-      let f = token-found text at t p k e in
-      record {
-        room = omega (arith, l, post .stores .1);
-        more = omega (arith, I .more, post .stores .0);
-        same = l ∙ I .same;
-        listed = post .stores .2;
-        on = omega (arith, f .after, I .on);
-        reads = λ c rc. set-step t p k e c rc ∙ rw (← I .same, post .states c rc, lt-ltb used more (omega (arith, I .more, post .stores .0)));
-      }
+    pub set-lists : {more : ℕ} {prefix′ : List ℤ} {marks′ : List ℕ} → length prefix′ ≡ length prefix → SetTokenPost t p v q (ltb used n) n prefix marks prefix′ marks′ (Lists more) → SetSoFar text start v q used prefix₀ prefix′ marks′ k more
+    set-lists {more} l post =
+        record {
+          room = omega (arith, l, post .stores .1);
+          more = omega (arith, I .more, post .stores .0);
+          same = l ∙ I .same;
+          listed = post .stores .2;
+          on = omega (arith, f .after, I .on);
+          reads = λ c rc. set-step c rc ∙ rw (← I .same, post .states c rc, lt-ltb used more (omega (arith, I .more, post .stores .0)));
+        }
 
 -- Between sets, at the place `at`: `used` words are used.
 pub record SetsSoFar (text : List ℕ) (start v : ℕ) (prefix₀ prefix : List ℤ) (marks : List ℕ) (at used : ℕ) : Type 0 where
@@ -173,58 +158,37 @@ pub sets-begin : (text : List ℕ) (start v : ℕ) (prefix : List ℤ) (marks : 
 sets-begin text start v prefix marks L =
     record { room = omega arith; same = refl; listed = rw prefix-none L; reads = λ c rc. rw prefix-none }
 
-module _ (text : List ℕ) (start v : ℕ) (prefix₀ prefix : List ℤ) (marks : List ℕ) (at used : ℕ) (I : SetsSoFar text start v prefix₀ prefix marks at used) where
+module _ {text : List ℕ} {start v : ℕ} {prefix₀ prefix : List ℤ} {marks : List ℕ} {at used : ℕ} (I : SetsSoFar text start v prefix₀ prefix marks at used) where
   -- The sets are over where the same is read from the clauses on.
   over : ((c rc : ℕ) → readingFrom (length prefix₀) rc text (betweenSets v c (prefixOf (take used prefix))) at ≡ readingFrom (length prefix₀) rc text (clauses v c (prefixOf (take used prefix)) []) at) → SetsPost text start v prefix₀ prefix marks (Sets used at)
   over e = (λ c rc. I .reads c rc ∙ e c rc, I .listed, I .room)
 
   pub sets-end : nextToken text at ≡ End → SetsPost text start v prefix₀ prefix marks (Sets used at)
   unfolding ending openFrom zeros
-  sets-end e =
-      over (λ c rc. from-end (length prefix₀) rc text (betweenSets v c (prefixOf (take used prefix))) at e ∙ sym (from-end (length prefix₀) rc text (clauses v c (prefixOf (take used prefix)) []) at e))
+  sets-end e = over (λ c rc. from-end (length prefix₀) rc text (betweenSets v c (prefixOf (take used prefix))) at e ∙ sym (from-end (length prefix₀) rc text (clauses v c (prefixOf (take used prefix)) []) at e))
 
-  pub sets-natural : (m p k : ℕ) → nextToken text at ≡ Found (Natural m) p k → SetsPost text start v prefix₀ prefix marks (Sets used at)
+  -- A token that is no quantifier's letter.
+  pub sets-over : {t : Token} {p k : ℕ} → FoundAt text at t p k → isWord eWord t ≡ false → isWord aWord t ≡ false → SetsPost text start v prefix₀ prefix marks (Sets used at)
   unfolding step
-  sets-natural m p k e =
-      over (λ c rc. from-token (length prefix₀) rc text (betweenSets v c (prefixOf (take used prefix))) at (Natural m) p k e ∙ sym (from-token (length prefix₀) rc text (clauses v c (prefixOf (take used prefix)) []) at (Natural m) p k e))
+  sets-over f e a = over (λ c rc. from-token (length prefix₀) rc text (betweenSets v c (prefixOf (take used prefix))) f ∙ rw (e, a) (sym (from-token (length prefix₀) rc text (clauses v c (prefixOf (take used prefix)) []) f)))
 
-  pub sets-negative : (m p k : ℕ) → nextToken text at ≡ Found (Negative m) p k → SetsPost text start v prefix₀ prefix marks (Sets used at)
-  unfolding step
-  sets-negative m p k e =
-      over (λ c rc. from-token (length prefix₀) rc text (betweenSets v c (prefixOf (take used prefix))) at (Negative m) p k e ∙ sym (from-token (length prefix₀) rc text (clauses v c (prefixOf (take used prefix)) []) at (Negative m) p k e))
+  pub sets-word : {w p k : ℕ} → FoundAt text at (Word w) p k → (eqb w eWord || eqb w aWord) ≡ false → SetsPost text start v prefix₀ prefix marks (Sets used at)
+  sets-word {w} f h = let both = or-no (eqb w eWord) (eqb w aWord) h in sets-over f (both .0) (both .1)
 
-  -- A word is a quantifier's letter, or not.
-  opens-set : (w p : ℕ) → (eqb w eWord || eqb w aWord) ≡ true → (c rc : ℕ) → step (length prefix₀) rc (betweenSets v c (prefixOf (take used prefix))) (placed (Word w) p) ≡ inSet v c (quantifierOf (eqb w eWord)) false (prefixOf (take used prefix))
-  unfolding step
-  opens-set w p h c rc = go (eqb w eWord) (eqb w aWord) h
-    where
-      go : (e a : Bool) → (e || a) ≡ true → opens e a v c (prefixOf (take used prefix)) (clausesToken (length prefix₀) rc p v c (prefixOf (take used prefix)) [] (Word w)) ≡ inSet v c (quantifierOf e) false (prefixOf (take used prefix))
-      go true a h = refl
-      go false true h = refl
-      go false false h = let z : _≡_ {A = ℕ} 0 1 = cc in absurd (omega arith)
+  module _ {w p k : ℕ} (f : FoundAt text at (Word w) p k) (h : (eqb w eWord || eqb w aWord) ≡ true) where
+    -- The letter opens a set.
+    opens-set : (c rc : ℕ) → readingFrom (length prefix₀) rc text (betweenSets v c []) start ≡ readingFrom (length prefix₀) rc text (inSet v c (quantifierOf (eqb w eWord)) false (prefixOf (take used prefix))) k
+    unfolding step
+    opens-set c rc = I .reads c rc ∙ from-token (length prefix₀) rc text (betweenSets v c (prefixOf (take used prefix))) f ∙ rw (go (eqb w eWord) (eqb w aWord) h)
+      where
+        go : (e a : Bool) → (e || a) ≡ true → opens e a v c (prefixOf (take used prefix)) (clausesToken (length prefix₀) rc p v c (prefixOf (take used prefix)) [] (Word w)) ≡ inSet v c (quantifierOf e) false (prefixOf (take used prefix))
+        go true a h = refl
+        go false true h = refl
+        go false false h = let z : _≡_ {A = ℕ} 0 1 = cc in absurd (omega arith)
 
-  opens-none : (w p : ℕ) → (eqb w eWord || eqb w aWord) ≡ false → (c rc : ℕ) → step (length prefix₀) rc (betweenSets v c (prefixOf (take used prefix))) (placed (Word w) p) ≡ step (length prefix₀) rc (clauses v c (prefixOf (take used prefix)) []) (placed (Word w) p)
-  unfolding step
-  opens-none w p h c rc = go (eqb w eWord) (eqb w aWord) h
-    where
-      go : (e a : Bool) → (e || a) ≡ false → opens e a v c (prefixOf (take used prefix)) (clausesToken (length prefix₀) rc p v c (prefixOf (take used prefix)) [] (Word w)) ≡ clausesToken (length prefix₀) rc p v c (prefixOf (take used prefix)) [] (Word w)
-      go true a h = let z : _≡_ {A = ℕ} 0 1 = cc in absurd (omega arith)
-      go false true h = let z : _≡_ {A = ℕ} 0 1 = cc in absurd (omega arith)
-      go false false h = refl
+    pub sets-refuse : {r : Refusal} → SetPost text k v (quantifierOf (eqb w eWord)) used prefix prefix marks (NoSets r) → (prefix′ : List ℤ) (marks′ : List ℕ) → SetsPost text start v prefix₀ prefix′ marks′ (NoSets r)
+    sets-refuse post prefix′ marks′ = λ c rc. opens-set c rc ∙ rw (← I .same) (post c rc)
 
-  pub sets-word : (w p k : ℕ) → nextToken text at ≡ Found (Word w) p k → (eqb w eWord || eqb w aWord) ≡ false → SetsPost text start v prefix₀ prefix marks (Sets used at)
-  sets-word w p k e h =
-      over (λ c rc. from-token (length prefix₀) rc text (betweenSets v c (prefixOf (take used prefix))) at (Word w) p k e ∙ rw (opens-none w p h c rc) (sym (from-token (length prefix₀) rc text (clauses v c (prefixOf (take used prefix)) []) at (Word w) p k e)))
-
-  pub sets-refuse : (w p k : ℕ) (r : Refusal) → nextToken text at ≡ Found (Word w) p k → (eqb w eWord || eqb w aWord) ≡ true → SetPost text k v (quantifierOf (eqb w eWord)) used prefix prefix marks (NoSets r) → (prefix′ : List ℤ) (marks′ : List ℕ) → SetsPost text start v prefix₀ prefix′ marks′ (NoSets r)
-  sets-refuse w p k r e h post prefix′ marks′ =
-      λ c rc. I .reads c rc ∙ from-token (length prefix₀) rc text (betweenSets v c (prefixOf (take used prefix))) at (Word w) p k e ∙ rw (opens-set w p h c rc, ← I .same) (post c rc)
-
-  pub sets-on : (w p k n after : ℕ) (prefix′ : List ℤ) (marks′ : List ℕ) → nextToken text at ≡ Found (Word w) p k → (eqb w eWord || eqb w aWord) ≡ true → length prefix′ ≡ length prefix → SetPost text k v (quantifierOf (eqb w eWord)) used prefix prefix′ marks′ (Sets n after) → SetsSoFar text start v prefix₀ prefix′ marks′ after n
-  sets-on w p k n after prefix′ marks′ e h l post =
-      record {
-        room = post .2;
-        same = l ∙ I .same;
-        listed = post .1;
-        reads = λ c rc. I .reads c rc ∙ from-token (length prefix₀) rc text (betweenSets v c (prefixOf (take used prefix))) at (Word w) p k e ∙ rw (opens-set w p h c rc, ← I .same) (post .0 c rc);
-      }
+    pub sets-on : (n after : ℕ) (prefix′ : List ℤ) (marks′ : List ℕ) → length prefix′ ≡ length prefix → SetPost text k v (quantifierOf (eqb w eWord)) used prefix prefix′ marks′ (Sets n after) → SetsSoFar text start v prefix₀ prefix′ marks′ after n
+    sets-on n after prefix′ marks′ l post =
+        record { room = post .2; same = l ∙ I .same; listed = post .1; reads = λ c rc. opens-set c rc ∙ rw (← I .same) (post .0 c rc) }
