@@ -1,5 +1,5 @@
 -- The definitions that layer 1's contracts cite. What a reader must believe: Bounds, Word, Refusal, Tables, Decode (tables),
--- Token, Text (reading), Decimal, Written (writing), Clear, ClauseWord, RoundTrip. For inner contracts: Store, Writing, Stage.
+-- Token, Text (reading), Decimal, Written (writing), Clear, ClauseWords, RoundTrip. For inner contracts: Store, Writing, Stage.
 pub mod Bounds
 pub mod Word
 pub mod Refusal
@@ -7,8 +7,7 @@ pub mod Tables
 pub mod Prefix
 pub mod Decode
 pub mod Clear
-pub mod ClauseWord
-pub mod ClauseWordLaws
+pub mod ClauseWords
 pub mod Decimal
 pub mod Store
 pub mod Written
