@@ -11,7 +11,7 @@ use mathlib.Core.Path.{_≡_}
 use mathlib.Core.Bool.{Bool, true, false}
 use mathlib.Core.Option.{Option, none, some}
 use mathlib.Core.List.{List, [], _∷_, _++_, flatMap}
-use lib.ListN.{length}
+use lib.ListN.{length, replicate}
 use lib.Dec.{leb, eqb}
 use lib.IntN.{ℤ, pos, negsuc}
 use Rattle.qbf.specs.Formula.{Quantifier, existential, universal, Entry, Prefix}
@@ -94,7 +94,7 @@ answerWriting (some r) used = Refused r
 -- The text's bytes at the end: what was written and zeros behind it, or zeros alone.
 abbrev pub textAfter : Option Refusal → List ℕ → ℕ → List ℕ
 textAfter none bytes room = filledUp 0 room bytes
-textAfter (some r) bytes room = filledUp 0 room []
+textAfter (some r) bytes room = replicate room 0
 
 -- What `write_formula` promises: its answer, and the text that it was lent, from the tables and the text's length alone.
 pub record Writes (prefix clauses : List ℤ) (room : ℕ) (answer : WriteAnswer) (text : List ℕ) : Type 0 where

@@ -44,7 +44,3 @@ module _ {A : Type 0} where
       ap (clearFrom z (length l)) (sets-eq l buffer 0 (omega arith))
       ∙ clear-append z l (drop (0 + length l) buffer)
       ∙ ap {B = List A} (λ n. l ++ replicate n z) left
-
-  -- Nothing held.
-  pub filled-none : (z : A) (room : ℕ) → filledUp z room [] ≡ replicate room z
-  filled-none z room = let e : room - 0 ≡ room = omega arith in ap {B = List A} (λ n. replicate n z) e

@@ -1,6 +1,6 @@
 -- From the check of tables, the stores and the test of room to what `write_formula` promises. Assumes nothing.
 use Prim.Native.Nat.{ℕ}
-use mathlib.Core.Path.{_≡_, refl, ap, sym, _∙_}
+use mathlib.Core.Path.{_≡_, refl, ap, _∙_}
 use mathlib.Core.Bool.{Bool, true, false}
 use mathlib.Core.Option.{some}
 use mathlib.Core.List.{List}
@@ -11,7 +11,7 @@ use lib.Seq.{sets, length-sets}
 use lib.Dec.{leb}
 use lib.IntN.{ℤ}
 use Rattle.formula.specs.Clear.{clearFrom}
-use Rattle.formula.specs.Clear.Laws.{clear-all, clear-stored, filled-none}
+use Rattle.formula.specs.Clear.Laws.{clear-all, clear-stored}
 use Rattle.formula.specs.Store.{Stores}
 use Rattle.formula.specs.Tables.{tablesRefusal, Admitted}
 use Rattle.formula.specs.Written.{written, ifRoom, writingRefusal, textAfter, Writes}
@@ -24,7 +24,7 @@ module _ (p c : List ℤ) where
   -- Tables that are refused.
   pub writes-refused : (text : List ℕ) (r : Refusal) → tablesRefusal p c ≡ some r → Writes p c (length text) (Refused r) (clearFrom 0 0 text)
   unfolding writingRefusal
-  writes-refused text r e = record { answers = rw e; leaves = rw e (clear-all 0 text ∙ sym (filled-none 0 (length text))) }
+  writes-refused text r e = record { answers = rw e; leaves = rw e (clear-all 0 text) }
 
   -- Tables that are written.
   pub writes-finished :
@@ -45,4 +45,4 @@ module _ (p c : List ℤ) where
       cleared true e room end =
           rw (room, end, e, s .stored) (clear-stored 0 text (written p c) (leb-true (length (written p c)) (length text) e))
       cleared false e room end =
-          rw (room, end, e, s .stored) (clear-all 0 (sets text 0 (written p c)) ∙ ap {B = List ℕ} (λ n. replicate n 0) (length-sets text 0 (written p c)) ∙ sym (filled-none 0 (length text)))
+          rw (room, end, e, s .stored) (clear-all 0 (sets text 0 (written p c)) ∙ ap {B = List ℕ} (λ n. replicate n 0) (length-sets text 0 (written p c)))
