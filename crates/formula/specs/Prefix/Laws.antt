@@ -25,6 +25,7 @@ use Rattle.formula.specs.declared.prefix.Entry.the-variants.{Existential
 
 -- One entry a word.
 pub entry-count : (ws : List ℤ) → entryCount ws ≡ length ws
+unfolding prefixOf
 entry-count [] = refl
 entry-count (w ∷ ws) = ap suc (entry-count ws)
 
@@ -33,17 +34,19 @@ entry-variable (pos v) = refl
 entry-variable (negsuc n) = refl
 
 pub prefix-variables : (ws : List ℤ) → listed (prefixOf ws) ≡ map natAbs ws
+unfolding prefixOf
 prefix-variables [] = refl
 prefix-variables (w ∷ ws) = rw (entry-variable w, prefix-variables ws)
 
 -- Entries to words and back.
 pub prefix-words : (ws : List ℤ) → prefixWords (prefixOf ws) ≡ ws
-unfolding prefixWords entryWord
+unfolding prefixOf prefixWords entryWord
 prefix-words [] = refl
 prefix-words (pos v ∷ ws) = ap {B = List ℤ} (λ r. pos v ∷ r) (prefix-words ws)
 prefix-words (negsuc n ∷ ws) = ap {B = List ℤ} (λ r. negsuc n ∷ r) (prefix-words ws)
 
 pub prefix-append : (ws vs : List ℤ) → prefixOf (ws ++ vs) ≡ prefixOf ws ++ prefixOf vs
+unfolding prefixOf
 prefix-append [] vs = refl
 prefix-append (w ∷ ws) vs = ap {B = Prefix} (λ r. entryOf w ∷ r) (prefix-append ws vs)
 
@@ -58,12 +61,12 @@ entries-drop ws i h = drop-cons (prefixOf ws) i (entry 0 existential) h
 
 -- The entries after the first.
 pub later-entries : (ws : List ℤ) → prefixOf (laterEntries ws) ≡ drop 1 (prefixOf ws)
-unfolding laterEntries
+unfolding prefixOf laterEntries
 later-entries [] = refl
 later-entries (w ∷ ws) = refl
 
 pub later-shorter : (ws : List ℤ) → 0 < entryCount ws → length (laterEntries ws) < length ws
-unfolding laterEntries
+unfolding prefixOf laterEntries
 later-shorter [] h = absurd (not-suc-le-zero h)
 later-shorter (w ∷ ws) h = omega arith
 
@@ -84,6 +87,7 @@ shown-universal x v e = go (x .quantifier) refl
 
 -- The entry at a place is that of its word; what the word is recognised as shows it.
 pub entry-word : (ws : List ℤ) (i : ℕ) → i < length ws → entryAt ws i ≡ entryOf (getD ws i (pos 0))
+unfolding prefixOf
 entry-word [] i h = absurd (not-suc-le-zero h)
 entry-word (w ∷ ws) zero h = refl
 entry-word (w ∷ ws) (suc i) h = entry-word ws i (le-of-suc-le-suc h)
@@ -100,9 +104,11 @@ entry-negative w v e = rw (negative-word w v e) (shown (v .0) (negative-bounded 
 
 -- A word of the table is that of an entry, and an entry that of a word; the words of a table of entries are variables'.
 pub word-entry : {w : ℤ} {ws : List ℤ} → List·Memᴰ w ws → List·Memᴰ (entryOf w) (prefixOf ws)
+unfolding prefixOf
 word-entry m = Memᴰ·map entryOf m
 
 pub entry-from : (ws : List ℤ) {x : Entry} → List·Memᴰ x (prefixOf ws) → (w : ℤ) × List·Memᴰ w ws × (entryOf w ≡ x)
+unfolding prefixOf
 entry-from ws m = Memᴰ·of-map entryOf ws m
 
 pub words-ranged : (ws : List ℤ) → ((w : ℤ) → List·Memᴰ w ws → (1 ≤ natAbs w) × (natAbs w ≤ variableBound)) → Entries ws
