@@ -120,15 +120,20 @@ words-ranged ws h = record { ranged = λ x m. of-word x (entry-from ws m) }
 pub ranged-words : (ws : List ℤ) → Entries ws → (w : ℤ) → List·Memᴰ w ws → (1 ≤ natAbs w) × (natAbs w ≤ variableBound)
 ranged-words ws h w m = rw (← entry-variable w) (h .ranged (entryOf w) (word-entry m))
 
+-- The entry at a place is one of them, and in range where all are.
+member-at : (P : Prefix) (i : ℕ) → i < length P → List·Memᴰ (getD P i (entry 0 existential)) P
+member-at [] i h = absurd (not-suc-le-zero h)
+member-at (x ∷ P) zero h = List·Memᴰ·head refl
+member-at (x ∷ P) (suc i) h = List·Memᴰ·tail (member-at P i (le-of-suc-le-suc h))
+
+pub entry-member : (ws : List ℤ) (i : ℕ) → i < entryCount ws → List·Memᴰ (entryAt ws i) (prefixOf ws)
+entry-member ws i h = member-at (prefixOf ws) i h
+
+pub entry-at-ranged : (ws : List ℤ) → Entries ws → (i : ℕ) → i < entryCount ws → (1 ≤ entryAt ws i .variable) × (entryAt ws i .variable ≤ variableBound)
+entry-at-ranged ws h i l = h .ranged (entryAt ws i) (entry-member ws i l)
+
 pub entry-ranged : (ws : List ℤ) → Entries ws → (i : ℕ) → i < length ws → (1 ≤ natAbs (getD ws i (pos 0))) × (natAbs (getD ws i (pos 0)) ≤ variableBound)
-entry-ranged ws h i l =
-    rw (← entry-variable (getD ws i (pos 0)), ← entry-word ws i l)
-    (h .ranged (entryAt ws i) (entry-member (prefixOf ws) i (rw (entry-count ws) l)))
-  where
-    entry-member : (P : Prefix) (i : ℕ) → i < length P → List·Memᴰ (getD P i (entry 0 existential)) P
-    entry-member [] i h = absurd (not-suc-le-zero h)
-    entry-member (x ∷ P) zero h = List·Memᴰ·head refl
-    entry-member (x ∷ P) (suc i) h = List·Memᴰ·tail (entry-member P i (le-of-suc-le-suc h))
+entry-ranged ws h i l = rw (← entry-variable (getD ws i (pos 0)), ← entry-word ws i l) (entry-at-ranged ws h i (rw (entry-count ws) l))
 
 -- An entry put behind the words used.
 pub put-entry : (ws : List ℤ) (used : ℕ) (x : Entry) → entryFits (length ws) used ≡ true → take (usedAfter used) (putEntry ws used x) ≡ take used ws ++ prefixWords (x ∷ [])
