@@ -1,15 +1,15 @@
 -- Laws of the prefix table: how many entries there are, the entry at a place and those after it, and an entry put behind the
 -- words used. Definitions: Prefix. Assumes nothing.
 use Prim.Native.Nat.{ℕ, zero, suc, _+_, _≤_, _<_}
-use mathlib.Core.Path.{_≡_, refl, ap, sym, _∙_}
+use mathlib.Core.Path.{_≡_, refl, ap, sym}
 use mathlib.Core.Logic.{_⊎_, inl, inr}
-use mathlib.Core.Bool.{Bool, true, false, _&&_, _||_, false≢true}
+use mathlib.Core.Bool.{true, false, _&&_, _||_, false≢true}
 use mathlib.Core.List.{List, [], _∷_, _++_, map, List·Memᴰ, List·Memᴰ·head, List·Memᴰ·tail, List·Memᴰ·not-nil, List·Memᴰ·cases-cons, Memᴰ·map, Memᴰ·of-map}
 use native.Mathlib.Numerals.{add-one}
 use native.Mathlib.Nat.{le-of-suc-le-suc, not-suc-le-zero}
 use native.Mathlib.Omega.{arith}
 use borrow.Author.Tests.{ltb-true, eqb-true, eq-eqb}
-use lib.ListN.{length, getD, set, take, drop}
+use lib.ListN.{length, getD, take, drop}
 use lib.Dec.{eqb}
 use lib.Seq.{drop-cons, take-suc-set}
 use lib.IntN.{ℤ, pos, negsuc, negℤ, natAbs}
@@ -18,7 +18,7 @@ use Rattle.qbf.specs.Connectives.{and-both, or-either, or-right}
 use Rattle.formula.specs.Bounds.{variableBound}
 use Rattle.formula.specs.Word.{wordOf}
 use Rattle.formula.specs.Word.Laws.{positive-word, negative-word, negative-bounded}
-use Rattle.formula.specs.Prefix.{entryOf, prefixOf, entryWord, prefixWords, entryCount, entryAt, laterEntries, entryFits, putEntry, usedAfter, shownBy, entryShown, isQuantifier, quantifies, Entries}
+use Rattle.formula.specs.Prefix.{entryOf, prefixOf, entryWord, prefixWords, entryCount, entryAt, laterEntries, entryFits, putEntry, usedAfter, entryShown, isQuantifier, quantifies, Entries}
 use Rattle.formula.specs.declared.literal.Variable.{Variable}
 use Rattle.formula.specs.declared.literal.Word.the-variants.{Positive, Negative}
 use Rattle.formula.specs.declared.prefix.Entry.the-variants.{Existential, Universal}

@@ -5,7 +5,7 @@ use mathlib.Core.Path.{_≡_, _∙_}
 use mathlib.Core.List.{[]}
 use native.Mathlib.Omega.{arith}
 use lib.ListN.{length, getD, take, drop, length-drop}
-use lib.IntN.{pos, natAbs}
+use lib.IntN.{pos}
 use mir.Syntax.{w32}
 use mir.Val.{toZ, ofZ}
 use Rattle.formula.specs.Word.{wordOf, variableOf}
