@@ -1,9 +1,9 @@
--- A buffer whose elements from a place on are cleared (01: "past the used part they are 0"), and the laws of one store.
-use Prim.Native.Nat.{ℕ, zero, suc, _≤_, _<_}
-use mathlib.Core.Path.{_≡_, refl, ap}
-use mathlib.Core.List.{List, [], _∷_}
-use lib.ListN.{length, set, replicate}
-use native.Mathlib.Nat.{le-of-suc-le-suc, not-suc-le-zero}
+-- Buffers at the end of a call (01: "past the used part they are 0"): a buffer whose elements from a place on are cleared, and
+-- one that holds a list and zeros behind it. Laws are in Clear/Laws.antt.
+pub mod Laws
+use Prim.Native.Nat.{ℕ, zero, suc, _-_}
+use mathlib.Core.List.{List, [], _∷_, _++_}
+use lib.ListN.{length, replicate}
 
 module _ {A : Type 0} where
   -- The elements before the place n, then the value z for each later one.
@@ -16,17 +16,6 @@ module _ {A : Type 0} where
   abbrev pub cleared : A → List A → List A
   cleared z l = replicate (length l) z
 
-  -- One store moves the place on.
-  pub clear-step : (z : A) (i : ℕ) (l : List A) → i < length l → clearFrom z (suc i) (set l i z) ≡ clearFrom z i l
-  unfolding clearFrom
-  clear-step z i [] h = absurd (not-suc-le-zero h)
-  clear-step z zero (x ∷ l) h = refl
-  clear-step z (suc i) (x ∷ l) h = ap {B = List A} (λ r. x ∷ r) (clear-step z i l (le-of-suc-le-suc h))
-
-  -- Past the end nothing is left to clear.
-  pub clear-end : (z : A) (i : ℕ) (l : List A) → length l ≤ i → clearFrom z i l ≡ l
-  unfolding clearFrom
-  clear-end z zero [] h = refl
-  clear-end z (suc i) [] h = refl
-  clear-end z zero (x ∷ l) h = absurd (not-suc-le-zero h)
-  clear-end z (suc i) (x ∷ l) h = ap {B = List A} (λ r. x ∷ r) (clear-end z i l (le-of-suc-le-suc h))
+  -- A buffer of `room` elements that holds a list, and z behind it.
+  abbrev pub filledUp : A → ℕ → List A → List A
+  filledUp z room l = l ++ replicate (room - length l) z

@@ -1,5 +1,5 @@
 -- The definitions that layer 1's contracts cite. What a reader must believe: Bounds, Word, Refusal, Tables, Decode (tables),
--- Token, Text (reading), Decimal, Written (writing), Clear, ClauseWord, RoundTrip. For inner contracts: Store, Writing, and
+-- Token, Text (reading), Decimal, Written (writing), Clear, ClauseWords, RoundTrip. For inner contracts: Store, Writing, and
 -- the stages of reading in Text/{Header,Sets,Clauses,Fill}.
 pub mod Bounds
 pub mod Word
@@ -8,8 +8,7 @@ pub mod Tables
 pub mod Prefix
 pub mod Decode
 pub mod Clear
-pub mod ClauseWord
-pub mod ClauseWordLaws
+pub mod ClauseWords
 pub mod Decimal
 pub mod Store
 pub mod Written

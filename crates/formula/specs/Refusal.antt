@@ -149,7 +149,8 @@ filled ws [] = true
 filled [] (x ∷ xs) = false
 filled (w ∷ ws) (x ∷ xs) = (eqb (length w) 14 && same (wordIn w) (x .bytes)) && filled ws xs
 
--- What `Reason::word` answers: the bytes stand first, and no word has more than 14.
+-- What `Reason::word` answers: of 14 bytes the word's stand first.
 pub record Spells (r : ReasonWord) (bytes : List ℕ) : Type 0 where
   pub spelled : take (r .length) (r .bytes) ≡ bytes
   pub short : r .length ≤ 14
+  pub whole : length (r .bytes) ≡ 14

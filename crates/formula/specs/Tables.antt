@@ -7,7 +7,7 @@ pub mod Examples
 pub mod Scan
 use Prim.Native.Nat.{ℕ, zero, suc, _+_}
 use mathlib.Core.Path.{_≡_}
-use mathlib.Core.Bool.{Bool, true, false, _||_, _&&_}
+use mathlib.Core.Bool.{Bool, false, not, _||_, _&&_}
 use mathlib.Core.Option.{Option, none, some}
 use mathlib.Core.List.{List, [], _∷_}
 use lib.ListN.{length}
@@ -16,7 +16,7 @@ use lib.IntN.{ℤ, pos, negsuc}
 use Rattle.qbf.specs.Formula.{listed}
 use Rattle.formula.specs.Bounds.{variableBound, countBound, matrixBound}
 use Rattle.formula.specs.Word.{wordOf}
-use Rattle.formula.specs.Refusal.{refusal}
+use Rattle.formula.specs.Refusal.{refusal, require}
 use Rattle.formula.specs.Prefix.{prefixOf, entryCount}
 use Rattle.formula.specs.declared.literal.Word.{Word}
 use Rattle.formula.specs.declared.literal.Word.the-variants.{Zero, TooLarge, Positive, Negative}
@@ -39,8 +39,7 @@ zeros (negsuc n ∷ ws) = zeros ws
 
 -- A variable is listed at the place `at`, again or for the first time.
 abbrev pub listing : ℕ → Bool → Option Refusal → Option Refusal
-listing at true later = some (refusal BoundTwice at)
-listing at false later = later
+listing at again later = require (not again) (some (refusal BoundTwice at)) later
 
 -- A prefix word at the place `at`, `seen` being the variables before it; `next` goes on with its variable.
 abbrev pub prefixWord : ℕ → List ℕ → Word → (ℕ → Option Refusal) → Option Refusal
@@ -56,9 +55,7 @@ prefixRefusal at seen (w ∷ ws) = prefixWord at seen (wordOf w) (λ v. prefixRe
 
 -- A literal at the place `at`: is its variable in the prefix, and does its clause hold that variable already?
 abbrev pub literalWord : ℕ → Bool → Bool → Option Refusal → Option Refusal
-literalWord at false clash later = some (refusal Unbound at)
-literalWord at true true later = some (refusal Clash at)
-literalWord at true false later = later
+literalWord at bound clash later = require bound (some (refusal Unbound at)) (require (not clash) (some (refusal Clash at)) later)
 
 -- A clause word at the place `at`, `seen` being the variables of its clause before it: a literal repeats or opposes an
 -- earlier one exactly when its variable is among them. `next` goes on with what its clause then holds.
@@ -92,8 +89,7 @@ firstRefusal none later = later
 firstRefusal (some r) later = some r
 
 abbrev pub ifSized : Bool → Option Refusal → Option Refusal
-ifSized true later = later
-ifSized false later = some (refusal Oversized 0)
+ifSized fits later = require fits (some (refusal Oversized 0)) later
 
 -- Why the tables are turned away, if they are.
 unfoldable pub tablesRefusal : List ℤ → List ℤ → Option Refusal

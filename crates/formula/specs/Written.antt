@@ -6,7 +6,7 @@ pub mod Laws
 pub mod Length
 pub mod Room
 pub mod Example
-use Prim.Native.Nat.{ℕ, suc, _-_, max}
+use Prim.Native.Nat.{ℕ, suc, max}
 use mathlib.Core.Path.{_≡_}
 use mathlib.Core.Bool.{Bool, true, false}
 use mathlib.Core.Option.{Option, none, some}
@@ -15,7 +15,8 @@ use lib.ListN.{length, replicate}
 use lib.Dec.{leb, eqb}
 use lib.IntN.{ℤ, pos, negsuc}
 use Rattle.qbf.specs.Formula.{Quantifier, existential, universal, Entry, Prefix}
-use Rattle.formula.specs.Refusal.{refusal}
+use Rattle.formula.specs.Refusal.{refusal, require}
+use Rattle.formula.specs.Clear.{filledUp}
 use Rattle.formula.specs.Prefix.{prefixOf}
 use Rattle.formula.specs.Decode.{clausesOf}
 use Rattle.formula.specs.Tables.{zeros, tablesRefusal, firstRefusal}
@@ -78,9 +79,9 @@ written prefix clauses =
     headerText (largest (prefixOf prefix)) (zeros clauses)
     ++ (flatMap runLine (runs (prefixOf prefix)) ++ flatMap clauseLine (clausesOf clauses))
 
+-- The text has room.
 abbrev pub ifRoom : Bool → Option Refusal
-ifRoom true = none
-ifRoom false = some (refusal NoRoom 0)
+ifRoom fits = require fits (some (refusal NoRoom 0)) none
 
 -- Why nothing is written into a text of `room` bytes: the tables' refusals, then the room.
 unfoldable pub writingRefusal : List ℤ → List ℤ → ℕ → Option Refusal
@@ -92,7 +93,7 @@ answerWriting (some r) used = Refused r
 
 -- The text's bytes at the end: what was written and zeros behind it, or zeros alone.
 abbrev pub textAfter : Option Refusal → List ℕ → ℕ → List ℕ
-textAfter none bytes room = bytes ++ replicate (room - length bytes) 0
+textAfter none bytes room = filledUp 0 room bytes
 textAfter (some r) bytes room = replicate room 0
 
 -- What `write_formula` promises: its answer, and the text that it was lent, from the tables and the text's length alone.

@@ -14,6 +14,7 @@ pub enum TextFit {
 impl TextLength {
     pub const MAX: usize = 1_048_576;
 
+    // A text's length, or that it is above the bound.
     pub fn new(n: usize) -> TextFit
         ensures { λ r. ⌜ r ≡ textFit n ⌝ }
     {
@@ -36,6 +37,7 @@ pub enum MatrixFit {
 impl MatrixLength {
     pub const MAX: usize = 65_536;
 
+    // A clause table's length, or that it is above the bound.
     pub fn new(n: usize) -> MatrixFit
         ensures { λ r. ⌜ r ≡ matrixFit n ⌝ }
     {
@@ -58,6 +60,7 @@ pub enum ProofFit {
 impl ProofLength {
     pub const MAX: usize = 1_048_576;
 
+    // A proof's length, or that it is above the bound.
     pub fn new(n: usize) -> ProofFit
         ensures { λ r. ⌜ r ≡ proofFit n ⌝ }
     {
@@ -80,6 +83,7 @@ pub enum VariableCountFit {
 impl VariableCount {
     pub const MAX: usize = 1_024;
 
+    // A number of variables, or that it is above the bound.
     pub fn new(n: usize) -> VariableCountFit
         ensures { λ r. ⌜ r ≡ variableCountFit n ⌝ }
     {
@@ -102,6 +106,7 @@ pub enum ClauseCountFit {
 impl ClauseCount {
     pub const MAX: usize = 8_192;
 
+    // A number of clauses, or that it is above the bound.
     pub fn new(n: usize) -> ClauseCountFit
         ensures { λ r. ⌜ r ≡ clauseCountFit n ⌝ }
     {

@@ -3,6 +3,7 @@ ghost use mathlib.Core.Path.{_≡_};
 ghost use lib.IntN.{pos};
 ghost use Rattle.formula.specs.Clear.{clearFrom};
 
+// The bytes from a place on become 0.
 pub fn clear_bytes(buffer: &mut [u8], from: usize)
     ensures { λ r. ⌜ now (buffer .exit) ≡ clearFrom 0 from (now (buffer .entry)) ⌝ }
 {
@@ -13,6 +14,7 @@ pub fn clear_bytes(buffer: &mut [u8], from: usize)
     }
 }
 
+// The words from a place on become 0.
 pub fn clear_words(buffer: &mut [i32], from: usize)
     ensures { λ r. ⌜ now (buffer .exit) ≡ clearFrom (pos 0) from (now (buffer .entry)) ⌝ }
 {
@@ -23,6 +25,7 @@ pub fn clear_words(buffer: &mut [i32], from: usize)
     }
 }
 
+// The numbers from a place on become 0.
 pub fn clear_numbers(buffer: &mut [u32], from: usize)
     ensures { λ r. ⌜ now (buffer .exit) ≡ clearFrom 0 from (now (buffer .entry)) ⌝ }
 {

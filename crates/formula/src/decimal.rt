@@ -7,6 +7,7 @@ ghost use lib.ListN.{length};
 ghost use Rattle.formula.specs.Decimal.{decimal};
 ghost use Rattle.formula.specs.Store.{Stores};
 
+// One byte.
 pub fn put(text: &mut [u8], at: usize, byte: u8) -> usize
     requires { ⌜ at + 1 < 2 ^ 64 ⌝ }
     ensures { λ r. ⌜ Stores (now (text .entry)) at (byte ∷ []) (now (text .exit)) r ⌝ }
@@ -18,6 +19,7 @@ pub fn put(text: &mut [u8], at: usize, byte: u8) -> usize
     at + 1
 }
 
+// The bytes of a slice, in order.
 pub fn write_bytes(text: &mut [u8], at: usize, bytes: &[u8]) -> usize
     requires { ⌜ at + length (now bytes) < 2 ^ 64 ⌝ }
     ensures { λ r. ⌜ Stores (now (text .entry)) at (now (bytes .entry)) (now (text .exit)) r ⌝ }
@@ -39,7 +41,7 @@ fn digit(n: usize) -> u8
     48 + n as u8
 }
 
-// The digits before the last one are those of a tenth.
+// A number in decimal digits: those before the last one are those of a tenth.
 pub fn write_number(text: &mut [u8], at: usize, n: usize) -> usize
     requires { ⌜ at + length (decimal n) < 2 ^ 64 ⌝ }
     ensures { λ r. ⌜ Stores (now (text .entry)) at (decimal n) (now (text .exit)) r ⌝ }

@@ -9,6 +9,7 @@ ghost use Rattle.formula.specs.Word.{wordOf, isZero, variableOf, slotWit
 // A variable's number, 1 to 1,024.
 pub struct Variable(pub usize);
 
+// What the constructor of variables answers.
 pub enum VariableFit {
     Within(Variable),
     Outside,
@@ -17,6 +18,7 @@ pub enum VariableFit {
 impl Variable {
     pub const MAX: usize = 1_024;
 
+    // The variable of this number, if it is one's.
     pub fn new(n: usize) -> VariableFit
         ensures { λ r. ⌜ r ≡ variableFit (inRange n variableBound) n ⌝ }
     {
@@ -47,6 +49,7 @@ impl Variable {
 // A clause's number: 1 to C for the input clauses; steps go on from C + 1.
 pub struct ClauseNumber(pub usize);
 
+// What the constructor of clause numbers answers.
 pub enum NumberFit {
     Within(ClauseNumber),
     Outside,
@@ -79,6 +82,7 @@ impl ClauseNumber {
 // A literal as a word: v for the variable v, −v for its negation.
 pub struct Literal(pub i32);
 
+// What the constructor of literals answers.
 pub enum LiteralFit {
     Within(Literal),
     Outside,
@@ -115,7 +119,7 @@ pub enum Word {
 }
 
 impl Word {
-    // The range is tested first and as a whole: compiled, the constructor's own test is gone and no branch is on the sign.
+    // What a word is. The range is tested first and as a whole: compiled, the constructor's own test is gone and no branch is on the sign.
     pub fn of(word: i32) -> Word
         ensures { λ r. ⌜ r ≡ wordOf word ⌝ }
     {
@@ -153,7 +157,7 @@ impl Word {
         }
     }
 
-    // The word 0 closes a clause.
+    // Whether a word is 0, which closes a clause.
     pub fn is_zero(word: i32) -> bool
         ensures { λ r. ⌜ r ≡ isZero word ⌝ }
     {
@@ -174,6 +178,7 @@ impl Word {
         }
     }
 
+    // The place of a word's literal among marks.
     pub fn slot(word: i32) -> usize
         ensures { λ r. ⌜ r ≡ slotOf (wordOf word) ⌝ }
     {

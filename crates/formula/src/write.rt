@@ -40,7 +40,7 @@ fn variable_at(prefix: &[i32], place: usize) -> usize
     }
 }
 
-// The letter of its quantifier.
+// The letter of the quantifier of the entry at a place.
 fn letter_at(prefix: &[i32], place: usize) -> u8
     requires { ⌜ Entries (now prefix) ⌝ }
     requires { ⌜ place < entryCount (now prefix) ⌝ }

@@ -1,10 +1,11 @@
 -- The lines of the programs (01, "Programs"): `accepted V C steps empty` and `refused number word place`, each ended by LF, with
 -- single spaces. Bytes: 10 LF, 32 space. Then what a file is settled as, and what a lent buffer holds at the end.
-use Prim.Native.Nat.{ℕ, _-_}
+use Prim.Native.Nat.{ℕ}
 use mathlib.Core.Bool.{Bool, true, false}
 use mathlib.Core.List.{List, [], _∷_, _++_}
 use lib.ListN.{length, replicate}
 use lib.Dec.{leb}
+use Rattle.formula.specs.Clear.{filledUp}
 use Rattle.formula.specs.Decimal.{decimal}
 use Rattle.formula.specs.Refusal.{refusal, require, number, word}
 use Rattle.formula.specs.declared.refusal.Refusal.{Refusal}
@@ -52,7 +53,7 @@ usedFor true text = length text
 usedFor false text = 0
 
 abbrev pub heldFor : Bool → List ℕ → ℕ → List ℕ
-heldFor true text room = text ++ replicate (room - length text) 0
+heldFor true text room = filledUp 0 room text
 heldFor false text room = replicate room 0
 
 abbrev pub used : List ℕ → ℕ → ℕ

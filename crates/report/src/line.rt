@@ -14,32 +14,13 @@ ghost use Rattle.report.specs.Printing.{Finishes, StoresShort};
 
 // The word of a reason.
 fn write_word(line: &mut [u8], at: usize, reason: Reason) -> usize
-    requires { ⌜ at + 13 < 2 ^ 64 ⌝ }
+    requires { ⌜ at + 14 < 2 ^ 64 ⌝ }
     ensures { λ r. ⌜ Stores (now (line .entry)) at (word reason) (now (line .exit)) r ⌝ }
-    ensures { λ r. ⌜ r ≤ at + 13 ⌝ }
+    ensures { λ r. ⌜ r ≤ at + 14 ⌝ }
 {
-    match reason {
-        Reason::Headless => write_bytes(line, at, b"headless"),
-        Reason::Oversized => write_bytes(line, at, b"oversized"),
-        Reason::NoRoom => write_bytes(line, at, b"no room"),
-        Reason::BadToken => write_bytes(line, at, b"bad token"),
-        Reason::OutOfRange => write_bytes(line, at, b"out of range"),
-        Reason::BoundTwice => write_bytes(line, at, b"bound twice"),
-        Reason::Unbound => write_bytes(line, at, b"unbound"),
-        Reason::Clash => write_bytes(line, at, b"clash"),
-        Reason::Unfinished => write_bytes(line, at, b"unfinished"),
-        Reason::Miscount => write_bytes(line, at, b"miscount"),
-        Reason::NoTrailer => write_bytes(line, at, b"no trailer"),
-        Reason::OtherFormula => write_bytes(line, at, b"other formula"),
-        Reason::BrokenStep => write_bytes(line, at, b"broken step"),
-        Reason::NotEarlier => write_bytes(line, at, b"not earlier"),
-        Reason::WrongPivot => write_bytes(line, at, b"wrong pivot"),
-        Reason::Tautology => write_bytes(line, at, b"tautology"),
-        Reason::Blocked => write_bytes(line, at, b"blocked"),
-        Reason::Misstated => write_bytes(line, at, b"misstated"),
-        Reason::NoConclusion => write_bytes(line, at, b"no conclusion"),
-        Reason::NotUniversal => write_bytes(line, at, b"not universal"),
-    }
+    let w = reason.word();
+    let bytes = w.bytes;
+    write_bytes(line, at, &bytes[..w.length])
 }
 
 // A number and the space behind it.
@@ -62,6 +43,7 @@ fn write_last(line: &mut [u8], at: usize, n: usize) -> usize
     put(line, next, b'\n')
 }
 
+// The line of a refusal.
 pub fn refused_line(line: &mut [u8], refusal: Refusal) -> usize
     ensures { λ r. ⌜ StoresShort lineRoom (now (line .entry)) (refusedLine refusal) (now (line .exit)) r ⌝ }
 {
@@ -73,7 +55,7 @@ pub fn refused_line(line: &mut [u8], refusal: Refusal) -> usize
     write_last(line, at, refusal.place)
 }
 
-// `empty` is the first empty clause's number.
+// The line of an accepted proof; `empty` is the first empty clause's number.
 pub fn accepted_line(
     line: &mut [u8],
     variables: usize,

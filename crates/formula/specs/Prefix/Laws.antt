@@ -1,15 +1,15 @@
 -- Laws of the prefix table: how many entries there are, the entry at a place and those after it, and an entry put behind the
 -- words used. Definitions: Prefix. Assumes nothing.
 use Prim.Native.Nat.{ℕ, zero, suc, _+_, _≤_, _<_}
-use mathlib.Core.Path.{_≡_, refl, ap, sym, _∙_}
+use mathlib.Core.Path.{_≡_, refl, ap, sym}
 use mathlib.Core.Logic.{_⊎_, inl, inr}
-use mathlib.Core.Bool.{Bool, true, false, _&&_, _||_, false≢true}
+use mathlib.Core.Bool.{true, false, _&&_, _||_, false≢true}
 use mathlib.Core.List.{List, [], _∷_, _++_, map, List·Memᴰ, List·Memᴰ·head, List·Memᴰ·tail, List·Memᴰ·not-nil, List·Memᴰ·cases-cons, Memᴰ·map, Memᴰ·of-map}
 use native.Mathlib.Numerals.{add-one}
 use native.Mathlib.Nat.{le-of-suc-le-suc, not-suc-le-zero}
 use native.Mathlib.Omega.{arith}
 use borrow.Author.Tests.{ltb-true, eqb-true, eq-eqb}
-use lib.ListN.{length, getD, set, take, drop}
+use lib.ListN.{length, getD, take, drop}
 use lib.Dec.{eqb}
 use lib.Seq.{drop-cons, take-suc-set}
 use lib.IntN.{ℤ, pos, negsuc, negℤ, natAbs}
@@ -40,7 +40,7 @@ prefix-variables (w ∷ ws) = rw (entry-variable w, prefix-variables ws)
 
 -- Entries to words and back.
 pub prefix-words : (ws : List ℤ) → prefixWords (prefixOf ws) ≡ ws
-unfolding prefixWords entryWord prefixOf
+unfolding prefixOf prefixWords entryWord
 prefix-words [] = refl
 prefix-words (pos v ∷ ws) = ap {B = List ℤ} (λ r. pos v ∷ r) (prefix-words ws)
 prefix-words (negsuc n ∷ ws) = ap {B = List ℤ} (λ r. negsuc n ∷ r) (prefix-words ws)
@@ -83,12 +83,12 @@ entries-drop ws i h = drop-cons (prefixOf ws) i (entry 0 existential) h
 
 -- The entries after the first.
 pub later-entries : (ws : List ℤ) → prefixOf (laterEntries ws) ≡ drop 1 (prefixOf ws)
-unfolding laterEntries prefixOf
+unfolding prefixOf laterEntries
 later-entries [] = refl
 later-entries (w ∷ ws) = refl
 
 pub later-shorter : (ws : List ℤ) → 0 < entryCount ws → length (laterEntries ws) < length ws
-unfolding laterEntries prefixOf
+unfolding prefixOf laterEntries
 later-shorter [] h = absurd (not-suc-le-zero h)
 later-shorter (w ∷ ws) h = omega arith
 
@@ -142,15 +142,20 @@ words-ranged ws h = record { ranged = λ x m. of-word x (entry-from ws m) }
 pub ranged-words : (ws : List ℤ) → Entries ws → (w : ℤ) → List·Memᴰ w ws → (1 ≤ natAbs w) × (natAbs w ≤ variableBound)
 ranged-words ws h w m = rw (← entry-variable w) (h .ranged (entryOf w) (word-entry m))
 
+-- The entry at a place is one of them, and in range where all are.
+member-at : (P : Prefix) (i : ℕ) → i < length P → List·Memᴰ (getD P i (entry 0 existential)) P
+member-at [] i h = absurd (not-suc-le-zero h)
+member-at (x ∷ P) zero h = List·Memᴰ·head refl
+member-at (x ∷ P) (suc i) h = List·Memᴰ·tail (member-at P i (le-of-suc-le-suc h))
+
+pub entry-member : (ws : List ℤ) (i : ℕ) → i < entryCount ws → List·Memᴰ (entryAt ws i) (prefixOf ws)
+entry-member ws i h = member-at (prefixOf ws) i h
+
+pub entry-at-ranged : (ws : List ℤ) → Entries ws → (i : ℕ) → i < entryCount ws → (1 ≤ entryAt ws i .variable) × (entryAt ws i .variable ≤ variableBound)
+entry-at-ranged ws h i l = h .ranged (entryAt ws i) (entry-member ws i l)
+
 pub entry-ranged : (ws : List ℤ) → Entries ws → (i : ℕ) → i < length ws → (1 ≤ natAbs (getD ws i (pos 0))) × (natAbs (getD ws i (pos 0)) ≤ variableBound)
-entry-ranged ws h i l =
-    rw (← entry-variable (getD ws i (pos 0)), ← entry-word ws i l)
-    (h .ranged (entryAt ws i) (entry-member (prefixOf ws) i (rw (entry-count ws) l)))
-  where
-    entry-member : (P : Prefix) (i : ℕ) → i < length P → List·Memᴰ (getD P i (entry 0 existential)) P
-    entry-member [] i h = absurd (not-suc-le-zero h)
-    entry-member (x ∷ P) zero h = List·Memᴰ·head refl
-    entry-member (x ∷ P) (suc i) h = List·Memᴰ·tail (entry-member P i (le-of-suc-le-suc h))
+entry-ranged ws h i l = rw (← entry-variable (getD ws i (pos 0)), ← entry-word ws i l) (entry-at-ranged ws h i (rw (entry-count ws) l))
 
 -- An entry put behind the words used.
 pub put-entry : (ws : List ℤ) (used : ℕ) (x : Entry) → entryFits (length ws) used ≡ true → take (usedAfter used) (putEntry ws used x) ≡ take used ws ++ prefixWords (x ∷ [])

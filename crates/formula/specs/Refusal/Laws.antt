@@ -108,4 +108,4 @@ module _ (ws : List (List ℕ)) (f : filled ws table ≡ true) (n : ℕ) (l : 1 
       let row = getD ws (n - 1) [] in
       let is : word r ≡ wordIn row =
       ap (λ (m : ℕ). rowAt m .bytes) (ap number e ∙ number-at n l h) ∙ sym (filled-at ws table f (n - 1) (omega arith) .1) in
-      record { spelled = rw (q, is) (word-first row); short = omega (arith, q, word-shorter row, row-length) }
+      record { spelled = rw (q, is) (word-first row); short = omega (arith, q, word-shorter row, row-length); whole = row-length }

@@ -8,13 +8,13 @@ use mathlib.Core.Option.{Option, none, some}
 use mathlib.Core.List.{List, [], _∷_, _++_, map, List·Memᴰ, List·Memᴰ·head, List·Memᴰ·tail, List·Memᴰ·not-nil, List·Memᴰ·cases-cons, Memᴰ·of-map, Memᴰ·cast}
 use native.Mathlib.Nat.{not-suc-le-zero, le-of-suc-le-suc}
 use native.Mathlib.Omega.{arith}
-use borrow.Author.Tests.{leb-true, leb-false, le-leb, lt-leb, eqb-true, eq-eqb}
+use borrow.Author.Tests.{leb-true, le-leb, lt-leb, eqb-true, eq-eqb}
 use lib.ListN.{length, getD}
 use lib.Dec.{leb, eqb}
 use lib.IntN.{ℤ, pos, negsuc, natAbs}
 use Rattle.qbf.specs.Connectives.{and-both, or-either, or-left, or-right}
 use Rattle.qbf.specs.Literal.{Literal, Clause}
-use Rattle.qbf.specs.Formula.{Entry, Distinct, Proper, listed, variables}
+use Rattle.qbf.specs.Formula.{Distinct, Proper, listed, variables}
 use Rattle.formula.specs.Bounds.{variableBound, countBound, matrixBound}
 use Rattle.formula.specs.Word.{wordOf}
 pub use Rattle.formula.specs.Word.Laws.{Kind, closing, large, signed, kind}

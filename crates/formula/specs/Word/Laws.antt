@@ -1,9 +1,9 @@
 -- Laws of words: what a word that was recognised says of the literal that it stands for, both signs in one; its variable, by its
 -- magnitude and its kind; the place of its literal and of the opposite one. Definitions: Word. Assumes nothing.
-use Prim.Native.Nat.{ℕ, zero, suc, _+_, _*_, _/_, _≤_, _<_}
+use Prim.Native.Nat.{ℕ, zero, suc, _+_, _≤_, _<_}
 use mathlib.Core.Path.{_≡_, refl, ap, sym, _∙_}
 use mathlib.Core.Logic.{_⊎_, inl, inr}
-use mathlib.Core.Bool.{Bool, true, false, not, false≢true}
+use mathlib.Core.Bool.{Bool, true, false, false≢true}
 use native.Mathlib.Nat.{not-suc-le-zero}
 use native.Mathlib.Omega.{arith}
 use borrow.Author.Tests.{leb-true, leb-false, le-leb, lt-leb}
@@ -11,7 +11,7 @@ use lib.Dec.{leb}
 use lib.IntN.{ℤ, pos, negsuc, negℤ, natAbs}
 use Rattle.qbf.specs.Literal.{Literal, literal}
 use Rattle.formula.specs.Bounds.{variableBound}
-use Rattle.formula.specs.Word.{positive, negative, wordOf, isZero, variableOf, slot, slotOf, opposite, slotWith}
+use Rattle.formula.specs.Word.{positive, negative, wordOf, isZero, variableOf, slotOf, opposite, slotWith}
 use Rattle.formula.specs.Decode.{literalOf}
 use Rattle.formula.specs.declared.literal.Variable.{Variable}
 use Rattle.formula.specs.declared.literal.Word.{Word}

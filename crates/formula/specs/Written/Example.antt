@@ -2,6 +2,7 @@
 use mathlib.Core.Path.{_≡_, refl}
 use mathlib.Core.List.{[], _∷_, _++_, flatMap}
 use lib.IntN.{pos, negsuc}
+use Rattle.formula.specs.Prefix.{prefixOf}
 use Rattle.formula.specs.Decode.{clausesOf}
 use Rattle.formula.specs.Tables.{zeros}
 use Rattle.formula.specs.Decimal.{digits, decimal}
@@ -28,5 +29,5 @@ pub written-example :
     ++ (45 ∷ 52 ∷ 32 ∷ 49 ∷ 32 ∷ 48 ∷ 10 ∷ [])
     -- -1 -3 0
     ++ (45 ∷ 49 ∷ 32 ∷ 45 ∷ 51 ∷ 32 ∷ 48 ∷ 10 ∷ [])
-unfolding written headerText largest letterOf runs runLine variablesText clauseLine literalText flatMap clausesOf zeros digits decimal Rattle.formula.specs.Prefix.prefixOf
+unfolding written prefixOf headerText largest letterOf runs runLine variablesText clauseLine literalText flatMap clausesOf zeros digits decimal
 written-example = refl

@@ -1,43 +1,25 @@
 -- A text stored from a buffer's start and finished is printed. Assumes nothing.
-use Prim.Native.Nat.{ℕ, _+_, _-_, _≤_}
+use Prim.Native.Nat.{ℕ}
 use mathlib.Core.Path.{_≡_, refl, ap, _∙_}
 use mathlib.Core.Bool.{Bool, true, false}
-use mathlib.Core.List.{List, [], _∷_, _++_}
+use mathlib.Core.List.{List}
 use native.Mathlib.Omega.{arith}
 use borrow.Author.Tests.{leb-true}
-use lib.ListN.{length, replicate, drop, length-drop}
-use lib.Seq.{sets, sets-eq, length-sets}
+use lib.ListN.{length, replicate}
+use lib.Seq.{sets, length-sets}
 use lib.Dec.{leb}
 use Rattle.formula.specs.Clear.{clearFrom}
+use Rattle.formula.specs.Clear.Laws.{clear-all, clear-stored}
 use Rattle.formula.specs.Store.{Stores}
 use Rattle.report.specs.Printing.{Finishes, StoresShort, Prints}
 
--- A whole buffer cleared, of any kind.
-pub clear-whole : {A : Type 0} (z : A) (l : List A) → clearFrom z 0 l ≡ replicate (length l) z
-unfolding clearFrom
-clear-whole z l = refl
-
 -- A buffer that kept its length and was then cleared.
 pub cleared-kept : {A : Type 0} (z : A) (before middle after : List A) → after ≡ clearFrom z 0 middle → length middle ≡ length before → after ≡ replicate (length before) z
-cleared-kept z before middle after e k = e ∙ clear-whole z middle ∙ ap (λ n. replicate n z) k
+cleared-kept z before middle after e k = e ∙ clear-all z middle ∙ ap (λ n. replicate n z) k
 
 -- A text that equals what was stored.
 pub stores-instead : {most : ℕ} {buffer after text stored : List ℕ} {next : ℕ} → text ≡ stored → StoresShort most buffer stored after next → StoresShort most buffer text after next
 stores-instead e s = rw e s
-
-clear-behind : (xs ys : List ℕ) → clearFrom 0 (length xs) (xs ++ ys) ≡ xs ++ replicate (length ys) 0
-unfolding clearFrom
-clear-behind [] ys = refl
-clear-behind (x ∷ xs) ys = ap {B = List ℕ} (λ r. x ∷ r) (clear-behind xs ys)
-
--- A text that fits is kept, and the rest cleared.
-stored-kept : (buffer text : List ℕ) → length text ≤ length buffer → clearFrom 0 (length text) (sets buffer 0 text) ≡ text ++ replicate (length buffer - length text) 0
-stored-kept buffer text h =
-    let e : 0 + length text ≡ length text = omega arith in
-    let left : length (drop (0 + length text) buffer) ≡ length buffer - length text = rw e (length-drop (length text) buffer) in
-    ap (clearFrom 0 (length text)) (sets-eq text buffer 0 (omega arith))
-    ∙ clear-behind text (drop (0 + length text) buffer)
-    ∙ ap {B = List ℕ} (λ n. text ++ replicate n 0) left
 
 pub stored-prints :
     {buffer middle after text : List ℕ} {end answer : ℕ} → Stores buffer 0 text middle end → Finishes middle end answer after → Prints (length buffer) text answer after
@@ -50,7 +32,7 @@ stored-prints {buffer} {middle} {after} {text} {end} {answer} s f =
     go true e room whole =
         record {
           answers = rw e (rw (whole, room, e) at (f .answers));
-          prints = rw e (rw (whole, room, e, s .stored) at (f .leaves) ∙ stored-kept buffer text (leb-true (length text) (length buffer) e));
+          prints = rw e (rw (whole, room, e, s .stored) at (f .leaves) ∙ clear-stored 0 buffer text (leb-true (length text) (length buffer) e));
         }
     go false e room whole =
         record {
@@ -58,6 +40,6 @@ stored-prints {buffer} {middle} {after} {text} {end} {answer} s f =
           prints =
               rw e
               (rw (whole, room, e, s .stored) at (f .leaves)
-              ∙ clear-whole 0 (sets buffer 0 text)
+              ∙ clear-all 0 (sets buffer 0 text)
               ∙ ap {B = List ℕ} (λ n. replicate n 0) (length-sets buffer 0 text));
         }

@@ -5,7 +5,8 @@ use native.Mathlib.Numerals.{add-one}
 use native.Mathlib.Omega.{arith}
 use borrow.Author.Needs.{needs}
 use lib.ListN.{length, length-set}
-use Rattle.formula.specs.Clear.{clearFrom, clear-step, clear-end}
+use Rattle.formula.specs.Clear.{clearFrom}
+use Rattle.formula.specs.Clear.Laws.{clear-step, clear-end}
 use Rattle.formula.proofs.clear.clear_numbers.Statement.{statement}
 use Rattle.formula.proofs.clear.clear_numbers.Tie as tie
 

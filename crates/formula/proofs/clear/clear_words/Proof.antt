@@ -6,7 +6,8 @@ use native.Mathlib.Omega.{arith}
 use borrow.Author.Needs.{needs}
 use lib.ListN.{length, length-set}
 use lib.IntN.{pos}
-use Rattle.formula.specs.Clear.{clearFrom, clear-step, clear-end}
+use Rattle.formula.specs.Clear.{clearFrom}
+use Rattle.formula.specs.Clear.Laws.{clear-step, clear-end}
 use Rattle.formula.proofs.clear.clear_words.Statement.{statement}
 use Rattle.formula.proofs.clear.clear_words.Tie as tie
 

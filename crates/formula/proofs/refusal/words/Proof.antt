@@ -1,7 +1,6 @@
 -- `words` lists the words of the table: by computing. Assumes nothing.
 use mathlib.Core.Path.{refl}
 use Rattle.formula.specs.Refusal.{wordIn, same, filled}
-use borrow.Author.Needs.{needs}
 use Rattle.formula.proofs.refusal.words.Statement.{statement}
 use Rattle.formula.proofs.refusal.words.Tie as tie
 

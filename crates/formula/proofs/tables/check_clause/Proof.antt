@@ -1,11 +1,11 @@
 -- `check_clause`: the run of literals, the search for a clash among them, then the word after them; each outcome is a law of
 -- Scan.antt. Assumes nothing.
 use Prim.Native.Nat.{ℕ, _+_, _-_, _≤_, _<_}
-use mathlib.Core.Path.{_≡_}
+use mathlib.Core.Path.{_≡_, _∙_}
 use mathlib.Core.List.{[]}
 use native.Mathlib.Omega.{arith}
 use lib.ListN.{length, getD, take, drop, length-drop}
-use lib.IntN.{pos, natAbs}
+use lib.IntN.{pos}
 use mir.Syntax.{w32}
 use mir.Val.{toZ, ofZ}
 use Rattle.formula.specs.Word.{wordOf, variableOf}
@@ -70,43 +70,44 @@ word-variable c =
     let e : toZ w32 (ofZ w32 w) ≡ w = search needs in
     rw (f .literals-end .ensures) at (rw e at (c .variable .ensures))
 
+-- there the run has no clash, and the table goes on
+abbrev looked : tie.After-variable → tie.After-find-clash
+looked m = m .before .before .before .before
+
+abbrev start : tie.After-variable → tie.Start
+start m = looked m .before .before .before .before
+
+free :
+    (m : tie.After-variable)
+    → (run (looked m .before .before) ≤ clashFree [] (take (run (looked m .before .before)) (drop (start m .args .from) (start m .args .clauses .now))))
+    × (start m .args .from + run (looked m .before .before) < length (start m .args .clauses .now))
+free m =
+    let k = looked m in (
+      omega (arith, run-length (k .before .before), clash-at k, m .before .before .before .if1 .left),
+      omega (arith, k .before .before .literals-end .ensures, m .before .before .if2 .left),
+    )
+
 returns-3 : tie.Need-returns-3
 returns-3 c =
     let m = c .before in
-    let k = m .before .before .before .before in
-    let a = k .before .before .before .before .args in
-    let e = k .before .before .literals-end .ensures in
-    let h = rw (run-length (k .before .before), clash-at k) at (m .before .before .before .if1 .left) in
-    let l = rw e at (m .before .before .if2 .left) in
-    let w = getD (a .clauses .now) (a .from + run (k .before .before)) (pos 0) in
-    let z : w ≡ pos 0 = variable-zero w (rw (word-variable m) at (c .if3 .taken)) in
-    rw e (clause-closed (marked (a .listed .now)) (a .clauses .now) (a .from) h l z)
+    let a = start m .args in
+    rw (looked m .before .before .literals-end .ensures)
+    (clause-closed (marked (a .listed .now)) (a .clauses .now) (a .from) (free m .0) (free m .1) (variable-zero _ (rw (word-variable m) at (c .if3 .taken))))
 
 returns-4 : tie.Need-returns-4
 returns-4 c =
     let m = c .before .before .before in
-    let k = m .before .before .before .before in
-    let a = k .before .before .before .before .args in
-    let e = k .before .before .literals-end .ensures in
-    let h = rw (run-length (k .before .before), clash-at k) at (m .before .before .before .if1 .left) in
-    let l = rw e at (m .before .before .if2 .left) in
-    let w = getD (a .clauses .now) (a .from + run (k .before .before)) (pos 0) in
-    let z : 1024 < natAbs w = variable-above w (rw (word-variable m) at (c .before .if4 .taken)) in
-    rw (c .new3 .ensures, e) (clause-large (marked (a .listed .now)) (a .clauses .now) (a .from) h l z)
+    let a = start m .args in
+    rw (c .new3 .ensures, looked m .before .before .literals-end .ensures)
+    (clause-large (marked (a .listed .now)) (a .clauses .now) (a .from) (free m .0) (free m .1) (variable-above _ (rw (word-variable m) at (c .before .if4 .taken))))
 
 returns-5 : tie.Need-returns-5
 returns-5 c =
     let m = c .before .before .before in
-    let k = m .before .before .before .before in
-    let a = k .before .before .before .before .args in
-    let e = k .before .before .literals-end .ensures in
-    let h = rw (run-length (k .before .before), clash-at k) at (m .before .before .before .if1 .left) in
-    let l = rw e at (m .before .before .if2 .left) in
-    let w = getD (a .clauses .now) (a .from + run (k .before .before)) (pos 0) in
-    let b : 1 ≤ variableOf (wordOf w) = rw (word-variable m) at (c .before .before .if3 .left) in
-    let u : variableOf (wordOf w) ≤ 1024 = rw (word-variable m) at (c .before .if4 .left) in
-    let v = variable-within w u in
-    rw (c .new4 .ensures, e) (clause-unbound (marked (a .listed .now)) (a .clauses .now) (a .from) h l (rw v at b) (rw v at u))
+    let a = start m .args in
+    let v = word-variable m ∙ variable-within _ (rw (word-variable m) at (c .before .if4 .left)) in
+    rw (c .new4 .ensures, looked m .before .before .literals-end .ensures)
+    (clause-unbound (marked (a .listed .now)) (a .clauses .now) (a .from) (free m .0) (free m .1) (rw v at (c .before .before .if3 .left)) (rw v at (c .before .if4 .left)))
 
 pub check-clause-spec : {M : Type 1} → statement M
 check-clause-spec =

@@ -5,7 +5,7 @@ use mathlib.Core.Path.{_≡_}
 use native.Mathlib.Numerals.{add-one}
 use native.Mathlib.Omega.{arith}
 use borrow.Author.Needs.{needs}
-use lib.ListN.{length, drop, drop-of-length-le}
+use lib.ListN.{drop, drop-of-length-le}
 use Rattle.formula.specs.Prefix.{prefixOf, entryCount}
 use Rattle.formula.specs.Written.{largest}
 use Rattle.formula.specs.Written.Laws.{largest-drop}

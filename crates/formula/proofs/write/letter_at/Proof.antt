@@ -1,5 +1,5 @@
 -- `letter_at` answers by the entry that it is shown. Assumes nothing.
-use mathlib.Core.Path.{_≡_, ap, sym, _∙_}
+use mathlib.Core.Path.{ap, sym, _∙_}
 use Rattle.qbf.specs.Formula.{Entry}
 use Rattle.formula.specs.Prefix.{entryAt}
 use Rattle.formula.specs.Prefix.Laws.{shown-existential, shown-universal}

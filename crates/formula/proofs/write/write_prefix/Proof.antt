@@ -6,7 +6,7 @@ use mathlib.Core.List.{_++_}
 use native.Mathlib.Numerals.{add-one}
 use native.Mathlib.Omega.{arith}
 use borrow.Author.Needs.{needs}
-use lib.ListN.{length, drop, drop-of-length-le}
+use lib.ListN.{drop, drop-of-length-le}
 use Rattle.formula.specs.Prefix.{prefixOf, entryCount}
 use Rattle.formula.specs.Store.{Remains}
 use Rattle.formula.specs.Store.Laws.{remains-all, remains-less, remains-last, remains-length, below-first, below-remains}

@@ -1,5 +1,6 @@
 -- Clause words one after the other (01: "Clause words are literals, every clause closed by 0"): what stands at a place, the
--- place after it, and where a clause ends.
+-- place after it, and where a clause ends. Laws are in ClauseWords/Laws.antt.
+pub mod Laws
 use Prim.Native.Nat.{ℕ, zero, suc}
 use mathlib.Core.List.{List, [], _∷_}
 use lib.IntN.{ℤ, pos, negsuc}

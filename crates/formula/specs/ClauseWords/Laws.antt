@@ -1,5 +1,5 @@
 -- Laws of clause words: what a test on a place or a word says of `wordAt` and `placeAfter`, and how the end of a clause is
--- found from the word at a place. Definitions: ClauseWord. Assumes nothing.
+-- found from the word at a place. Definitions: ClauseWords. Assumes nothing.
 use Prim.Native.Nat.{ℕ, zero, suc, _+_, _<_, _≤_}
 use mathlib.Core.Path.{_≡_, refl, ap}
 use mathlib.Core.List.{List, [], _∷_}
@@ -8,7 +8,7 @@ use native.Mathlib.Omega.{arith}
 use lib.ListN.{length, getD, drop}
 use lib.Seq.{drop-nil}
 use lib.IntN.{ℤ, pos, negsuc}
-use Rattle.formula.specs.ClauseWord.{wordIs, wordAt, placeAfter, closeFrom}
+use Rattle.formula.specs.ClauseWords.{wordIs, wordAt, placeAfter, closeFrom}
 use Rattle.formula.specs.declared.words.ClauseWord.the-variants.{Word, Close, End}
 
 -- Past the last word.
