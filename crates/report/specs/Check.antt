@@ -15,6 +15,7 @@ use Rattle.checker.specs.ProofFile.{ProofReading, proofReading}
 use Rattle.checker.specs.ProofFile.{read as readSteps, refused as refusedFile}
 use Rattle.checker.specs.declared.verdict.Verdict.{Verdict}
 use Rattle.checker.specs.declared.verdict.Verdict.the-variants.{Accepted, Refused}
+use Rattle.checker.specs.Rules.{plainRules}
 use Rattle.checker.specs.Verdict.{verdictOf}
 use Rattle.report.specs.Line.{acceptedText, acceptedLine, refusedLine, lineRoom, settled, used, held}
 
@@ -37,7 +38,7 @@ settledProof bound file count room = require (leb (length file) bound) (refusedF
 
 -- The steps of the proof file are known, or it is turned away; `scratch` and `starts` are the lengths of what is lent.
 unfoldable pub stepsLine : (scratch starts : ℕ) (prefix clauses : List ℤ) (count : ℕ) → ProofReading → List ℕ
-stepsLine scratch starts prefix clauses count (readSteps steps) = verdictLine (length prefix) count (verdictOf prefix clauses steps scratch starts)
+stepsLine scratch starts prefix clauses count (readSteps steps) = verdictLine (length prefix) count (verdictOf plainRules prefix clauses steps scratch starts)
 stepsLine scratch starts prefix clauses count (refusedFile r) = refusedLine r
 
 -- The formula is settled, then the proof file.

@@ -18,6 +18,8 @@ use Rattle.formula.specs.Written.Example.{written-example}
 use Rattle.formula.specs.RoundTrip.Laws.{written-read}
 use Rattle.checker.specs.ProofFile.Layout.{fileOf}
 use Rattle.checker.specs.ProofFile.Layout.Laws.{file-of-length}
+use Rattle.checker.specs.Rules.{plainRules}
+use Rattle.checker.specs.Rules.Laws.{plain-kinds}
 use Rattle.checker.specs.Refutation.Examples.{example-refutation}
 use Rattle.checker.specs.Verdict.Accuracy.{accepted-refutation}
 use Rattle.checker.specs.Verdict.Examples.{examplePrefix, exampleClauses, exampleSteps, positions}
@@ -49,7 +51,7 @@ all-small-fit (w ∷ words) h zero = small-fits w (leb-true (natAbs w) 9 (and-bo
 all-small-fit (w ∷ words) h (suc i) = all-small-fit words (and-both (leb (natAbs w) 9) (allSmall words) h .1) i
 
 example-admitted : Admitted examplePrefix exampleClauses
-example-admitted = accepted-refutation examplePrefix exampleClauses (exampleSteps (pos 4)) 8200 9 9 5 (positions .0) .admitted
+example-admitted = accepted-refutation plainRules plain-kinds examplePrefix exampleClauses (exampleSteps (pos 4)) 8200 9 9 5 (positions .0) .admitted
 
 pub example-refuting : Refuting programRoom exampleText exampleFile
 unfolding allSmall zeros
@@ -72,5 +74,5 @@ unfolding example-refuting
 example-line =
     let text : length exampleText ≤ 65536 = rw written-example (omega arith) in
     let file : length exampleFile ≤ 65536 = omega (arith, file-of-length [] (exampleSteps (pos 4)) 4) in
-    accepted-line-numbers programRoom exampleText exampleFile (program-within exampleText exampleFile text file) example-refuting 9 (example-refutation .2)
+    accepted-line-numbers programRoom exampleText exampleFile (program-within exampleText exampleFile text file) example-refuting 8 (example-refutation .2)
     ∙ ap (λ (n : ℕ). acceptedLine 4 4 n 9) (example-refutation .1)

@@ -1,6 +1,6 @@
 -- Wish 2 from bytes to bytes: within bounds and room the line is an `accepted` line exactly when the files refute, and its four
 -- numbers are theirs; then for the room of 01's programs, where nothing is supposed but that the files are bytes. Assumes nothing.
-use Prim.Native.Nat.{ℕ, _+_, _*_, _-_, _≤_}
+use Prim.Native.Nat.{ℕ, suc, _+_, _*_, _-_, _≤_}
 use mathlib.Core.Path.{_≡_, refl, ap, _∙_}
 use mathlib.Core.Logic.{_↔_}
 use mathlib.Core.List.{List}
@@ -20,7 +20,10 @@ use Rattle.checker.specs.ProofFile.Layout.Laws.{file-of-length, layout-read, re
 use Rattle.checker.specs.declared.verdict.Verdict.the-variants.{Accepted}
 use Rattle.checker.specs.Lawful.{numberedClauses}
 use Rattle.checker.specs.Refutation.{FirstEmpty}
-use Rattle.checker.specs.Refutation.Laws.{empty-first, words-within}
+use Rattle.checker.specs.Refutation.FirstEmptyClause.{empty-first}
+use Rattle.checker.specs.Refutation.Laws.{words-within}
+use Rattle.checker.specs.Rules.{plainRules}
+use Rattle.checker.specs.Rules.Laws.{plain-kinds}
 use Rattle.checker.specs.Verdict.{verdictOf}
 use Rattle.checker.specs.Verdict.Accuracy.{accepted-refutation, refutation-accepted}
 use Rattle.report.specs.Line.{acceptedLine, refusedLine, fileBound, settled}
@@ -51,17 +54,17 @@ accepted-refuting room formula proof bytes a =
         words = m .words;
         signed = read-fits proof (m .count) (room .steps) (m .words) bytes (m .proof-read);
         laid-out = read-layout proof (m .count) (room .steps) (m .words) bytes (m .proof-read);
-        refutation = accepted-refutation (m .prefix) (m .clauses) (m .words) (room .scratch) (room .starts) (m .empty) (m .steps) (m .accepted) .refutation;
+        refutation = accepted-refutation plainRules plain-kinds (m .prefix) (m .clauses) (m .words) (room .scratch) (room .starts) (m .empty) (m .steps) (m .accepted) .refutation;
       },
     )
 
 module _ (room : Room) (formula proof : List ℕ) (within : FilesWithin room formula proof) where
   -- The numbers: V the length of the prefix, C that of input clauses, the steps, and the first empty clause's.
   pub accepted-line-numbers :
-      (r : Refuting room formula proof) (empty : ℕ) → FirstEmpty (numberedClauses (clausesOf (r .clauses)) (r .refutation .steps)) empty
-      → checkLine room formula proof ≡ acceptedLine (length (r .prefix)) (r .count) (length (r .refutation .steps)) empty
+      (r : Refuting room formula proof) (place : ℕ) → FirstEmpty (numberedClauses (clausesOf (r .clauses)) (r .refutation .steps)) place
+      → checkLine room formula proof ≡ acceptedLine (length (r .prefix)) (r .count) (length (r .refutation .steps)) (suc place)
   unfolding settled settledProof stepsLine
-  accepted-line-numbers r empty f =
+  accepted-line-numbers r place f =
       let fits = within .steps-fit (r .prefix) (r .clauses) (r .count) (r .reads) (r .note) (r .words) (r .laid-out) in
       let text : settled (room .file) formula (room .prefix) (room .clauses) ≡ read (r .prefix) (r .clauses) (r .count) =
       rw (le-leb (length formula) (room .file) (within .formula-fits), r .reads) in
@@ -69,14 +72,16 @@ module _ (room : Room) (formula proof : List ℕ) (within : FilesWithin room for
       rw (r .laid-out) (layout-read (r .note) (r .words) (r .count) (fits .1 .sized) (room .steps) (fits .0) (r .signed)) in
       let file : settledProof (room .file) proof (r .count) (room .steps) ≡ readSteps (r .words) =
       rw (le-leb (length proof) (room .file) (within .proof-fits), steps) in
-      let verdict : verdictOf (r .prefix) (r .clauses) (r .words) (room .scratch) (room .starts) ≡ Accepted (record { 0 = empty }) (length (r .refutation .steps)) =
-      refutation-accepted (r .prefix) (r .clauses) (r .words) (room .scratch) (room .starts) empty (length (r .refutation .steps))
+      let verdict : verdictOf plainRules (r .prefix) (r .clauses) (r .words) (room .scratch) (room .starts) ≡ Accepted (record { 0 = suc place }) (length (r .refutation .steps)) =
+      refutation-accepted plainRules plain-kinds (r .prefix) (r .clauses) (r .words) (room .scratch) (room .starts) refl (suc place) (length (r .refutation .steps))
       (record {
         admitted = read-admitted formula (room .prefix) (room .clauses) (r .prefix) (r .clauses) (r .count) (r .reads) .admitted;
         sized = fits .1 .sized;
         scratch-fits = fits .1 .scratch-fits;
         refutation = r .refutation;
         starts-fit = fits .1 .starts-fit (r .refutation .steps) (r .refutation .written);
+        place = place;
+        place-numbered = refl;
         first-empty = f;
         counted = refl;
       }) in
@@ -87,7 +92,7 @@ module _ (room : Room) (formula proof : List ℕ) (within : FilesWithin room for
   accepted-line-exactly bytes = (
     λ a. accepted-refuting room formula proof bytes a .2,
     λ r. let f = empty-first (numberedClauses (clausesOf (r .clauses)) (r .refutation .steps)) (r .refutation .some-empty) in
-        record { variables = length (r .prefix); clauses = r .count; steps = length (r .refutation .steps); empty = f .0; is = accepted-line-numbers r (f .0) (f .1) },
+        record { variables = length (r .prefix); clauses = r .count; steps = length (r .refutation .steps); empty = suc (f .0); is = accepted-line-numbers r (f .0) (f .1) },
   )
 
 -- Files of 65,536 bytes at most are within the room of 01's programs.

@@ -20,7 +20,7 @@ use Rattle.formula.specs.Tables.{Admitted}
 use Rattle.formula.specs.Tables.Laws.{admitted-prefix-length, admitted-proper}
 use Rattle.formula.specs.Writing.{Bounded}
 use Rattle.formula.specs.Written.Length.{prefix-bounded}
-use Rattle.checker.specs.Verdict.Deciding.{depends-existential}
+use Rattle.checker.specs.Verdict.TableScope.{depends-existential}
 use Rattle.report.specs.Dependents.{ifDependent, dependents, universalLine, universalLines, textRoom}
 use Rattle.report.specs.Listing.Laws.{bounded-later}
 
