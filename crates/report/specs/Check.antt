@@ -8,6 +8,7 @@ use lib.Dec.{leb}
 use lib.IntN.{ℤ, pos}
 use Rattle.qbf.specs.Play.{Lost}
 use Rattle.formula.specs.Decode.{formulaOf}
+use Rattle.formula.specs.Prefix.{entryCount}
 use Rattle.formula.specs.Refusal.{refusal, require}
 use Rattle.formula.specs.declared.refusal.Reason.the-variants.{Oversized}
 use Rattle.formula.specs.Text.{Reading, read, refused, reading}
@@ -38,7 +39,7 @@ settledProof bound file count room = require (leb (length file) bound) (refusedF
 
 -- The steps of the proof file are known, or it is turned away; `scratch` and `starts` are the lengths of what is lent.
 unfoldable pub stepsLine : (scratch starts : ℕ) (prefix clauses : List ℤ) (count : ℕ) → ProofReading → List ℕ
-stepsLine scratch starts prefix clauses count (readSteps steps) = verdictLine (length prefix) count (verdictOf plainRules prefix clauses steps scratch starts)
+stepsLine scratch starts prefix clauses count (readSteps steps) = verdictLine (entryCount prefix) count (verdictOf plainRules prefix clauses steps scratch starts)
 stepsLine scratch starts prefix clauses count (refusedFile r) = refusedLine r
 
 -- The formula is settled, then the proof file.

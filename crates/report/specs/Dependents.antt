@@ -6,46 +6,52 @@ use mathlib.Core.Bool.{Bool, true, false}
 use mathlib.Core.List.{List, [], _∷_, _++_}
 use lib.ListN.{length, replicate}
 use lib.Dec.{leb}
-use lib.IntN.{ℤ, pos, negsuc, natAbs}
-use Rattle.qbf.specs.Formula.{Formula}
+use lib.IntN.{ℤ, pos}
+use Rattle.qbf.specs.Formula.{Quantifier, existential, universal, Entry, Prefix, Formula}
 use Rattle.qbf.specs.Dependency.{depends}
 use Rattle.formula.specs.Decimal.{decimal}
 use Rattle.formula.specs.Decode.{formulaOf}
-use Rattle.formula.specs.Refusal.{refusal}
+use Rattle.formula.specs.Prefix.{prefixOf}
+use Rattle.formula.specs.Refusal.{refusal, require}
 use Rattle.formula.specs.declared.refusal.Reason.the-variants.{NoRoom}
 use Rattle.formula.specs.Text.{Reading, read, refused}
+use Rattle.dependency.specs.Scratch.{scratchBound}
 use Rattle.report.specs.Line.{refusedLine, settled, used, held}
 use Rattle.report.specs.Check.{Room}
 
 -- A dependent is printed with a space before it; a variable that is none is left out.
-abbrev pub ifDependent : Bool → ℕ → List ℕ
+unfoldable pub ifDependent : Bool → ℕ → List ℕ
 ifDependent true e = 32 ∷ decimal e
 ifDependent false e = []
 
-unfoldable pub dependents : Formula → ℕ → List ℤ → List ℕ
+unfoldable pub dependents : Formula → ℕ → Prefix → List ℕ
 dependents F u [] = []
-dependents F u (w ∷ ws) = ifDependent (depends F u (natAbs w)) (natAbs w) ++ dependents F u ws
+dependents F u (x ∷ P) = ifDependent (depends F u (x .variable)) (x .variable) ++ dependents F u P
 
-unfoldable pub universalLine : Formula → List ℤ → ℕ → List ℕ
-universalLine F prefix u = decimal u ++ (58 ∷ (dependents F u prefix ++ (10 ∷ [])))
+unfoldable pub universalLine : Formula → Prefix → ℕ → List ℕ
+universalLine F P u = decimal u ++ (58 ∷ (dependents F u P ++ (10 ∷ [])))
 
 -- An existential has no line of its own.
-abbrev pub entryLine : Formula → List ℤ → ℤ → List ℕ
-entryLine F prefix (pos v) = []
-entryLine F prefix (negsuc n) = universalLine F prefix (natAbs (negsuc n))
+abbrev pub ifUniversal : Quantifier → List ℕ → List ℕ
+ifUniversal existential line = []
+ifUniversal universal line = line
 
--- The lines of the universals among the words, `prefix` being the whole prefix.
-unfoldable pub universalLines : Formula → List ℤ → List ℤ → List ℕ
-universalLines F prefix [] = []
-universalLines F prefix (w ∷ ws) = entryLine F prefix w ++ universalLines F prefix ws
+unfoldable pub entryLine : Formula → Prefix → Entry → List ℕ
+entryLine F P x = ifUniversal (x .quantifier) (universalLine F P (x .variable))
 
-abbrev pub ifRoom : Bool → List ℕ → List ℕ
-ifRoom true later = later
-ifRoom false later = refusedLine (refusal NoRoom 0)
+-- The lines of the universals among some entries, `whole` being the whole prefix.
+unfoldable pub universalLines : Formula → (whole : Prefix) → Prefix → List ℕ
+universalLines F whole [] = []
+universalLines F whole (x ∷ P) = entryLine F whole x ++ universalLines F whole P
 
--- The formula is settled; then 3 for scratch under 8,200 bytes, as for a row.
+-- What tables that were read give: 3 for scratch of fewer bytes than a row asks for.
+unfoldable pub tablesText : (scratch : ℕ) (prefix clauses : List ℤ) → List ℕ
+tablesText scratch prefix clauses =
+    require (leb scratchBound scratch) (refusedLine (refusal NoRoom 0)) (universalLines (formulaOf prefix clauses) (prefixOf prefix) (prefixOf prefix))
+
+-- The formula is settled; then its tables are gone through.
 abbrev pub linesOf : (scratch : ℕ) → Reading → List ℕ
-linesOf scratch (read prefix clauses count) = ifRoom (leb 8200 scratch) (universalLines (formulaOf prefix clauses) prefix prefix)
+linesOf scratch (read prefix clauses count) = tablesText scratch prefix clauses
 linesOf scratch (refused r) = refusedLine r
 
 -- No steps are read: of the room that is lent, `steps` and `starts` are not used.

@@ -10,10 +10,12 @@ use checker::verdict::Verdict;
 use formula::clear::clear_bytes;
 use formula::clear::clear_numbers;
 use formula::clear::clear_words;
+use formula::prefix::entry_count;
 use formula::read::ReadAnswer;
 ghost use Prim.Native.Nat.{_≤_};
 ghost use lib.ListN.{length};
 ghost use Rattle.formula.specs.Bounds.{countBound};
+ghost use Rattle.formula.specs.Prefix.{entryCount};
 ghost use Rattle.checker.specs.Rules.{plainRules};
 ghost use Rattle.checker.specs.Verdict.{verdictOf};
 ghost use Rattle.report.specs.Check.{verdictLine, settledProof, stepsLine, checkLine, LineChecked};
@@ -41,10 +43,10 @@ fn judged_line<'a>(
     starts: &mut [u32],
     line: &mut [u8],
 ) -> usize
-    ensures { λ r. ⌜ StoresShort lineRoom (now (line .entry)) (verdictLine (length (now (prefix .entry))) count (verdictOf plainRules (now (prefix .entry)) (now (clauses .entry)) (now (steps .entry)) (length (now (scratch .entry))) (length (now (starts .entry))))) (now (line .exit)) r ⌝ }
+    ensures { λ r. ⌜ StoresShort lineRoom (now (line .entry)) (verdictLine (entryCount (now (prefix .entry))) count (verdictOf plainRules (now (prefix .entry)) (now (clauses .entry)) (now (steps .entry)) (length (now (scratch .entry))) (length (now (starts .entry))))) (now (line .exit)) r ⌝ }
 {
     let verdict = check_proof(prefix, clauses, steps, scratch, starts);
-    verdict_line(line, prefix.len(), count, verdict)
+    verdict_line(line, entry_count(prefix), count, verdict)
 }
 
 // The line for a formula that was read: the proof file is settled, then judged.

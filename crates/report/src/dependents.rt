@@ -4,106 +4,117 @@ ghost use mathlib.Core.Path.{_≡_};
 ghost use mathlib.Core.Bool.{true};
 ghost use mathlib.Core.List.{[]};
 ghost use Prim.Native.Nat.{_+_, _^_, _<_, _≤_};
-ghost use lib.ListN.{length, getD};
-ghost use lib.IntN.{pos, natAbs};
-ghost use Rattle.formula.specs.Bounds.{variableBound};
+ghost use lib.ListN.{length};
+ghost use Rattle.qbf.specs.Formula.{universal};
 ghost use Rattle.formula.specs.Decode.{formulaOf};
+ghost use Rattle.formula.specs.Prefix.{prefixOf, entryCount, entryAt, quantifies, Entries};
 ghost use Rattle.formula.specs.Store.{Stores};
 ghost use Rattle.formula.specs.Tables.{Admitted};
-ghost use Rattle.formula.specs.Writing.{Bounded};
-ghost use Rattle.dependency.specs.Row.{isUniversal};
-ghost use Rattle.report.specs.Dependents.{universalLine, universalLines, dependencyText, textRoom, LinesPrinted};
+ghost use Rattle.dependency.specs.Scratch.{scratchBound, rowIn};
+ghost use Rattle.report.specs.Dependents.{ifDependent, universalLine, entryLine, universalLines, tablesText, dependencyText, textRoom, LinesPrinted};
 ghost use Rattle.report.specs.Checking.{lent};
-ghost use Rattle.report.specs.Listing.{markedText, marked, rowLine, wordLine, tablesText};
+ghost use Rattle.report.specs.Listing.{marked, rowLine};
 ghost use Rattle.report.specs.Printing.{StoresShort};
 use crate::line::finish;
 use crate::line::refused_line;
 use crate::settle::settle_formula;
+use dependency::row::SCRATCH;
+use dependency::row::depends_in;
 use dependency::row::make_row;
 use formula::clear::clear_bytes;
 use formula::clear::clear_words;
 use formula::decimal::put;
 use formula::decimal::write_number;
-use formula::literal::Word;
+use formula::literal::Variable;
+use formula::prefix::Entry;
+use formula::prefix::entry_at;
+use formula::prefix::entry_count;
 use formula::read::ReadAnswer;
 use formula::refusal::Reason;
 use formula::refusal::Refusal;
 
-// The variable of a prefix word.
-fn variable(word: i32) -> usize
-    requires { ⌜ natAbs word ≤ variableBound ⌝ }
-    ensures { λ r. ⌜ r ≡ natAbs word ⌝ }
+// The variable of the entry at a place.
+fn variable_at(prefix: &[i32], place: usize) -> Variable
+    requires { ⌜ Entries (now prefix) ⌝ }
+    requires { ⌜ place < entryCount (now prefix) ⌝ }
+    ensures { λ r. ⌜ r .0 ≡ entryAt (now (prefix .entry)) place .variable ⌝ }
 {
-    match Word::of(word) {
-        Word::Zero => 0,
-        Word::TooLarge => 0,
-        Word::Positive(v) => v.0,
-        Word::Negative(v) => v.0,
+    match entry_at(prefix, place) {
+        Entry::Existential(v) => v,
+        Entry::Universal(v) => v,
     }
 }
 
-// A variable with the space before it, where its byte of the row is 1.
-fn write_dependent(text: &mut [u8], at: usize, byte: u8, e: usize) -> usize
-    requires { ⌜ at + length (markedText byte e) < 2 ^ 64 ⌝ }
-    ensures { λ r. ⌜ Stores (now (text .entry)) at (markedText byte e) (now (text .exit)) r ⌝ }
+// A variable with the space before it, where it is a dependent.
+fn write_dependent(text: &mut [u8], at: usize, dependent: bool, variable: Variable) -> usize
+    requires { ⌜ at + length (ifDependent dependent (variable .0)) < 2 ^ 64 ⌝ }
+    ensures { λ r. ⌜ Stores (now (text .entry)) at (ifDependent dependent (variable .0)) (now (text .exit)) r ⌝ }
 {
-    if byte == 1 {
+    if dependent {
         let next = put(text, at, b' ');
-        return write_number(text, next, e);
+        return write_number(text, next, variable.0);
     }
     at
 }
 
-fn write_dependents(prefix: &[i32], row: &[u8], text: &mut [u8], at: usize) -> usize
-    requires { ⌜ Bounded (now prefix) ⌝ }
-    requires { ⌜ length (now row) ≡ 1025 ⌝ }
-    requires { ⌜ at + length (marked (now row) (now prefix)) < 2 ^ 64 ⌝ }
-    ensures { λ r. ⌜ Stores (now (text .entry)) at (marked (now (row .entry)) (now (prefix .entry))) (now (text .exit)) r ⌝ }
+// The dependents, in prefix order, by the row that stands in scratch.
+fn write_dependents(prefix: &[i32], scratch: &[u8], text: &mut [u8], at: usize) -> usize
+    requires { ⌜ Entries (now prefix) ⌝ }
+    requires { ⌜ scratchBound ≤ length (now scratch) ⌝ }
+    requires { ⌜ at + length (marked (rowIn (now scratch)) (prefixOf (now prefix))) < 2 ^ 64 ⌝ }
+    ensures { λ r. ⌜ Stores (now (text .entry)) at (marked (rowIn (now (scratch .entry))) (prefixOf (now (prefix .entry)))) (now (text .exit)) r ⌝ }
 {
+    let count = entry_count(prefix);
     let mut next = at;
     let mut i = 0;
-    while i < prefix.len() {
-        let e = variable(prefix[i]);
-        next = write_dependent(text, next, row[e], e);
+    while i < count {
+        let variable = variable_at(prefix, i);
+        next = write_dependent(text, next, depends_in(scratch, variable.0), variable);
         i += 1;
     }
     next
 }
 
-// The line of the universal u from its row.
-fn write_row_line(prefix: &[i32], row: &[u8], u: usize, text: &mut [u8], at: usize) -> usize
-    requires { ⌜ Bounded (now prefix) ⌝ }
-    requires { ⌜ length (now row) ≡ 1025 ⌝ }
-    requires { ⌜ at + length (rowLine (now row) (now prefix) u) < 2 ^ 64 ⌝ }
-    ensures { λ r. ⌜ Stores (now (text .entry)) at (rowLine (now (row .entry)) (now (prefix .entry)) u) (now (text .exit)) r ⌝ }
+// The line of a universal from its row, which stands in scratch.
+fn write_row_line(
+    prefix: &[i32],
+    scratch: &[u8],
+    variable: Variable,
+    text: &mut [u8],
+    at: usize,
+) -> usize
+    requires { ⌜ Entries (now prefix) ⌝ }
+    requires { ⌜ scratchBound ≤ length (now scratch) ⌝ }
+    requires { ⌜ at + length (rowLine (rowIn (now scratch)) (prefixOf (now prefix)) (variable .0)) < 2 ^ 64 ⌝ }
+    ensures { λ r. ⌜ Stores (now (text .entry)) at (rowLine (rowIn (now (scratch .entry))) (prefixOf (now (prefix .entry))) (variable .0)) (now (text .exit)) r ⌝ }
 {
-    let mut next = write_number(text, at, u);
+    let mut next = write_number(text, at, variable.0);
     next = put(text, next, b':');
-    next = write_dependents(prefix, row, text, next);
+    next = write_dependents(prefix, scratch, text, next);
     put(text, next, b'\n')
 }
 
-// The line of the universal u. Its row is made in scratch, where it stays.
+// The line of a universal. Its row is made in scratch, where it stays.
 fn write_universal(
     prefix: &[i32],
     clauses: &[i32],
-    u: usize,
+    variable: Variable,
     scratch: &mut [u8],
     text: &mut [u8],
     at: usize,
 ) -> usize
     requires { ⌜ Admitted (now prefix) (now clauses) ⌝ }
-    requires { ⌜ isUniversal (now prefix) u ≡ true ⌝ }
-    requires { ⌜ 8200 ≤ length (now scratch) ⌝ }
-    requires { ⌜ at + length (universalLine (formulaOf (now prefix) (now clauses)) (now prefix) u) < 2 ^ 64 ⌝ }
-    ensures { λ r. ⌜ Stores (now (text .entry)) at (universalLine (formulaOf (now (prefix .entry)) (now (clauses .entry))) (now (prefix .entry)) u) (now (text .exit)) r ⌝ }
+    requires { ⌜ quantifies universal (prefixOf (now prefix)) (variable .0) ≡ true ⌝ }
+    requires { ⌜ scratchBound ≤ length (now scratch) ⌝ }
+    requires { ⌜ at + length (universalLine (formulaOf (now prefix) (now clauses)) (prefixOf (now prefix)) (variable .0)) < 2 ^ 64 ⌝ }
+    ensures { λ r. ⌜ Stores (now (text .entry)) at (universalLine (formulaOf (now (prefix .entry)) (now (clauses .entry))) (prefixOf (now (prefix .entry))) (variable .0)) (now (text .exit)) r ⌝ }
 {
-    make_row(prefix, clauses, u, &mut scratch[..5_125]);
-    write_row_line(prefix, &scratch[4_100..5_125], u, text, at)
+    make_row(prefix, clauses, variable, scratch);
+    write_row_line(prefix, scratch, variable, text, at)
 }
 
-// The line of the prefix word at `place`, if it is a universal's.
-fn write_word_line(
+// The line of the entry at `place`, if it is a universal's.
+fn write_entry_line(
     prefix: &[i32],
     clauses: &[i32],
     place: usize,
@@ -112,46 +123,40 @@ fn write_word_line(
     at: usize,
 ) -> usize
     requires { ⌜ Admitted (now prefix) (now clauses) ⌝ }
-    requires { ⌜ place < length (now prefix) ⌝ }
-    requires { ⌜ 8200 ≤ length (now scratch) ⌝ }
-    requires { ⌜ at + length (wordLine (formulaOf (now prefix) (now clauses)) (now prefix) (getD (now prefix) place (pos 0))) < 2 ^ 64 ⌝ }
-    ensures { λ r. ⌜ Stores (now (text .entry)) at (wordLine (formulaOf (now (prefix .entry)) (now (clauses .entry))) (now (prefix .entry)) (getD (now (prefix .entry)) place (pos 0))) (now (text .exit)) r ⌝ }
+    requires { ⌜ place < entryCount (now prefix) ⌝ }
+    requires { ⌜ scratchBound ≤ length (now scratch) ⌝ }
+    requires { ⌜ at + length (entryLine (formulaOf (now prefix) (now clauses)) (prefixOf (now prefix)) (entryAt (now prefix) place)) < 2 ^ 64 ⌝ }
+    ensures { λ r. ⌜ Stores (now (text .entry)) at (entryLine (formulaOf (now (prefix .entry)) (now (clauses .entry))) (prefixOf (now (prefix .entry))) (entryAt (now (prefix .entry)) place)) (now (text .exit)) r ⌝ }
 {
-    match Word::of(prefix[place]) {
-        Word::Zero => at,
-        Word::TooLarge => at,
-        Word::Positive(_) => at,
-        Word::Negative(u) => write_universal(prefix, clauses, u.0, scratch, text, at),
+    match entry_at(prefix, place) {
+        Entry::Existential(_) => at,
+        Entry::Universal(u) => write_universal(prefix, clauses, u, scratch, text, at),
     }
 }
 
+// The lines of all universals, in prefix order: a row is made for each.
 fn write_lines(prefix: &[i32], clauses: &[i32], scratch: &mut [u8], text: &mut [u8]) -> usize
     requires { ⌜ Admitted (now prefix) (now clauses) ⌝ }
-    requires { ⌜ 8200 ≤ length (now scratch) ⌝ }
-    ensures { λ r. ⌜ Stores (now (text .entry)) 0 (universalLines (formulaOf (now (prefix .entry)) (now (clauses .entry))) (now (prefix .entry)) (now (prefix .entry))) (now (text .exit)) r ⌝ }
+    requires { ⌜ scratchBound ≤ length (now scratch) ⌝ }
+    ensures { λ r. ⌜ Stores (now (text .entry)) 0 (universalLines (formulaOf (now (prefix .entry)) (now (clauses .entry))) (prefixOf (now (prefix .entry))) (prefixOf (now (prefix .entry)))) (now (text .exit)) r ⌝ }
 {
+    let count = entry_count(prefix);
     let mut next = 0;
     let mut place = 0;
-    while place < prefix.len() {
-        next = write_word_line(prefix, clauses, place, scratch, text, next);
+    while place < count {
+        next = write_entry_line(prefix, clauses, place, scratch, text, next);
         place += 1;
     }
     next
 }
 
-// The lines for tables that were read: 3 for scratch under 8,200 bytes.
+// The lines for tables that were read: 3 where scratch is too short for a row.
 fn write_tables(prefix: &[i32], clauses: &[i32], scratch: &mut [u8], text: &mut [u8]) -> usize
     requires { ⌜ Admitted (now prefix) (now clauses) ⌝ }
     ensures { λ r. ⌜ StoresShort textRoom (now (text .entry)) (tablesText (length (now (scratch .entry))) (now (prefix .entry)) (now (clauses .entry))) (now (text .exit)) r ⌝ }
 {
-    if scratch.len() < 8_200 {
-        return refused_line(
-            text,
-            Refusal {
-                reason: Reason::NoRoom,
-                place: 0,
-            },
-        );
+    if scratch.len() < SCRATCH {
+        return refused_line(text, Refusal::new(Reason::NoRoom, 0));
     }
     write_lines(prefix, clauses, scratch, text)
 }

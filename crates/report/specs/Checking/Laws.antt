@@ -9,6 +9,7 @@ use borrow.Author.Tests.{leb-true}
 use lib.ListN.{length, take, replicate, getD}
 use lib.Dec.{leb}
 use lib.IntN.{ℤ}
+use Rattle.formula.specs.Prefix.{entryCount}
 use Rattle.formula.specs.Text.{Reading, read, refused, reading}
 use Rattle.formula.specs.Refusal.{refusal, require}
 use Rattle.formula.specs.declared.refusal.Refusal.{Refusal}
@@ -102,7 +103,7 @@ module _ (room : Room) (formula proof : List ℕ) (P : List ℕ → Type 0) (unl
           (prefix clauses words : List ℤ) (count : ℕ) → settled (room .file) formula (room .prefix) (room .clauses) ≡ read prefix clauses count
           → settledProof (room .file) proof count (room .steps) ≡ readSteps words
           → (v : Verdict) → verdictOf plainRules prefix clauses words (room .scratch) (room .starts) ≡ v
-          → P (verdictLine (length prefix) count v) → MadeFrom room formula proof
+          → P (verdictLine (entryCount prefix) count v) → MadeFrom room formula proof
       judged prefix clauses words count e f (Accepted empty m) q k =
           let text = settled-read (room .file) formula (room .prefix) (room .clauses) prefix clauses count e in
           let file = settled-proof-read (room .file) proof count (room .steps) words f in

@@ -12,6 +12,7 @@ use lib.IntN.{ℤ, pos, negsuc, natAbs}
 use mir.Syntax.{w32}
 use mir.Val.{SFits}
 use Rattle.qbf.specs.Connectives.{and-both}
+use Rattle.formula.specs.Prefix.{prefixOf}
 use Rattle.formula.specs.Tables.{zeros, Admitted}
 use Rattle.formula.specs.Written.{written}
 use Rattle.formula.specs.Written.Example.{written-example}
@@ -70,7 +71,7 @@ example-refuting =
 
 -- The line is `accepted 4 4 5 9`.
 pub example-line : checkLine programRoom exampleText exampleFile ≡ acceptedLine 4 4 5 9
-unfolding example-refuting
+unfolding example-refuting prefixOf
 example-line =
     let text : length exampleText ≤ 65536 = rw written-example (omega arith) in
     let file : length exampleFile ≤ 65536 = omega (arith, file-of-length [] (exampleSteps (pos 4)) 4) in

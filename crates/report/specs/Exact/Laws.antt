@@ -8,6 +8,7 @@ use native.Mathlib.Omega.{arith}
 use borrow.Author.Tests.{le-leb}
 use lib.ListN.{length, take, getD}
 use Rattle.formula.specs.Decode.{clausesOf}
+use Rattle.formula.specs.Prefix.{entryCount}
 use Rattle.formula.specs.Tables.Laws.{admitted-closed, admitted-count}
 use Rattle.formula.specs.Text.{read}
 use Rattle.formula.specs.Text.Admits.{read-admitted}
@@ -59,10 +60,10 @@ accepted-refuting room formula proof bytes a =
     )
 
 module _ (room : Room) (formula proof : List ℕ) (within : FilesWithin room formula proof) where
-  -- The numbers: V the length of the prefix, C that of input clauses, the steps, and the first empty clause's.
+  -- The numbers: V how many entries the prefix has, C how many input clauses there are, the steps, and the first empty clause's.
   pub accepted-line-numbers :
       (r : Refuting room formula proof) (place : ℕ) → FirstEmpty (numberedClauses (clausesOf (r .clauses)) (r .refutation .steps)) place
-      → checkLine room formula proof ≡ acceptedLine (length (r .prefix)) (r .count) (length (r .refutation .steps)) (suc place)
+      → checkLine room formula proof ≡ acceptedLine (entryCount (r .prefix)) (r .count) (length (r .refutation .steps)) (suc place)
   unfolding settled settledProof stepsLine
   accepted-line-numbers r place f =
       let fits = within .steps-fit (r .prefix) (r .clauses) (r .count) (r .reads) (r .note) (r .words) (r .laid-out) in
@@ -92,7 +93,7 @@ module _ (room : Room) (formula proof : List ℕ) (within : FilesWithin room for
   accepted-line-exactly bytes = (
     λ a. accepted-refuting room formula proof bytes a .2,
     λ r. let f = empty-first (numberedClauses (clausesOf (r .clauses)) (r .refutation .steps)) (r .refutation .some-empty) in
-        record { variables = length (r .prefix); clauses = r .count; steps = length (r .refutation .steps); empty = suc (f .0); is = accepted-line-numbers r (f .0) (f .1) },
+        record { variables = entryCount (r .prefix); clauses = r .count; steps = length (r .refutation .steps); empty = suc (f .0); is = accepted-line-numbers r (f .0) (f .1) },
   )
 
 -- Files of 65,536 bytes at most are within the room of 01's programs.

@@ -1,81 +1,58 @@
--- The lines of the universals: read off rows, word by word. How long they are is in Listing/Length.antt. Assumes nothing.
-use Prim.Native.Nat.{ℕ, zero, suc, _<_}
-use mathlib.Core.Path.{_≡_, refl}
+-- The lines of the universals: read off rows, entry by entry. How long they are is in Listing/Length.antt. Assumes nothing.
+use Prim.Native.Nat.{ℕ, suc, _≤_, _<_}
+use mathlib.Core.Path.{_≡_, refl, ap}
 use mathlib.Core.Bool.{Bool, true, false}
-use mathlib.Core.List.{List, [], _∷_, _++_}
-use native.Mathlib.Nat.{le-of-suc-le-suc, not-suc-le-zero}
+use mathlib.Core.List.{List, [], _∷_, _++_, List·Memᴰ, List·Memᴰ·head, List·Memᴰ·tail}
 use native.Mathlib.Omega.{arith}
-use borrow.Author.Tests.{eq-eqb}
 use lib.ListN.{length, getD, drop}
-use lib.Seq.{drop-cons}
 use lib.Dec.{leb, eqb}
-use lib.IntN.{ℤ, pos, negsuc, natAbs}
-use Rattle.qbf.specs.Connectives.{or-right}
-use Rattle.qbf.specs.Formula.{Formula}
+use lib.IntN.{ℤ}
+use Rattle.qbf.specs.Formula.{universal, Entry, entry, Prefix, Formula}
 use Rattle.qbf.specs.Dependency.{depends}
+use Rattle.formula.specs.Prefix.{prefixOf, entryCount, entryAt, quantifies, Entries}
+use Rattle.formula.specs.Prefix.Laws.{entries-drop, entry-member, quantifies-complete}
+use Rattle.formula.specs.Refusal.{refusal, require}
 use Rattle.formula.specs.Tables.{Admitted}
 use Rattle.formula.specs.Text.{read, refused, reading}
 use Rattle.formula.specs.Text.Admits.{read-admitted}
-use Rattle.formula.specs.Writing.{Bounded}
-use Rattle.formula.specs.Written.{letterOf}
-use Rattle.formula.specs.Refusal.{refusal, require}
 use Rattle.formula.specs.declared.refusal.Refusal.{Refusal}
 use Rattle.formula.specs.declared.refusal.Reason.the-variants.{Oversized}
-use Rattle.dependency.specs.Row.{mark, rowOf, isUniversal, isNegated}
-use Rattle.dependency.specs.Row.Laws.{row-byte}
+use Rattle.dependency.specs.Scratch.{rowIn, RowMade}
+use Rattle.dependency.specs.Scratch.Laws.{row-depends}
 use Rattle.report.specs.Line.{refusedLine, settled}
 use Rattle.report.specs.Check.{Room}
-use Rattle.report.specs.Dependents.{dependents, universalLine, universalLines, dependencyText}
-use Rattle.report.specs.Listing.{markedText, marked, rowLine, wordLine, tablesText}
+use Rattle.report.specs.Dependents.{ifDependent, dependents, universalLine, entryLine, universalLines, tablesText, dependencyText}
+use Rattle.report.specs.Listing.{marked, rowLine}
 
--- What is left of a list of words, one word at a time.
-module _ (i : ℕ) (ws : List ℤ) (h : i < length ws) where
-  pub marked-drop : (row : List ℕ) → marked row (drop i ws) ≡ markedText (getD row (natAbs (getD ws i (pos 0))) 0) (natAbs (getD ws i (pos 0))) ++ marked row (drop (suc i) ws)
+-- What is left of the prefix, one entry at a time.
+module _ (ws : List ℤ) (i : ℕ) (h : i < entryCount ws) where
+  pub marked-drop :
+      (row : List ℕ) (v : ℕ) (dependent : Bool) → v ≡ entryAt ws i .variable → dependent ≡ eqb (getD row v 0) 1
+      → marked row (drop i (prefixOf ws)) ≡ ifDependent dependent v ++ marked row (drop (suc i) (prefixOf ws))
   unfolding marked
-  marked-drop row = rw (drop-cons ws i (pos 0) h)
+  marked-drop row v dependent e d = rw (d, e, entries-drop ws i h)
 
-  pub universal-lines-drop : (F : Formula) (p : List ℤ) → universalLines F p (drop i ws) ≡ wordLine F p (getD ws i (pos 0)) ++ universalLines F p (drop (suc i) ws)
-  unfolding universalLines wordLine
-  universal-lines-drop F p = rw (drop-cons ws i (pos 0) h)
+  pub universal-lines-drop :
+      (F : Formula) (P : Prefix)
+      → universalLines F P (drop i (prefixOf ws)) ≡ entryLine F P (entryAt ws i) ++ universalLines F P (drop (suc i) (prefixOf ws))
+  unfolding universalLines
+  universal-lines-drop F P = rw (entries-drop ws i h)
 
-pub bounded-later : {w : ℤ} {ws : List ℤ} → Bounded (w ∷ ws) → Bounded ws
-bounded-later h = record { bounded = λ i. h .bounded (suc i) }
+  -- An entry read by its place is a universal's.
+  pub universal-at : (u : ℕ) → entryAt ws i ≡ entry u universal → quantifies universal (prefixOf ws) u ≡ true
+  universal-at u e = quantifies-complete universal (prefixOf ws) u (rw e at (entry-member ws i h))
 
--- What a word adds, by its quantifier: `a` is the letter 97, `e` 101.
-module _ (F : Formula) (p : List ℤ) where
-  pub word-line-existential : (w : ℤ) → letterOf w ≡ 101 → wordLine F p w ≡ []
-  unfolding wordLine letterOf
-  word-line-existential (pos v) e = refl
-  word-line-existential (negsuc n) e = let z : _≡_ {A = ℕ} 97 101 = e in absurd (omega arith)
+-- The line by a row that was made is the universal's.
+module _ (F : Formula) (u : ℕ) (scratch scratch′ : List ℕ) (made : RowMade F u scratch scratch′) where
+  marked-row : (P : Prefix) → ((x : Entry) → List·Memᴰ x P → x .variable ≤ 1024) → marked (rowIn scratch′) P ≡ dependents F u P
+  unfolding marked dependents
+  marked-row [] small = refl
+  marked-row (x ∷ P) small =
+      rw (row-depends F u scratch scratch′ made (x .variable) (small x (List·Memᴰ·head refl)), marked-row P (λ y m. small y (List·Memᴰ·tail m)))
 
-  pub word-line-universal : (w : ℤ) → letterOf w ≡ 97 → wordLine F p w ≡ universalLine F p (natAbs w)
-  unfolding wordLine letterOf
-  word-line-universal (pos v) e = let z : _≡_ {A = ℕ} 101 97 = e in absurd (omega arith)
-  word-line-universal (negsuc n) e = refl
-
--- A word read by its place is a universal's.
-pub universal-at : (ws : List ℤ) (i : ℕ) → i < length ws → letterOf (getD ws i (pos 0)) ≡ 97 → isUniversal ws (natAbs (getD ws i (pos 0))) ≡ true
-unfolding isUniversal letterOf
-universal-at [] i h e = absurd (not-suc-le-zero h)
-universal-at (pos v ∷ ws) zero h e = let z : _≡_ {A = ℕ} 101 97 = e in absurd (omega arith)
-universal-at (negsuc n ∷ ws) zero h e = rw (eq-eqb (suc n) (suc n) refl)
-universal-at (w ∷ ws) (suc i) h e = or-right (isNegated (natAbs (getD ws i (pos 0))) w) _ (universal-at ws i (le-of-suc-le-suc h) e)
-
--- The row's bytes are the dependents.
-mark-one : (b : Bool) → eqb (mark b) 1 ≡ b
-mark-one true = refl
-mark-one false = refl
-
-module _ (F : Formula) (u : ℕ) where
-  marked-row : (ws : List ℤ) → Bounded ws → marked (rowOf F u) ws ≡ dependents F u ws
-  unfolding marked dependents markedText
-  marked-row [] h = refl
-  marked-row (w ∷ ws) h =
-      rw (row-byte F u (natAbs w) (h .bounded 0), mark-one (depends F u (natAbs w)), marked-row ws (bounded-later h))
-
-  pub row-line-is : (p : List ℤ) (row : List ℕ) → Bounded p → row ≡ rowOf F u → rowLine row p u ≡ universalLine F p u
+  pub row-line-is : (ws : List ℤ) → Entries ws → rowLine (rowIn scratch′) (prefixOf ws) u ≡ universalLine F (prefixOf ws) u
   unfolding rowLine universalLine
-  row-line-is p row h e = rw (e, marked-row p h)
+  row-line-is ws h = rw (marked-row (prefixOf ws) (λ x m. h .ranged x m .1))
 
 -- What the text is, as the formula's file is settled; tables that were read are admitted.
 module _ (room : Room) (file : List ℕ) where

@@ -1,45 +1,42 @@
 -- How long the lines of the universals are: on admitted tables `textRoom` bytes hold them. A dependent is existential, so of u
 -- universals and e existentials at most u × e dependents are printed. Assumes nothing.
-use Prim.Native.Nat.{ℕ, suc, _+_, _*_, _-_, _^_, _≤_, _<_}
-use mathlib.Core.Path.{_≡_, refl}
+use Prim.Native.Nat.{ℕ, _+_, _*_, _-_, _^_, _≤_, _<_}
+use mathlib.Core.Path.{_≡_, refl, sym, subst}
 use mathlib.Core.Bool.{Bool, true, false}
-use mathlib.Core.List.{List, [], _∷_, List·Memᴰ, List·Memᴰ·head, List·Memᴰ·tail, Memᴰ·map}
-use native.Mathlib.Nat.{suc-mul, mul-add, add-mul, mul-comm, mul-left-comm, mul-le-mul, mul-le-mul-right}
-use native.Mathlib.Decide.{decLt}
+use mathlib.Core.List.{List, [], _∷_, List·Memᴰ, List·Memᴰ·head, List·Memᴰ·tail, Memᴰ·cast}
+use native.Mathlib.Nat.{mul-add, add-mul, mul-comm, mul-left-comm, mul-le-mul, mul-le-mul-right}
+use native.Mathlib.Decide.{ℕ-discrete, decLt}
 use native.Mathlib.Omega.{arith}
 use lib.ListN.{length, length-append}
-use lib.IntN.{ℤ, pos, negsuc}
-use Rattle.qbf.specs.Formula.{Formula}
-use Rattle.qbf.specs.Formula.Laws.{quantifiers-exclusive}
-use Rattle.qbf.specs.Dependency.{depends}
+use lib.IntN.{ℤ}
+use Rattle.qbf.specs.Formula.{Quantifier, existential, universal, Entry, entry, Prefix, Formula, Existential, after}
+use Rattle.qbf.specs.Formula.Laws.{quantifiers-exclusive, existentials-member, after-own, after-other}
+use Rattle.qbf.specs.Dependency.{depends, Depends}
 use Rattle.qbf.specs.Dependency.Laws.{depends-sound}
 use Rattle.formula.specs.Decimal.Laws.{length-decimal}
 use Rattle.formula.specs.Decode.{formulaOf}
-use Rattle.formula.specs.Prefix.{entryOf, prefixOf}
+use Rattle.formula.specs.Prefix.{prefixOf, isQuantifier}
 use Rattle.formula.specs.Tables.{Admitted}
-use Rattle.formula.specs.Tables.Laws.{admitted-prefix-length, admitted-proper}
-use Rattle.formula.specs.Writing.{Bounded}
-use Rattle.formula.specs.Written.Length.{prefix-bounded}
-use Rattle.checker.specs.Verdict.TableScope.{depends-existential}
-use Rattle.report.specs.Dependents.{ifDependent, dependents, universalLine, universalLines, textRoom}
-use Rattle.report.specs.Listing.Laws.{bounded-later}
+use Rattle.formula.specs.Tables.Laws.{admitted-prefix-length, admitted-prefix-distinct, admitted-entries}
+use Rattle.report.specs.Dependents.{ifDependent, dependents, universalLine, ifUniversal, entryLine, universalLines, textRoom}
 
--- How many words are existential, and how many universal.
-unfoldable positives : List ℤ → ℕ
-positives [] = 0
-positives (pos v ∷ ws) = suc (positives ws)
-positives (negsuc n ∷ ws) = positives ws
+-- How many entries have a quantifier.
+abbrev one : Bool → ℕ
+one true = 1
+one false = 0
 
-unfoldable negatives : List ℤ → ℕ
-negatives [] = 0
-negatives (pos v ∷ ws) = negatives ws
-negatives (negsuc n ∷ ws) = suc (negatives ws)
+unfoldable countOf : Quantifier → Prefix → ℕ
+countOf q [] = 0
+countOf q (x ∷ P) = one (isQuantifier q (x .quantifier)) + countOf q P
 
-counted : (ws : List ℤ) → negatives ws + positives ws ≡ length ws
-unfolding positives negatives
+counted : (P : Prefix) → countOf universal P + countOf existential P ≡ length P
+unfolding countOf
 counted [] = refl
-counted (pos v ∷ ws) = omega (arith, counted ws)
-counted (negsuc n ∷ ws) = omega (arith, counted ws)
+counted (x ∷ P) = omega (arith, either (x .quantifier), counted P)
+  where
+    either : (q : Quantifier) → one (isQuantifier universal q) + one (isQuantifier existential q) ≡ 1
+    either existential = refl
+    either universal = refl
 
 -- A product is largest where its factors are equal: 4uv ≤ (u + v)².
 product-by-difference : (u k : ℕ) → u + (u + k) ≤ 1024 → u * (u + k) ≤ 262144
@@ -66,61 +63,91 @@ product-bound u e h = go (decLt u e)
         let same : e + (u - e) ≡ u = omega arith in
         rw (mul-comm u e) (rw same at (product-by-difference e (u - e) (omega arith)))
 
--- No universal depends on anything.
-universal-depends-not : (p c : List ℤ) → Admitted p c → (u n : ℕ) → List·Memᴰ (negsuc n) p → depends (formulaOf p c) u (suc n) ≡ false
-universal-depends-not p c a u n m = go (depends (formulaOf p c) u (suc n)) refl
+-- What depends is existential: it stands right of the universal, so in the prefix.
+after-member : (v : ℕ) (P : Prefix) {x : Entry} → List·Memᴰ x (after v P) → List·Memᴰ x P
+unfolding after
+after-member v [] m = m
+after-member v (y ∷ P) {x} m = go (ℕ-discrete (y .variable) v) (λ k. after-member v P k)
   where
-    go : (b : Bool) → depends (formulaOf p c) u (suc n) ≡ b → b ≡ false
-    go false e = refl
-    go true e =
-        absurd
-        (quantifiers-exclusive
-        (prefixOf p)
-        (admitted-proper p c a .prefix-distinct)
-        (depends-existential (formulaOf p c) u (suc n) (depends-sound (formulaOf p c) u (suc n) e))
-        (Memᴰ·map entryOf m))
+    go : Dec (y .variable ≡ v) → (List·Memᴰ x (after v P) → List·Memᴰ x P) → List·Memᴰ x (y ∷ P)
+    go (yes e) later = List·Memᴰ·tail (subst (λ (Q : Prefix). List·Memᴰ x Q) (after-own v y P e) m)
+    go (no n) later = List·Memᴰ·tail (later (subst (λ (Q : Prefix). List·Memᴰ x Q) (after-other v y P n) m))
 
-module _ (F : Formula) (u : ℕ) where
-  -- A space and four digits.
-  length-dependent : (b : Bool) (e : ℕ) → e ≤ 1024 → length (ifDependent b e) ≤ 5
-  length-dependent true e h = omega (arith, length-decimal 3 e (omega arith))
-  length-dependent false e h = omega arith
+depends-existential : (F : Formula) (u e : ℕ) → Depends F u e → Existential (F .prefix) e
+depends-existential F u e d = after-member u (F .prefix) (existentials-member (after u (F .prefix)) (d .right))
 
-  length-dependents : (ws : List ℤ) → Bounded ws → ((n : ℕ) → List·Memᴰ (negsuc n) ws → depends F u (suc n) ≡ false) → length (dependents F u ws) ≤ 5 * positives ws
-  unfolding dependents positives
-  length-dependents [] h none = omega arith
-  length-dependents (pos v ∷ ws) h none =
-      rw length-append
-      (omega (arith, length-dependent (depends F u v) v (h .bounded 0), length-dependents ws (bounded-later h) (λ n m. none n (List·Memᴰ·tail m))))
-  length-dependents (negsuc n ∷ ws) h none =
-      rw (none n (List·Memᴰ·head refl)) (length-dependents ws (bounded-later h) (λ n′ m. none n′ (List·Memᴰ·tail m)))
+-- A space and four digits.
+length-dependent : (b : Bool) (e : ℕ) → e ≤ 1024 → length (ifDependent b e) ≤ 5
+unfolding ifDependent
+length-dependent true e h = omega (arith, length-decimal 3 e (omega arith))
+length-dependent false e h = omega arith
 
 -- Four digits, the colon and LF, and five bytes for each existential.
-abbrev lineLength : List ℤ → ℕ
-lineLength p = 6 + 5 * positives p
+abbrev lineLength : Prefix → ℕ
+lineLength P = 6 + 5 * countOf existential P
 
 module _ (p c : List ℤ) (a : Admitted p c) where
-  length-universal-line : (u : ℕ) → u ≤ 1024 → length (universalLine (formulaOf p c) p u) ≤ lineLength p
+  ranged : (x : Entry) → List·Memᴰ x (prefixOf p) → x .variable ≤ 1024
+  ranged x m = admitted-entries p c a .ranged x m .1
+
+  -- No universal depends on anything.
+  universal-depends-not : (u : ℕ) (x : Entry) → List·Memᴰ x (prefixOf p) → x .quantifier ≡ universal → depends (formulaOf p c) u (x .variable) ≡ false
+  universal-depends-not u x m q = go (depends (formulaOf p c) u (x .variable)) refl
+    where
+      own : x ≡ entry (x .variable) universal
+      own i = record { variable = x .variable; quantifier = q i }
+
+      go : (b : Bool) → depends (formulaOf p c) u (x .variable) ≡ b → b ≡ false
+      go false e = refl
+      go true e =
+          absurd
+          (quantifiers-exclusive
+          (prefixOf p)
+          (admitted-prefix-distinct p c a)
+          (depends-existential (formulaOf p c) u (x .variable) (depends-sound (formulaOf p c) u (x .variable) e))
+          (subst (λ (y : Entry). List·Memᴰ y (prefixOf p)) own m))
+
+  length-entry : (u : ℕ) (x : Entry) → List·Memᴰ x (prefixOf p) → length (ifDependent (depends (formulaOf p c) u (x .variable)) (x .variable)) ≤ 5 * one (isQuantifier existential (x .quantifier))
+  unfolding ifDependent
+  length-entry u x m = go (x .quantifier) refl
+    where
+      go : (q : Quantifier) → x .quantifier ≡ q → length (ifDependent (depends (formulaOf p c) u (x .variable)) (x .variable)) ≤ 5 * one (isQuantifier existential q)
+      go existential e = length-dependent (depends (formulaOf p c) u (x .variable)) (x .variable) (ranged x m)
+      go universal e = rw (universal-depends-not u x m e) (omega arith)
+
+  length-dependents : (u : ℕ) (P : Prefix) → ((x : Entry) → List·Memᴰ x P → List·Memᴰ x (prefixOf p)) → length (dependents (formulaOf p c) u P) ≤ 5 * countOf existential P
+  unfolding dependents countOf
+  length-dependents u [] within = omega arith
+  length-dependents u (x ∷ P) within =
+      rw length-append
+      (omega (arith, length-entry u x (within x (List·Memᴰ·head refl)), length-dependents u P (λ y m. within y (List·Memᴰ·tail m))))
+
+  length-universal-line : (u : ℕ) → u ≤ 1024 → length (universalLine (formulaOf p c) (prefixOf p) u) ≤ lineLength (prefixOf p)
   unfolding universalLine
   length-universal-line u h =
       simp length-append
-      (omega (arith, length-decimal 3 u (omega arith), length-dependents (formulaOf p c) u p (prefix-bounded p c a) (λ n m. universal-depends-not p c a u n m)))
+      (omega (arith, length-decimal 3 u (omega arith), length-dependents u (prefixOf p) (λ x m. m)))
 
-  length-universal-lines : (ws : List ℤ) → Bounded ws → length (universalLines (formulaOf p c) p ws) ≤ negatives ws * lineLength p
-  unfolding universalLines negatives
-  length-universal-lines [] h = omega arith
-  length-universal-lines (pos v ∷ ws) h = length-universal-lines ws (bounded-later h)
-  length-universal-lines (negsuc n ∷ ws) h =
-      rw (length-append, suc-mul (negatives ws) (lineLength p))
-      (omega (arith, length-universal-line (suc n) (h .bounded 0), length-universal-lines ws (bounded-later h)))
+  length-universal-lines :
+      (P : Prefix) → ((x : Entry) → List·Memᴰ x P → x .variable ≤ 1024)
+      → length (universalLines (formulaOf p c) (prefixOf p) P) ≤ countOf universal P * lineLength (prefixOf p)
+  unfolding universalLines countOf entryLine
+  length-universal-lines [] small = omega arith
+  length-universal-lines (x ∷ P) small =
+      rw (length-append, add-mul (one (isQuantifier universal (x .quantifier))) (countOf universal P) (lineLength (prefixOf p)))
+      (omega (arith, own (x .quantifier), length-universal-lines P (λ y m. small y (List·Memᴰ·tail m))))
+    where
+      own : (q : Quantifier) → length (ifUniversal q (universalLine (formulaOf p c) (prefixOf p) (x .variable))) ≤ one (isQuantifier universal q) * lineLength (prefixOf p)
+      own existential = omega arith
+      own universal = omega (arith, length-universal-line (x .variable) (small x (List·Memᴰ·head refl)))
 
-  pub universal-lines-short : length (universalLines (formulaOf p c) p p) ≤ textRoom
+  pub universal-lines-short : length (universalLines (formulaOf p c) (prefixOf p) (prefixOf p)) ≤ textRoom
   universal-lines-short =
-      let l : negatives p + positives p ≤ 1024 = omega (arith, counted p, admitted-prefix-length p c a) in
-      let split = mul-add (negatives p) 6 (5 * positives p) in
-      let pairs = mul-left-comm (negatives p) 5 (positives p) in
-      omega (arith, length-universal-lines p (prefix-bounded p c a), split, pairs, product-bound (negatives p) (positives p) l)
+      let u : ℕ = countOf universal (prefixOf p) in
+      let e : ℕ = countOf existential (prefixOf p) in
+      let l : u + e ≤ 1024 = omega (arith, counted (prefixOf p), admitted-prefix-length p c a) in
+      omega (arith, length-universal-lines (prefixOf p) ranged, mul-add u 6 (5 * e), mul-left-comm u 5 e, product-bound u e l)
 
   -- The lines written from the place 0 on stay far below what a place can be.
-  pub universal-lines-below : 0 + length (universalLines (formulaOf p c) p p) < 2 ^ 64
+  pub universal-lines-below : 0 + length (universalLines (formulaOf p c) (prefixOf p) (prefixOf p)) < 2 ^ 64
   universal-lines-below = omega (arith, universal-lines-short)

@@ -1,72 +1,79 @@
--- `write_dependents` stores the dependents one by one: what is left to store is what the words that the loop has not passed
+-- `write_dependents` stores the dependents one by one: what is left to store is what the entries that the loop has not passed
 -- give. Assumes nothing.
 use Prim.Native.Nat.{suc, _-_, _≤_, _<_}
 use mathlib.Core.Path.{_≡_}
+use mathlib.Core.List.{_++_}
 use native.Mathlib.Numerals.{add-one}
 use native.Mathlib.Omega.{arith}
 use borrow.Author.Needs.{needs}
-use lib.ListN.{length, drop, getD, drop-of-length-le}
-use lib.IntN.{pos, natAbs}
-use mir.Syntax.{w32}
-use mir.Val.{toZ, ofZ}
+use lib.ListN.{drop, drop-of-length-le}
+use Rattle.formula.specs.Prefix.{prefixOf, entryCount}
+use Rattle.formula.specs.Prefix.Laws.{entry-at-ranged}
 use Rattle.formula.specs.Store.{Remains}
 use Rattle.formula.specs.Store.Laws.{remains-all, remains-less, remains-none, remains-length, below-first, below-remains}
-use Rattle.report.specs.Listing.{markedText, marked}
+use Rattle.dependency.specs.Scratch.{rowIn}
+use Rattle.report.specs.Dependents.{ifDependent}
+use Rattle.report.specs.Listing.{marked}
 use Rattle.report.specs.Listing.Laws.{marked-drop}
 use Rattle.report.proofs.dependents.write_dependents.Statement.{statement}
 use Rattle.report.proofs.dependents.write_dependents.Tie as tie
 
 abbrev Inv-loop : tie.InvT-loop
-Inv-loop prefix row text₀ at next₀ i₀ text next i = Remains text₀ at (marked row prefix) text next (marked row (drop i prefix)) × (i ≤ length prefix)
+Inv-loop prefix scratch text₀ at count next₀ i₀ text next i =
+    Remains text₀ at (marked (rowIn scratch) (prefixOf prefix)) text next (marked (rowIn scratch) (drop i (prefixOf prefix)))
+    × (i ≤ count)
+    × (count ≡ entryCount prefix)
 
 abbrev μ-loop : tie.MeasureT-loop
-μ-loop prefix row text₀ at next₀ i₀ text next i = length prefix - i
+μ-loop prefix scratch text₀ at count next₀ i₀ text next i = count - i
 
 loop-holds : tie.Need-loop-holds Inv-loop μ-loop
-loop-holds c = (remains-all _ _ _, omega arith)
+loop-holds c = (remains-all _ _ _, search needs, c .entry-count .ensures)
 
-variable-requires : tie.Need-variable-requires Inv-loop μ-loop
-variable-requires c κs =
-    let s = c .before .before .before .before .before in
-    let w = getD (s .args .prefix .now) (c .before .before .loop .i) (pos 0) in
-    let e : toZ w32 (ofZ w32 w) ≡ w = search needs in
-    rw e (s .pre .0 .bounded (c .before .before .loop .i))
+-- the place is that of an entry
+within : (c : tie.In-loop Inv-loop μ-loop) → c .before .loop .i < entryCount (c .before .before .before .before .before .args .prefix .now)
+within c = omega (arith, c .before .loop .inv .2, c .loop-test .taken)
 
--- the variable of the word at the loop's place
-variable-is :
-    (c : tie.After-variable Inv-loop μ-loop)
-    → c .variable .result ≡ natAbs (getD (c .before .before .before .before .before .before .args .prefix .now) (c .before .before .before .loop .i) (pos 0))
-variable-is c =
-    let w = getD (c .before .before .before .before .before .before .args .prefix .now) (c .before .before .before .loop .i) (pos 0) in
-    let e : toZ w32 (ofZ w32 w) ≡ w = search needs in
-    rw e at (c .variable .ensures)
+variable-at-requires : tie.Need-variable-at-requires Inv-loop μ-loop
+variable-at-requires c κs = (c .before .before .before .before .before .pre .0, within c)
 
-shared-slice-read-write-dependent : tie.Need-shared-slice-read-write-dependent Inv-loop μ-loop
-shared-slice-read-write-dependent c =
-    let v = c .before .before in
-    omega (arith, variable-is v, v .before .before .before .before .before .before .pre .0 .bounded (v .before .before .before .loop .i), v .before .before .before .before .before .before .pre .1 .0)
+depends-in-requires : tie.Need-depends-in-requires Inv-loop μ-loop
+depends-in-requires c κs =
+    let v = c .before in
+    let s = v .before .before .before .before .before .before in
+    (s .pre .1 .0, rw (v .variable-at .ensures) (entry-at-ranged (s .args .prefix .now) (s .pre .0) (v .before .before .loop .i) (within (v .before)) .1))
+
+-- where the loop's body begins, and what is left there begins with the entry's variable
+abbrev body : tie.After-depends-in Inv-loop μ-loop → tie.In-loop Inv-loop μ-loop
+body c = c .before .before .before
+
+abbrev start : tie.After-depends-in Inv-loop μ-loop → tie.Start Inv-loop μ-loop
+start c = body c .before .before .before .before .before
+
+entry-left :
+    (c : tie.After-depends-in Inv-loop μ-loop) → let a = start c .args in let i = body c .before .loop .i in
+    marked (rowIn (a .scratch .now)) (drop i (prefixOf (a .prefix .now)))
+    ≡ ifDependent (c .depends-in .result) (c .before .before .variable-at .result .0) ++ marked (rowIn (a .scratch .now)) (drop (suc i) (prefixOf (a .prefix .now)))
+entry-left c =
+    marked-drop (start c .args .prefix .now) (body c .before .loop .i) (within (body c)) (rowIn (start c .args .scratch .now)) _ _
+    (c .before .before .variable-at .ensures) (c .depends-in .ensures)
 
 write-dependent-requires : tie.Need-write-dependent-requires Inv-loop μ-loop
 write-dependent-requires c κs =
-    let v = c .before .before in
-    let l = v .before .before .before .loop in
-    let s = v .before .before .before .before .before .before in
-    let ws = s .args .prefix .now in
-    let w = getD ws (l .i) (pos 0) in
-    rw (variable-is v)
-    (below-first (l .next) (markedText (getD (s .args .row .now) (natAbs w) 0) (natAbs w)) (marked (s .args .row .now) (drop (suc (l .i)) ws))
-    (rw (marked-drop (l .i) ws (v .before .before .loop-test .taken) (s .args .row .now)) at (below-remains (s .pre .1 .1) (l .inv .0))))
+    let l = body c .before .loop in
+    let a = start c .args in
+    below-first (l .next) (ifDependent (c .depends-in .result) (c .before .before .variable-at .result .0)) (marked (rowIn (a .scratch .now)) (drop (suc (l .i)) (prefixOf (a .prefix .now))))
+    (rw (entry-left c) at (below-remains (start c .pre .1 .1) (l .inv .0)))
 
 loop-again : tie.Need-loop-again Inv-loop μ-loop
 loop-again c =
-    let v = c .before .before .before .before .before in
-    let l = v .before .before .before .loop in
-    let s = v .before .before .before .before .before .before in
-    let ws = s .args .prefix .now in (
+    let k = c .before .before .before in
+    let l = body k .before .loop in
+    let a = start k .args in (
       rw add-one
-          (remains-less (marked (s .args .row .now) (drop (suc (l .i)) ws)) (rw (marked-drop (l .i) ws (v .before .before .loop-test .taken) (s .args .row .now)) at (l .inv .0))
-          (rw (variable-is v) at (c .before .before .write-dependent .ensures))),
+          (remains-less (marked (rowIn (a .scratch .now)) (drop (suc (l .i)) (prefixOf (a .prefix .now)))) (rw (entry-left k) at (l .inv .0)) (c .before .before .write-dependent .ensures)),
       search needs,
+      l .inv .2,
     )
 
 same-length : tie.Need-same-length Inv-loop μ-loop
@@ -76,7 +83,9 @@ returns : tie.Need-returns Inv-loop μ-loop
 unfolding marked
 returns c =
     let l = c .before .loop in
-    remains-none (rw (drop-of-length-le (c .before .before .before .before .args .prefix .now) (c .loop-test .left)) at (l .inv .0))
+    let P = prefixOf (c .before .before .before .before .before .args .prefix .now) in
+    let h : entryCount (c .before .before .before .before .before .args .prefix .now) ≤ l .i = omega (arith, l .inv .2, c .loop-test .left) in
+    remains-none (rw (drop-of-length-le P h) at (l .inv .0))
 
 pub write-dependents-spec : {M : Type 1} → statement M
 write-dependents-spec =
@@ -84,11 +93,10 @@ write-dependents-spec =
     (tie.spec
     Inv-loop
     μ-loop
+    (λ c κs. search needs)
     loop-holds
-    (λ c. search needs)
-    (λ c. search needs)
-    variable-requires
-    shared-slice-read-write-dependent
+    variable-at-requires
+    depends-in-requires
     write-dependent-requires
     (λ c. search needs)
     (λ c. search needs)

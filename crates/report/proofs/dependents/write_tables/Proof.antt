@@ -2,25 +2,26 @@
 use native.Mathlib.Omega.{arith}
 use borrow.Author.Tests.{le-leb, lt-leb}
 use lib.ListN.{length}
-use Rattle.report.specs.Listing.{tablesText}
+use Rattle.dependency.specs.Scratch.{scratchBound}
+use Rattle.report.specs.Dependents.{tablesText}
 use Rattle.report.specs.Listing.Length.{universal-lines-short}
 use borrow.Author.Needs.{needs}
 use Rattle.report.proofs.dependents.write_tables.Statement.{statement}
 use Rattle.report.proofs.dependents.write_tables.Tie as tie
 
 returns : tie.Need-returns
-unfolding tablesText
+unfolding tablesText scratchBound
 returns c =
     let s = c .before .before .before .before .before .before .before in
     let stored = c .before .before .refused-line .ensures in
-    rw (lt-leb 8200 (length (s .args .scratch .now)) (c .before .before .before .before .if1 .taken)) (record { stores = stored .stores; short = omega (arith, stored .short) })
+    rw (lt-leb scratchBound (length (s .args .scratch .now)) (c .before .before .before .before .if1 .taken)) (record { stores = stored .stores; short = omega (arith, stored .short) })
 
 returns-2 : tie.Need-returns-2
-unfolding tablesText
+unfolding tablesText scratchBound
 returns-2 c =
     let other = c .before .before .before .before .before .before .before in
     let s = other .before .before .before in
-    rw (le-leb 8200 (length (s .args .scratch .now)) (other .if1 .left))
+    rw (le-leb scratchBound (length (s .args .scratch .now)) (other .if1 .left))
     (record { stores = c .before .before .before .before .write-lines .ensures; short = universal-lines-short _ _ (s .pre) })
 
 pub write-tables-spec : {M : Type 1} → statement M
