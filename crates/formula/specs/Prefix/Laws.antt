@@ -8,7 +8,7 @@ use mathlib.Core.List.{List, [], _∷_, _++_, map, List·Memᴰ, List·Memᴰ·h
 use native.Mathlib.Numerals.{add-one}
 use native.Mathlib.Nat.{le-of-suc-le-suc, not-suc-le-zero}
 use native.Mathlib.Omega.{arith}
-use borrow.Author.Tests.{ltb-true, eqb-true, eq-eqb}
+use borrow.Author.Tests.{ltb-true, lt-ltb, eqb-true, eq-eqb}
 use lib.ListN.{length, getD, set, take, drop}
 use lib.Dec.{leb, eqb}
 use lib.Seq.{drop-cons, take-suc-set}
@@ -71,6 +71,11 @@ pub words-append : (P Q : Prefix) → prefixWords (P ++ Q) ≡ prefixWords P ++ 
 unfolding prefixWords
 words-append [] Q = refl
 words-append (x ∷ P) Q = ap {B = List ℤ} (λ r. entryWord x ∷ r) (words-append P Q)
+
+pub words-length : (P : Prefix) → length (prefixWords P) ≡ length P
+unfolding prefixWords
+words-length [] = refl
+words-length (x ∷ P) = ap suc (words-length P)
 
 -- The entry at a place, then those after it.
 pub entries-drop : (ws : List ℤ) (i : ℕ) → i < entryCount ws → drop i (prefixOf ws) ≡ entryAt ws i ∷ drop (suc i) (prefixOf ws)
@@ -161,6 +166,10 @@ put-entries ws used v q h l =
 pub put-more : (used : ℕ) → used < usedAfter used
 unfolding usedAfter
 put-more used = omega arith
+
+pub entry-room : (room used : ℕ) (x : Entry) (P : Prefix) → used + length (prefixWords (x ∷ P)) ≤ room → entryFits room used ≡ true
+unfolding entryFits prefixWords
+entry-room room used x P h = lt-ltb used room (omega arith)
 
 pub put-within : (room used : ℕ) → entryFits room used ≡ true → usedAfter used ≤ room
 unfolding entryFits usedAfter
