@@ -24,6 +24,7 @@ use Rattle.formula.specs.declared.prefix.Entry.the-variants.{Existential
 
 -- One entry a word.
 pub entry-count : (ws : List ℤ) → entryCount ws ≡ length ws
+unfolding prefixOf
 entry-count [] = refl
 entry-count (w ∷ ws) = ap suc (entry-count ws)
 
@@ -32,20 +33,23 @@ entry-variable (pos v) = refl
 entry-variable (negsuc n) = refl
 
 pub prefix-variables : (ws : List ℤ) → listed (prefixOf ws) ≡ map natAbs ws
+unfolding prefixOf
 prefix-variables [] = refl
 prefix-variables (w ∷ ws) = rw (entry-variable w, prefix-variables ws)
 
 -- Entries to words and back.
 pub prefix-words : (ws : List ℤ) → prefixWords (prefixOf ws) ≡ ws
-unfolding prefixWords entryWord
+unfolding prefixOf prefixWords entryWord
 prefix-words [] = refl
 prefix-words (pos v ∷ ws) = ap {B = List ℤ} (λ r. pos v ∷ r) (prefix-words ws)
 prefix-words (negsuc n ∷ ws) = ap {B = List ℤ} (λ r. negsuc n ∷ r) (prefix-words ws)
 
 pub prefix-none : prefixOf [] ≡ []
+unfolding prefixOf
 prefix-none = refl
 
 pub prefix-append : (ws vs : List ℤ) → prefixOf (ws ++ vs) ≡ prefixOf ws ++ prefixOf vs
+unfolding prefixOf
 prefix-append [] vs = refl
 prefix-append (w ∷ ws) vs = ap {B = Prefix} (λ r. entryOf w ∷ r) (prefix-append ws vs)
 
@@ -56,13 +60,13 @@ signed-magnitude universal zero = refl
 signed-magnitude universal (suc n) = refl
 
 pub words-listed : (P : Prefix) → listed (prefixOf (prefixWords P)) ≡ listed P
-unfolding prefixWords entryWord
+unfolding prefixOf prefixWords entryWord
 words-listed [] = refl
 words-listed (x ∷ P) = rw (entry-variable (entryWord x), signed-magnitude (x .quantifier) (x .variable), words-listed P)
 
 -- An entry of a variable other than 0 is that of its words.
 pub words-entry : (q : Quantifier) (v : ℕ) → 1 ≤ v → prefixOf (prefixWords (entry v q ∷ [])) ≡ entry v q ∷ []
-unfolding prefixWords entryWord
+unfolding prefixOf prefixWords entryWord
 words-entry q zero h = absurd (not-suc-le-zero h)
 words-entry existential (suc n) h = refl
 words-entry universal (suc n) h = refl
@@ -83,12 +87,12 @@ entries-drop ws i h = drop-cons (prefixOf ws) i (entry 0 existential) h
 
 -- The entries after the first.
 pub later-entries : (ws : List ℤ) → prefixOf (laterEntries ws) ≡ drop 1 (prefixOf ws)
-unfolding laterEntries
+unfolding prefixOf laterEntries
 later-entries [] = refl
 later-entries (w ∷ ws) = refl
 
 pub later-shorter : (ws : List ℤ) → 0 < entryCount ws → length (laterEntries ws) < length ws
-unfolding laterEntries
+unfolding prefixOf laterEntries
 later-shorter [] h = absurd (not-suc-le-zero h)
 later-shorter (w ∷ ws) h = omega arith
 
@@ -109,6 +113,7 @@ shown-universal x v e = go (x .quantifier) refl
 
 -- The entry at a place is that of its word; what the word is recognised as shows it.
 pub entry-word : (ws : List ℤ) (i : ℕ) → i < length ws → entryAt ws i ≡ entryOf (getD ws i (pos 0))
+unfolding prefixOf
 entry-word [] i h = absurd (not-suc-le-zero h)
 entry-word (w ∷ ws) zero h = refl
 entry-word (w ∷ ws) (suc i) h = entry-word ws i (le-of-suc-le-suc h)
