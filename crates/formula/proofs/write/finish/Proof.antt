@@ -1,5 +1,4 @@
 -- `finish` answers by what `keep_used` says of the room. Assumes nothing.
-use mathlib.Core.Path.{sym, _∙_}
 use borrow.Author.Needs.{needs}
 use Rattle.formula.proofs.write.finish.Statement.{statement}
 use Rattle.formula.proofs.write.finish.Tie as tie
