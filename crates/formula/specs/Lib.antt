@@ -1,4 +1,4 @@
--- The definitions that layer 1's contracts cite. What a reader must believe: Bounds, Word, Refusal, Tables, Decode (tables),
+-- The definitions that layer 1's contracts cite. What a reader must believe: Bounds, Word, Refusal, Prefix, Tables, Decode (tables),
 -- Token, Text (reading), Decimal, Written (writing), Clear, ClauseWords, RoundTrip. For inner contracts: Store, Writing, Stage.
 pub mod Bounds
 pub mod Word
