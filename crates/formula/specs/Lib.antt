@@ -1,4 +1,4 @@
--- The definitions that layer 1's contracts cite. What a reader must believe: Bounds, Word, Refusal, Tables, Decode (tables),
+-- The definitions that layer 1's contracts cite. What a reader must believe: Bounds, Word, Refusal, Prefix, Tables, Decode (tables),
 -- Token, Text (reading), Decimal, Written (writing), Clear, ClauseWords, RoundTrip. For inner contracts: Store, Writing, and
 -- the stages of reading in Text/{Header,Sets,Clauses,Fill}.
 pub mod Bounds

@@ -3,17 +3,15 @@
 use Prim.Native.Nat.{ℕ, zero, suc, _≤_}
 use mathlib.Core.Path.{_≡_}
 use mathlib.Core.Bool.{Bool, true, false}
-use mathlib.Core.Option.{Option, none, some}
 use mathlib.Core.List.{List, [], _∷_, _++_}
 use lib.ListN.{length, getD}
 use lib.Dec.{leb, eqb}
 use lib.IntN.{ℤ, pos, negsuc, natAbs}
 use Rattle.qbf.specs.Formula.{Prefix}
 use Rattle.formula.specs.Bounds.{variableBound}
-use Rattle.formula.specs.Clear.{clearFrom}
+use Rattle.formula.specs.Clear.{clearFrom, keptUpTo}
 use Rattle.formula.specs.Decimal.{decimal}
 use Rattle.formula.specs.Written.{letterOf, ifRoom, answerWriting}
-use Rattle.formula.specs.declared.refusal.Refusal.{Refusal}
 use Rattle.formula.specs.declared.write.WriteAnswer.{WriteAnswer}
 
 -- The end of the line whose letter is `last`; no line is open where that is 0.
@@ -50,10 +48,6 @@ pub record Bounded (ws : List ℤ) : Type 0 where
 
 -- What the end of a writing promises, `used` being the place behind what was written: its answer, and the text with
 -- what was not used cleared.
-abbrev pub keptUpTo : Option Refusal → ℕ → ℕ
-keptUpTo none used = used
-keptUpTo (some r) used = 0
-
 pub record Finishes (text : List ℕ) (used : ℕ) (answer : WriteAnswer) (after : List ℕ) : Type 0 where
   pub answers : answer ≡ answerWriting (ifRoom (leb used (length text))) used
-  pub leaves : after ≡ clearFrom 0 (keptUpTo (ifRoom (leb used (length text))) used) text
+  pub leaves : after ≡ clearFrom 0 (keptUpTo (leb used (length text)) used) text

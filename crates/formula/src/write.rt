@@ -196,11 +196,9 @@ fn write_tables(prefix: &[i32], clauses: &[i32], count: usize, text: &mut [u8]) 
 fn finish(text: &mut [u8], used: usize) -> WriteAnswer
     ensures { λ r. ⌜ Finishes (now (text .entry)) used r (now (text .exit)) ⌝ }
 {
-    if used <= text.len() {
-        clear::clear_bytes(text, used);
+    if clear::keep_used(text, used) {
         return WriteAnswer::Written(used);
     }
-    clear::clear_bytes(text, 0);
     WriteAnswer::Refused(Refusal::new(Reason::NoRoom, 0))
 }
 

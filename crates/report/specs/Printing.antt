@@ -4,23 +4,17 @@ pub mod Laws
 pub mod Examples
 use Prim.Native.Nat.{ℕ, _≤_}
 use mathlib.Core.Path.{_≡_}
-use mathlib.Core.Bool.{Bool, true, false}
 use mathlib.Core.List.{List}
 use lib.ListN.{length}
 use lib.Dec.{leb}
-use Rattle.formula.specs.Clear.{clearFrom}
+use Rattle.formula.specs.Clear.{clearFrom, keptUpTo}
 use Rattle.formula.specs.Store.{Stores}
 use Rattle.report.specs.Line.{used, held}
 
--- The bytes kept, by the test of room.
-abbrev pub kept : Bool → ℕ → ℕ
-kept true n = n
-kept false n = 0
-
 -- `n` is the place behind what was written.
 pub record Finishes (buffer : List ℕ) (n answer : ℕ) (after : List ℕ) : Type 0 where
-  pub answers : answer ≡ kept (leb n (length buffer)) n
-  pub leaves : after ≡ clearFrom 0 (kept (leb n (length buffer)) n) buffer
+  pub answers : answer ≡ keptUpTo (leb n (length buffer)) n
+  pub leaves : after ≡ clearFrom 0 (keptUpTo (leb n (length buffer)) n) buffer
 
 -- A text of at most `most` bytes is stored from a buffer's start.
 pub record StoresShort (most : ℕ) (buffer text after : List ℕ) (next : ℕ) : Type 0 where

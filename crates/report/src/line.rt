@@ -1,6 +1,6 @@
 // The lines of the programs, written into a lent buffer from its start: `accepted V C steps empty` and
 // `refused number word place`. Each function answers the place behind what it wrote; none asks for room but the last.
-use formula::clear::clear_bytes;
+use formula::clear::keep_used;
 use formula::decimal::put;
 use formula::decimal::write_bytes;
 use formula::decimal::write_number;
@@ -77,10 +77,8 @@ pub fn accepted_line(
 pub fn finish(line: &mut [u8], used: usize) -> usize
     ensures { λ r. ⌜ Finishes (now (line .entry)) used r (now (line .exit)) ⌝ }
 {
-    if used <= line.len() {
-        clear_bytes(line, used);
+    if keep_used(line, used) {
         return used;
     }
-    clear_bytes(line, 0);
     0
 }

@@ -8,7 +8,7 @@ use mathlib.Core.List.{List, [], _∷_, _++_, map, List·Memᴰ, List·Memᴰ·h
 use native.Mathlib.Numerals.{add-one}
 use native.Mathlib.Nat.{le-of-suc-le-suc, not-suc-le-zero}
 use native.Mathlib.Omega.{arith}
-use borrow.Author.Tests.{ltb-true, eqb-true, eq-eqb}
+use borrow.Author.Tests.{ltb-true, lt-ltb, eqb-true, eq-eqb}
 use lib.ListN.{length, getD, take, drop}
 use lib.Dec.{eqb}
 use lib.Seq.{drop-cons, take-suc-set}
@@ -18,7 +18,7 @@ use Rattle.qbf.specs.Connectives.{and-both, or-either, or-right}
 use Rattle.formula.specs.Bounds.{variableBound}
 use Rattle.formula.specs.Word.{wordOf}
 use Rattle.formula.specs.Word.Laws.{positive-word, negative-word, negative-bounded}
-use Rattle.formula.specs.Prefix.{entryOf, prefixOf, signedBy, entryWord, prefixWords, entryCount, entryAt, laterEntries, entryFits, putEntry, usedAfter, shownBy, entryShown, isQuantifier, quantifies, Entries}
+use Rattle.formula.specs.Prefix.{entryOf, prefixOf, signedBy, entryWord, prefixWords, entryCount, entryAt, laterEntries, entryFits, putEntry, usedAfter, entryShown, isQuantifier, quantifies, Entries}
 use Rattle.formula.specs.declared.literal.Variable.{Variable}
 use Rattle.formula.specs.declared.literal.Word.the-variants.{Positive, Negative}
 use Rattle.formula.specs.declared.prefix.Entry.the-variants.{Existential, Universal}
@@ -61,13 +61,13 @@ signed-magnitude universal zero = refl
 signed-magnitude universal (suc n) = refl
 
 pub words-listed : (P : Prefix) → listed (prefixOf (prefixWords P)) ≡ listed P
-unfolding prefixWords entryWord prefixOf
+unfolding prefixOf prefixWords entryWord
 words-listed [] = refl
 words-listed (x ∷ P) = rw (entry-variable (entryWord x), signed-magnitude (x .quantifier) (x .variable), words-listed P)
 
 -- An entry of a variable other than 0 is that of its words.
 pub words-entry : (q : Quantifier) (v : ℕ) → 1 ≤ v → prefixOf (prefixWords (entry v q ∷ [])) ≡ entry v q ∷ []
-unfolding prefixWords entryWord prefixOf
+unfolding prefixOf prefixWords entryWord
 words-entry q zero h = absurd (not-suc-le-zero h)
 words-entry existential (suc n) h = refl
 words-entry universal (suc n) h = refl
@@ -76,6 +76,11 @@ pub words-append : (P Q : Prefix) → prefixWords (P ++ Q) ≡ prefixWords P ++ 
 unfolding prefixWords
 words-append [] Q = refl
 words-append (x ∷ P) Q = ap {B = List ℤ} (λ r. entryWord x ∷ r) (words-append P Q)
+
+pub words-length : (P : Prefix) → length (prefixWords P) ≡ length P
+unfolding prefixWords
+words-length [] = refl
+words-length (x ∷ P) = ap suc (words-length P)
 
 -- The entry at a place, then those after it.
 pub entries-drop : (ws : List ℤ) (i : ℕ) → i < entryCount ws → drop i (prefixOf ws) ≡ entryAt ws i ∷ drop (suc i) (prefixOf ws)
@@ -171,6 +176,10 @@ put-entries ws used v q h l =
 pub put-more : (used : ℕ) → used < usedAfter used
 unfolding usedAfter
 put-more used = omega arith
+
+pub entry-room : (room used : ℕ) (x : Entry) (P : Prefix) → used + length (prefixWords (x ∷ P)) ≤ room → entryFits room used ≡ true
+unfolding entryFits prefixWords
+entry-room room used x P h = lt-ltb used room (omega arith)
 
 pub put-within : (room used : ℕ) → entryFits room used ≡ true → usedAfter used ≤ room
 unfolding entryFits usedAfter

@@ -1,11 +1,10 @@
 -- The written header and the written prefix lines under the reader: the header is taken, then each run's line lists its
 -- variables in order. Assumes nothing.
-use Prim.Native.Nat.{ℕ, zero, suc, _+_, _<_, _≤_}
+use Prim.Native.Nat.{ℕ, zero, suc, _+_, _≤_}
 use mathlib.Core.Path.{_≡_, refl, sym}
 use mathlib.Core.Logic.{_⊎_, inl, inr}
 use mathlib.Core.Bool.{Bool, true, false}
 use mathlib.Core.List.{
-  List,
   [],
   _∷_,
   _++_,
@@ -20,13 +19,13 @@ use mathlib.Core.List.{
   Memᴰ·cast,
 }
 use native.Mathlib.Omega.{arith}
-use borrow.Author.Tests.{lt-ltb, le-leb}
+use borrow.Author.Tests.{le-leb}
 use lib.ListN.{length, length-append}
 use lib.Dec.{eqb}
 use Rattle.qbf.specs.Formula.{Quantifier, existential, universal, Entry, entry, Prefix, listed, Distinct}
 use Rattle.formula.specs.Bounds.{variableBound, countBound}
 use Rattle.formula.specs.Prefix.{prefixWords, entryFits}
-use Rattle.formula.specs.Prefix.Laws.{words-append}
+use Rattle.formula.specs.Prefix.Laws.{words-append, entry-room}
 use Rattle.formula.specs.Tables.{isIn}
 use Rattle.formula.specs.Tables.Laws.{is-in-absent}
 use Rattle.formula.specs.Decimal.{decimal}
@@ -89,13 +88,12 @@ pub record Lists (v room : ℕ) (done P : Prefix) : Type 0 where
   pub within : length (prefixWords done) + length (prefixWords P) ≤ room
 
 lists-later : {v room : ℕ} {done : Prefix} {x : Entry} {P : Prefix} → Lists v room done (x ∷ P) → Lists v room (done ++ (x ∷ [])) P
-unfolding prefixWords
 lists-later {v} {room} {done} {x} {P} l =
     record {
       range = λ u m. l .range u (List·Memᴰ·tail m);
       distinct = l .distinct .1;
       fresh = λ u m k. apart u (List·Memᴰ·append-cases (listed done) (rw (map-append (λ (y : Entry). y .variable) done (x ∷ [])) at m)) k;
-      within = rw (words-append done (x ∷ []), length-append) (omega (arith, l .within));
+      within = rw (words-append done (x ∷ []), length-append) (omega (arith, rw (words-append (x ∷ []) P, length-append) at (l .within)));
     }
   where
     apart : (u : ℕ) → List·Memᴰ u (listed done) ⊎ List·Memᴰ u (x .variable ∷ []) → List·Memᴰ u (listed P) → ⊥
@@ -120,16 +118,16 @@ module _ (prefixRoom clauseRoom v c : ℕ) where
 
   lists-variable :
       (q : Quantifier) (filled : Bool) (done : Prefix) (n : ℕ)
-      → 1 ≤ n → n ≤ v → v ≤ variableBound → isIn n (listed done) ≡ false → length (prefixWords done) < prefixRoom
+      → 1 ≤ n → n ≤ v → v ≤ variableBound → isIn n (listed done) ≡ false → entryFits prefixRoom (length (prefixWords done)) ≡ true
       → Takes prefixRoom clauseRoom (inSet v c q filled done) (decimal n ++ (32 ∷ [])) (inSet v c q true (done ++ (entry n q ∷ [])))
-  unfolding step variableRefusal entryFits
+  unfolding step variableRefusal
   lists-variable q filled done zero p h b e r = absurd (omega arith)
   lists-variable q filled done (suc n) p h b e r =
       takes-token prefixRoom clauseRoom 32
       (inSet v c q true (done ++ (entry (suc n) q ∷ [])))
       (number-begins (suc n) (omega arith))
       space-blank
-      (λ at. rw (le-leb (suc n) v h, e, lt-ltb (length (prefixWords done)) prefixRoom r))
+      (λ at. rw (le-leb (suc n) v h, e, r))
 
   -- What stands before a variable opens the line of its quantifier.
   turns :
@@ -152,7 +150,7 @@ module _ (prefixRoom clauseRoom v c : ℕ) where
   -- An entry's text lists its variable.
   entry-takes :
       (done : Prefix) (q : Quantifier) (n last : ℕ) (s : State) → Line done last s
-      → 1 ≤ n → n ≤ v → v ≤ variableBound → isIn n (listed done) ≡ false → length (prefixWords done) < prefixRoom
+      → 1 ≤ n → n ≤ v → v ≤ variableBound → isIn n (listed done) ≡ false → entryFits prefixRoom (length (prefixWords done)) ≡ true
       → Takes prefixRoom clauseRoom s (entryText last (letterOf q) n) (inSet v c q true (done ++ (entry n q ∷ [])))
   unfolding entryText
   entry-takes done q n last s o p h b e r =
@@ -163,16 +161,17 @@ module _ (prefixRoom clauseRoom v c : ℕ) where
   prefix-takes :
       (done P : Prefix) (last : ℕ) (s : State) → v ≤ variableBound → Line done last s → Lists v prefixRoom done P
       → Takes prefixRoom clauseRoom s (prefixText last P) (betweenSets v c (done ++ P))
-  unfolding prefixText prefixWords
+  unfolding prefixText
   prefix-takes done [] last s b o l = rw append-nil (closes done last s o)
   prefix-takes done (x ∷ P) last s b o l =
       let n = x .variable in
       let q = x .quantifier in
       let r = l .range n (List·Memᴰ·head refl) in
       let e : isIn n (listed done) ≡ false = is-in-absent n (listed done) (λ m. l .fresh n m (List·Memᴰ·head refl)) in
-      let first = entry-takes done q n last s o (r .0) (r .1) b e (omega (arith, l .within)) in
+      let first = entry-takes done q n last s o (r .0) (r .1) b e (entry-room prefixRoom (length (prefixWords done)) x P (l .within)) in
       let later = prefix-takes (done ++ (x ∷ [])) P (letterOf q) (inSet v c q true (done ++ (x ∷ []))) b (set-open q) (lists-later l) in
-      takes-append prefixRoom clauseRoom first (rw (append-assoc done (x ∷ []) P) at later)
+      takes-append prefixRoom clauseRoom first
+      (rw (append-assoc done (x ∷ []) P) at later)
 
   -- From an empty prefix.
   pub prefix-taken :

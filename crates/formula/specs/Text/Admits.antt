@@ -2,7 +2,7 @@
 -- A property of each state is kept by every token. Assumes nothing.
 use Prim.Native.Nat.{ℕ, zero, suc, _+_, _≤_, _<_}
 use mathlib.Core.Path.{_≡_, refl, ap, _∙_}
-use mathlib.Core.Bool.{Bool, true, false, not, or-comm}
+use mathlib.Core.Bool.{Bool, true, false, or-comm}
 use mathlib.Core.Option.{Option, none, some}
 use mathlib.Core.List.{List, [], _∷_, _++_, append-assoc, append-nil}
 use native.Mathlib.Numerals.{add-one}
@@ -15,23 +15,20 @@ use Rattle.formula.specs.Bounds.{variableBound, countBound, matrixBound,
 use Rattle.qbf.specs.Formula.{Quantifier, existential, universal, entry, Prefix, listed}
 use Rattle.formula.specs.Word.{wordOf}
 use Rattle.formula.specs.Prefix.{entryWord, prefixWords, entryFits}
-use Rattle.formula.specs.Prefix.Laws.{words-listed, words-append}
+use Rattle.formula.specs.Prefix.Laws.{words-listed, words-append, words-length}
 use Rattle.formula.specs.Refusal.{refusal, require}
 use Rattle.formula.specs.Tables.{
   isIn,
   zeros,
-  listing,
-  prefixWord,
   prefixRefusal,
   literalWord,
   clauseWord,
   clausesRefusal,
-  listedIn,
   tablesRefusal,
   Admitted,
 }
 use Rattle.formula.specs.Token.{pWord, cnfWord, aWord, eWord, Placed, tokens}
-use Rattle.formula.specs.Text.{read, refused, State, wantsP, wantsCnf, wantsV, wantsC, betweenSets, inSet, clauses, stopped, isWord, unless, signed, openClause, openFrom, isOpen, headerWord, headerNumber, opens, setToken, putLiteral, clauseToken, clausesToken, clausesEnding, step, run, ending, reading}
+use Rattle.formula.specs.Text.{read, refused, State, wantsP, wantsCnf, wantsV, wantsC, betweenSets, inSet, clauses, stopped, isWord, unless, signed, openClause, openFrom, isOpen, headerNumber, opens, setToken, putLiteral, clauseToken, clausesToken, clausesEnding, step, run, ending, reading}
 use Rattle.formula.specs.Text.Laws.{variable-fine, literal-fine, closing-fine}
 use Rattle.formula.specs.Text.Distinct.{Apart, Ranged, ranged-in, apart-few}
 use Rattle.formula.specs.Text.Sets.Laws.{listed-snoc}
@@ -41,12 +38,14 @@ use Rattle.formula.specs.declared.refusal.Refusal.{Refusal}
 use Rattle.formula.specs.declared.token.Token.{Token}
 use Rattle.formula.specs.declared.token.Token.the-variants.{Natural, Negative, Word}
 
--- A variable within the range as an entry of the prefix, and with a sign as a word of a clause.
-prefix-word : (at : ℕ) (seen : List ℕ) (q : Quantifier) (n : ℕ) (next : ℕ → Option Refusal) → (n ≡ 0 → ⊥) → n ≤ variableBound → prefixWord at seen (wordOf (entryWord (entry n q))) next ≡ listing at (isIn n seen) (next n)
-unfolding wordOf entryWord
-prefix-word at seen q zero next z h = absurd (z refl)
-prefix-word at seen existential (suc n) next z h = rw (le-leb (suc n) variableBound h)
-prefix-word at seen universal (suc n) next z h = rw (le-leb (suc n) variableBound h)
+-- A variable within the range that was not seen: as an entry of the prefix, and with a sign as a word of a clause.
+prefix-entry :
+    (at : ℕ) (seen : List ℕ) (q : Quantifier) (n : ℕ) (rest : List ℤ) → (n ≡ 0 → ⊥) → n ≤ variableBound → isIn n seen ≡ false
+    → prefixRefusal at seen (prefixWords (entry n q ∷ []) ++ rest) ≡ prefixRefusal (at + length (prefixWords (entry n q ∷ []))) (n ∷ seen) rest
+unfolding wordOf entryWord prefixWords prefixRefusal
+prefix-entry at seen q zero rest z h f = absurd (z refl)
+prefix-entry at seen existential (suc n) rest z h f = rw (le-leb (suc n) variableBound h, f)
+prefix-entry at seen universal (suc n) rest z h f = rw (le-leb (suc n) variableBound h, f)
 
 clause-word : (known : ℕ → Bool) (at : ℕ) (seen : List ℕ) (positive : Bool) (n : ℕ) (next : List ℕ → Option Refusal) → (n ≡ 0 → ⊥) → n ≤ variableBound → clauseWord known at seen (wordOf (signed positive n)) next ≡ literalWord at (known n) (isIn n seen) (next (n ∷ seen))
 unfolding wordOf
@@ -64,29 +63,24 @@ pub record PrefixPasses (v : ℕ) (P : Prefix) : Type 0 where
   pub passes : (rest : List ℤ) → prefixRefusal 0 [] (prefixWords P ++ rest) ≡ prefixRefusal (length (prefixWords P)) seen rest
   pub apart : Apart seen
   pub ranged : Ranged v seen
-  pub long : length (prefixWords P) ≡ length seen
+  pub long : length P ≡ length seen
 
 prefix-empty : (v : ℕ) → PrefixPasses v []
 unfolding prefixWords
 prefix-empty v = record { seen = []; agrees = λ n. refl; passes = λ rest. refl; apart = tt; ranged = tt; long = refl }
 
--- One more entry is one more word.
-words-snoc : (P : Prefix) (n : ℕ) (q : Quantifier) → prefixWords (P ++ (entry n q ∷ [])) ≡ prefixWords P ++ (entryWord (entry n q) ∷ [])
-unfolding prefixWords
-words-snoc P n q = words-append P (entry n q ∷ [])
-
 prefix-more : (v : ℕ) (P : Prefix) (q : Quantifier) (n : ℕ) → v ≤ variableBound → PrefixPasses v P → (n ≡ 0 → ⊥) → n ≤ v → isIn n (listed P) ≡ false → PrefixPasses v (P ++ (entry n q ∷ []))
-unfolding isIn prefixRefusal
+unfolding isIn
 prefix-more v P q n b h z l f =
     let absent : isIn n (h .seen) ≡ false = h .agrees n ∙ f in
-    let w = entryWord (entry n q) in
+    let w = prefixWords (entry n q ∷ []) in
     record {
       seen = n ∷ h .seen;
       agrees = λ m. rw (listed-snoc m P n q, ← h .agrees m) (or-comm (eqb m n) (isIn m (h .seen)));
-      passes = λ rest. rw (words-snoc P n q, append-assoc, h .passes (w ∷ rest), prefix-word (length (prefixWords P)) (h .seen) q n (λ u. prefixRefusal (length (prefixWords P) + 1) (u ∷ h .seen) rest) z (omega (arith, b, l)), absent, length-snoc (prefixWords P) w);
+      passes = λ rest. rw (words-append P (entry n q ∷ []), append-assoc, h .passes (w ++ rest), prefix-entry (length (prefixWords P)) (h .seen) q n rest z (omega (arith, b, l)) absent, length-append (prefixWords P) w);
       apart = (absent, h .apart);
       ranged = (omega (arith, z), l, h .ranged);
-      long = rw (words-snoc P n q, length-snoc (prefixWords P) w, h .long) (add-one (length (h .seen)));
+      long = rw (length-append P (entry n q ∷ []), h .long) (add-one (length (h .seen)));
     }
 
 -- The clause words pass: what follows them is checked with the open clause as seen.
@@ -204,7 +198,7 @@ admits v c P words h e =
     let K = h .2 in
     let C = h .3 in
     let few = apart-few v (K .seen) (K .apart) (K .ranged) in
-    let a : leb (length (prefixWords P)) variableBound ≡ true = le-leb (length (prefixWords P)) variableBound (omega (arith, few, K .long, h .0)) in
+    let a : leb (length (prefixWords P)) variableBound ≡ true = le-leb (length (prefixWords P)) variableBound (omega (arith, few, K .long, words-length P, h .0)) in
     let b : leb (length words) matrixBound ≡ true = le-leb (length words) matrixBound (C .short) in
     let d : leb (zeros words) countBound ≡ true = le-leb (zeros words) countBound (omega (arith, C .few, h .1)) in
     let p : prefixRefusal 0 [] (prefixWords P) ≡ none = rw append-nil at (K .passes []) in

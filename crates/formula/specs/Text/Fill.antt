@@ -1,6 +1,6 @@
 -- What the function that fills both tables promises. Laws are in Fill/Laws.antt.
 pub mod Laws
-use Prim.Native.Nat.{ℕ, _≤_}
+use Prim.Native.Nat.{_≤_}
 use mathlib.Core.Path.{_≡_}
 use mathlib.Core.List.{List}
 use lib.IntN.{ℤ}

@@ -10,12 +10,12 @@ use lib.ListN.{length, replicate}
 use lib.Seq.{sets, length-sets}
 use lib.Dec.{leb}
 use lib.IntN.{ℤ}
-use Rattle.formula.specs.Clear.{clearFrom}
+use Rattle.formula.specs.Clear.{clearFrom, keptUpTo}
 use Rattle.formula.specs.Clear.Laws.{clear-all, clear-stored}
 use Rattle.formula.specs.Store.{Stores}
 use Rattle.formula.specs.Tables.{tablesRefusal, Admitted}
 use Rattle.formula.specs.Written.{written, ifRoom, writingRefusal, textAfter, Writes}
-use Rattle.formula.specs.Writing.{keptUpTo, Finishes}
+use Rattle.formula.specs.Writing.{Finishes}
 use Rattle.formula.specs.declared.refusal.Refusal.{Refusal}
 use Rattle.formula.specs.declared.write.WriteAnswer.{WriteAnswer}
 use Rattle.formula.specs.declared.write.WriteAnswer.the-variants.{Refused}
@@ -41,7 +41,7 @@ module _ (p c : List ℤ) where
     where
       cleared :
           (b : Bool) → leb (length (written p c)) (length text) ≡ b → length middle ≡ length text → used ≡ length (written p c)
-          → clearFrom 0 (keptUpTo (ifRoom (leb used (length middle))) used) middle ≡ textAfter (ifRoom (leb (length (written p c)) (length text))) (written p c) (length text)
+          → clearFrom 0 (keptUpTo (leb used (length middle)) used) middle ≡ textAfter (ifRoom (leb (length (written p c)) (length text))) (written p c) (length text)
       cleared true e room end =
           rw (room, end, e, s .stored) (clear-stored 0 text (written p c) (leb-true (length (written p c)) (length text) e))
       cleared false e room end =

@@ -1,6 +1,6 @@
 -- Laws of reading the sets: the marks of the variables listed, and one law for each outcome of a token in a set.
 -- Assumes nothing.
-use Prim.Native.Nat.{ℕ, zero, suc, _+_, _≤_, _<_}
+use Prim.Native.Nat.{ℕ, zero, suc, _≤_, _<_}
 use mathlib.Core.Path.{_≡_, refl, sym, _∙_}
 use mathlib.Core.Bool.{Bool, true, false, _||_, or-true, or-false}
 use mathlib.Core.Option.{Option, none, some}
@@ -15,7 +15,7 @@ use lib.IntN.{ℤ}
 use Rattle.qbf.specs.Formula.{Quantifier, entry, Prefix, listed}
 use Rattle.formula.specs.Bounds.{variableBound}
 use Rattle.formula.specs.Refusal.{refusal}
-use Rattle.formula.specs.Prefix.{prefixOf, entryFits, putEntry, usedAfter, quantifierOf}
+use Rattle.formula.specs.Prefix.{prefixOf, entryFits, usedAfter, quantifierOf}
 use Rattle.formula.specs.Prefix.Laws.{prefix-none, prefix-words, put-entries, put-more, put-within}
 use Rattle.formula.specs.Tables.{isIn, zeros}
 use Rattle.formula.specs.Token.{aWord, eWord, nextToken}

@@ -1,5 +1,4 @@
 -- `write_word` stores the bytes that stand first in what `word` answers. Assumes nothing.
-use Prim.Native.Nat.{_≤_}
 use mathlib.Core.Path.{_≡_}
 use native.Mathlib.Omega.{arith}
 use lib.ListN.{length, take, length-take}
