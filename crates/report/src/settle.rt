@@ -45,10 +45,7 @@ pub fn settle_formula(
     ensures { λ r. ⌜ FormulaSettled bound (now (file .entry)) (length (now (prefix .entry))) (length (now (clauses .entry))) (now (prefix .exit)) (now (clauses .exit)) r ⌝ }
 {
     match FileLength::new(file.len(), bound) {
-        FileFit::Oversized => ReadAnswer::Refused(Refusal {
-            reason: Reason::Oversized,
-            place: 0,
-        }),
+        FileFit::Oversized => ReadAnswer::Refused(Refusal::new(Reason::Oversized, 0)),
         FileFit::Within(_) => read_formula(file, prefix, clauses),
     }
 }
@@ -58,10 +55,7 @@ pub fn settle_proof(file: &[u8], bound: usize, clause_count: u32, steps: &mut [i
     ensures { λ r. ⌜ ProofSettled bound (now (file .entry)) «clause_count» (length (now (steps .entry))) (now (steps .exit)) r ⌝ }
 {
     match FileLength::new(file.len(), bound) {
-        FileFit::Oversized => ProofAnswer::Refused(Refusal {
-            reason: Reason::Oversized,
-            place: 0,
-        }),
+        FileFit::Oversized => ProofAnswer::Refused(Refusal::new(Reason::Oversized, 0)),
         FileFit::Within(_) => read_proof(file, clause_count, steps),
     }
 }

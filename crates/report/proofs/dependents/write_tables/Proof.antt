@@ -12,9 +12,10 @@ use Rattle.report.proofs.dependents.write_tables.Tie as tie
 returns : tie.Need-returns
 unfolding tablesText scratchBound
 returns c =
-    let s = c .before .before .before .before .before .before .before in
-    let stored = c .before .before .refused-line .ensures in
-    rw (lt-leb scratchBound (length (s .args .scratch .now)) (c .before .before .before .before .if1 .taken)) (record { stores = stored .stores; short = omega (arith, stored .short) })
+    let other = c .before .before .before .before .before in
+    let s = other .before .before .before in
+    let stored = rw (c .before .before .before .new .ensures) at (c .before .before .refused-line .ensures) in
+    rw (lt-leb scratchBound (length (s .args .scratch .now)) (other .if1 .taken)) (record { stores = stored .stores; short = omega (arith, stored .short) })
 
 returns-2 : tie.Need-returns-2
 unfolding tablesText scratchBound
@@ -25,9 +26,11 @@ returns-2 c =
     (record { stores = c .before .before .before .before .write-lines .ensures; short = universal-lines-short _ _ (s .pre) })
 
 pub write-tables-spec : {M : Type 1} → statement M
+unfolding scratchBound
 write-tables-spec =
     tie.close
     (tie.spec
+    (λ c κs. search needs)
     (λ c κs. search needs)
     (λ c. search needs)
     returns
