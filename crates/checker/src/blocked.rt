@@ -6,7 +6,7 @@ ghost use lib.ListN.{length, getD};
 ghost use lib.Dec.{eqb};
 ghost use lib.IntN.{natAbs};
 ghost use Rattle.checker.specs.Words.Places.{clauseAt};
-ghost use Rattle.checker.specs.Blocking.{touches};
+ghost use Rattle.checker.specs.Blocked.{touches};
 
 // The byte of a word's variable is 1.
 fn word_touches(word: i32, row: &[u8]) -> bool

@@ -88,30 +88,18 @@ fn check_trailer(file: &[u8], clause_count: u32, room: usize) -> ProofAnswer
         let start = file.len() - TRAILER;
         let words = (number_at(file, start) as usize) / 4;
         let ProofFit::Within(_) = ProofLength::new(words) else {
-            return ProofAnswer::Refused(Refusal {
-                reason: Reason::Oversized,
-                place: 0,
-            });
+            return ProofAnswer::Refused(Refusal::new(Reason::Oversized, 0));
         };
         let count = number_at(file, start + 4);
         if count != clause_count {
-            return ProofAnswer::Refused(Refusal {
-                reason: Reason::OtherFormula,
-                place: 0,
-            });
+            return ProofAnswer::Refused(Refusal::new(Reason::OtherFormula, 0));
         }
         if room < words {
-            return ProofAnswer::Refused(Refusal {
-                reason: Reason::NoRoom,
-                place: 0,
-            });
+            return ProofAnswer::Refused(Refusal::new(Reason::NoRoom, 0));
         }
         ProofAnswer::Read(words)
     } else {
-        ProofAnswer::Refused(Refusal {
-            reason: Reason::NoTrailer,
-            place: 0,
-        })
+        ProofAnswer::Refused(Refusal::new(Reason::NoTrailer, 0))
     }
 }
 

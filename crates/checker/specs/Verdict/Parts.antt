@@ -16,8 +16,8 @@ use Rattle.checker.specs.declared.run.Found.the-variants.{Clause, Nothin
 use Rattle.checker.specs.declared.verdict.Verdict.the-variants.{Accepted, Refused}
 use Rattle.checker.specs.Words.{Words}
 use Rattle.checker.specs.Kinds.{kindsFrom, kindsOf}
-use Rattle.checker.specs.Stepping.{Ready}
-use Rattle.checker.specs.Stepping.Laws.{length-kinds}
+use Rattle.checker.specs.Step.{Ready}
+use Rattle.checker.specs.Step.Laws.{length-kinds}
 use Rattle.checker.specs.Running.{foundOf}
 use Rattle.checker.specs.Verdict.{concluded}
 

@@ -9,7 +9,7 @@ use lib.IntN.{pos, natAbs}
 use mir.Syntax.{w32}
 use mir.Val.{toZ, ofZ}
 use Rattle.checker.specs.Words.Places.{clauseAt, clause-past, clause-zero, clause-literal}
-use Rattle.checker.specs.Blocking.{touches}
+use Rattle.checker.specs.Blocked.{touches}
 use Rattle.checker.proofs.Signed.{read-zero, read-back}
 use Rattle.checker.proofs.blocked.row_touches.Statement.{statement}
 use Rattle.checker.proofs.blocked.row_touches.Tie as tie

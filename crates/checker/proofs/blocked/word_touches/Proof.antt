@@ -8,7 +8,7 @@ use lib.IntN.{natAbs}
 use Rattle.formula.specs.Word.{wordOf}
 use Rattle.formula.specs.declared.literal.Word.{Word}
 use Rattle.formula.specs.declared.literal.Word.the-variants.{Positive, Negative}
-use Rattle.checker.specs.Blocking.Laws.{byteOf, byte-read}
+use Rattle.checker.specs.Blocked.Laws.{byteOf, byte-read}
 use Rattle.checker.proofs.Signed.{read-word, positive-bound, negative-bound}
 use Rattle.checker.proofs.blocked.word_touches.Statement.{statement}
 use Rattle.checker.proofs.blocked.word_touches.Tie as tie

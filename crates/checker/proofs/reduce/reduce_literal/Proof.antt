@@ -11,8 +11,8 @@ use Rattle.checker.specs.Words.{holds}
 use Rattle.checker.specs.Words.Places.{clauseAt}
 use Rattle.checker.specs.Kinds.{universalOf}
 use Rattle.checker.specs.Kinds.Laws.{universal-found}
-use Rattle.checker.specs.Stepping.{kindsIn}
-use Rattle.checker.specs.Stepping.Laws.{ready-clean, ready-kinds}
+use Rattle.checker.specs.Step.{kindsIn}
+use Rattle.checker.specs.Step.Laws.{ready-clean, ready-kinds}
 use Rattle.checker.proofs.reduce.reduce_literal.Statement.{statement}
 use Rattle.checker.proofs.reduce.reduce_literal.Tie as tie
 

@@ -8,8 +8,8 @@ use borrow.Author.Needs.{needs}
 use Rattle.checker.specs.Words.Places.{clauseAt}
 use Rattle.checker.specs.Steps.{blocked}
 use Rattle.checker.specs.Verdict.{scopeOf}
-use Rattle.checker.specs.Blocking.Laws.{row-blocked}
-use Rattle.checker.specs.Stepping.Laws.{part-back, front-kept, row-in, first-part}
+use Rattle.checker.specs.Blocked.Laws.{row-blocked}
+use Rattle.checker.specs.Step.Laws.{part-back, front-kept, row-in, first-part}
 use Rattle.checker.proofs.reduce.reduce_on.Statement.{statement}
 use Rattle.checker.proofs.reduce.reduce_on.Tie as tie
 

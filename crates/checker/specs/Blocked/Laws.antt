@@ -19,7 +19,7 @@ use Rattle.checker.specs.Words.{Words}
 use Rattle.checker.specs.Steps.{blocked}
 use Rattle.checker.specs.Verdict.{scopeOf}
 use Rattle.checker.specs.Marks.Judging.{AllInRange}
-use Rattle.checker.specs.Blocking.{touches}
+use Rattle.checker.specs.Blocked.{touches}
 
 mark-one : (b : Bool) → eqb (mark b) 1 ≡ b
 mark-one true = refl

@@ -12,7 +12,7 @@ use Rattle.checker.specs.Steps.{resolvent, opposed, states, judgeStateme
 use Rattle.checker.specs.Marks.{markAll, tickAll, wipeAll, meets, ticks, leaves, Marked, Ticked, Wiped}
 use Rattle.checker.specs.Marks.Laws.{mark-append, meets-append, wipe-append, leaves-append}
 use Rattle.checker.specs.Marks.Judging.{InRange, AllInRange, clean, clean-meets, clean-states, clean-wiped}
-use Rattle.checker.specs.Judgements.{resultReason, decided, JudgedClean}
+use Rattle.checker.specs.Result.{resultReason, decided, JudgedClean}
 
 module _ (e : ℤ) (C D : Words) (m m₁ m₂ : List ℕ) (first second : Bool) where
   pub both-marked : Marked m (without e C) first m₁ → Marked m₁ (without (negℤ e) D) second m₂ → Marked m (resolvent e C D) (first || second) m₂

@@ -24,20 +24,20 @@ use Rattle.formula.specs.declared.refusal.Reason.{Reason}
 use Rattle.formula.specs.declared.refusal.Reason.the-variants.{WrongPivot, BrokenStep, NoRoom}
 use Rattle.checker.specs.Words.{Words, holds}
 use Rattle.checker.specs.Words.Places.{clauseAt}
+use Rattle.checker.specs.declared.result.Judgement.{Judgement}
 use Rattle.checker.specs.declared.result.Judgement.the-variants.{Right, Wrong}
 use Rattle.checker.specs.declared.step.StepAnswer.the-variants.{Right as RightStep, Wrong as WrongStep}
-use Rattle.checker.specs.Steps.{Scope, Step, sizeOf, readStep, resolvent, positiveExistential, unless, judgeResolution, judgeReduction, judge, judgeFirst}
+use Rattle.checker.specs.Steps.{Scope, Step, resolution, reduction, sizeOf, readStep, antecedent, resolvent, positiveExistential, unless, judgeResolution, judgeReduction, judge, judgeFirst}
 use Rattle.checker.specs.Lawful.Deciding.{found-member}
 use Rattle.checker.specs.Lawful.Running.{AllWords}
 use Rattle.checker.specs.Verdict.{scopeOf}
-use Rattle.checker.specs.Numbered.{tableOf, storedAt, stored}
+use Rattle.checker.specs.Numbered.{tableOf, placeOf, storedAt, stored}
 use Rattle.checker.specs.Numbered.Laws.{stored-get}
 use Rattle.checker.specs.Marks.Judging.{InRange, AllInRange, clean}
 use Rattle.checker.specs.Kinds.{kindWord, kindsFrom, kindsOf}
-use Rattle.checker.specs.Reading.{listOf}
 use Rattle.checker.specs.Kinds.Laws.{existential-fit, universal-fit}
-use Rattle.checker.specs.Judgements.{judgementOf, resultReason}
-use Rattle.checker.specs.Stepping.{kindsIn, Clean, Ready, resolvingReason, resolutionReason, freeReason, reducingReason, reductionReason, stepAnswer}
+use Rattle.checker.specs.Result.{judgementOf, resultReason}
+use Rattle.checker.specs.Step.{kindsIn, Clean, Ready, resolvingReason, resolutionReason, freeReason, reducingReason, reductionReason, Answers, stepAnswer}
 
 -- A part that comes back as it was.
 pub part-back : (xs ys : List ℕ) (a k : ℕ) → ys ≡ take k (drop a xs) → take a xs ++ (ys ++ drop k (drop a xs)) ≡ xs
@@ -107,20 +107,20 @@ length-kinds-in scratch h = length-take-le 1025 (drop 7175 scratch) (kinds-there
 
 -- A numbered clause by its number.
 pub stored-by-number :
-    (inputs : ℕ) (clauses steps : Words) (starts : List ℕ) (n : ℕ) → 1 ≤ n
-    → storedAt inputs clauses steps starts (n - 1) ≡ clauseAt (tableOf (leb n inputs) clauses steps) (getD starts (n - 1) 0)
+    (inputs : ℕ) (clauses steps : Words) (offsets : List ℕ) (n : ℕ) → 1 ≤ n
+    → storedAt inputs clauses steps offsets (n - 1) ≡ clauseAt (tableOf (leb n inputs) clauses steps) (placeOf (leb n inputs) steps (getD offsets (n - 1) 0))
 unfolding storedAt
-stored-by-number inputs clauses steps starts n h =
+stored-by-number inputs clauses steps offsets n h =
     let e : suc (n - 1) ≡ n = omega arith in
-    ap (λ (k : ℕ). clauseAt (tableOf (leb k inputs) clauses steps) (getD starts (n - 1) 0)) e
+    ap (λ (k : ℕ). clauseAt (tableOf (leb k inputs) clauses steps) (placeOf (leb k inputs) steps (getD offsets (n - 1) 0))) e
 
 pub stored-in-range :
-    (inputs : ℕ) (clauses steps : Words) (starts : List ℕ) (last n : ℕ) → 1 ≤ n → n ≤ last
-    → AllWords InRange (stored inputs clauses steps starts last)
-    → AllInRange (storedAt inputs clauses steps starts (n - 1))
-stored-in-range inputs clauses steps starts last n h k all =
-    all (storedAt inputs clauses steps starts (n - 1))
-    (found-member (stored inputs clauses steps starts last) (n - 1) (storedAt inputs clauses steps starts (n - 1)) (stored-get inputs clauses steps starts last (n - 1) (omega arith)))
+    (inputs : ℕ) (clauses steps : Words) (offsets : List ℕ) (last n : ℕ) → 1 ≤ n → n ≤ last
+    → AllWords InRange (stored inputs clauses steps offsets last)
+    → AllInRange (storedAt inputs clauses steps offsets (n - 1))
+stored-in-range inputs clauses steps offsets last n h k all =
+    all (storedAt inputs clauses steps offsets (n - 1))
+    (found-member (stored inputs clauses steps offsets last) (n - 1) (storedAt inputs clauses steps offsets (n - 1)) (stored-get inputs clauses steps offsets last (n - 1) (omega arith)))
 
 -- The judgement from its parts, on tables that pass.
 module _ (prefix clauses : List ℤ) (a : Admitted prefix clauses) where
@@ -150,6 +150,26 @@ module _ (prefix clauses : List ℤ) (a : Admitted prefix clauses) where
       ap (λ (f : VariableFit). reducingReason (scopeOf prefix clauses) f x C L) (universal-fit prefix clauses a x)
       ∙ reducing x C L (isUniversal prefix (natAbs x))
 
+  -- The answers of the two kinds, with the kinds of the variables in the scratch.
+  module _ (scratch : List ℕ) (ready : Ready prefix scratch) (known : List Words) (r : Judgement) (scratch′ : List ℕ) where
+    pub resolution-answers :
+        (i j e : ℤ) (L : Words) → Answers (resolutionReason (kindsIn scratch) e L (antecedent known i) (antecedent known j)) r scratch scratch′
+        → Answers (judge (scopeOf prefix clauses) known (resolution i j e L)) r scratch scratch′
+    resolution-answers i j e L h =
+        record {
+          answer = (rw (ready-kinds prefix scratch ready) at (h .answer)) ∙ ap judgementOf (resolution-judged e L (antecedent known i) (antecedent known j));
+          kept = h .kept;
+        }
+
+    pub reduction-answers :
+        (i x : ℤ) (L : Words) → Answers (reductionReason (scopeOf prefix clauses) (kindsIn scratch) x L (antecedent known i)) r scratch scratch′
+        → Answers (judge (scopeOf prefix clauses) known (reduction i x L)) r scratch scratch′
+    reduction-answers i x L h =
+        record {
+          answer = (rw (ready-kinds prefix scratch ready) at (h .answer)) ∙ ap judgementOf (reduction-judged x L (antecedent known i));
+          kept = h .kept;
+        }
+
 -- The step's answer, by what was read and judged.
 module _ (S : Scope) (room : ℕ) (known : List Words) (ws : Words) (at : ℕ) where
   pub step-broken : readStep ws ≡ none → WrongStep BrokenStep ≡ stepAnswer at (judgeFirst S room known ws)
@@ -160,7 +180,7 @@ module _ (S : Scope) (room : ℕ) (known : List Words) (ws : Words) (at : ℕ) w
   unfolding judgeFirst
   step-no-room s e h = rw (e, le-ltb (length known) room h)
 
-  pub step-right : (s : Step) → readStep ws ≡ some s → length known < room → judge S known s ≡ none → RightStep (listOf at s) (at + sizeOf s) ≡ stepAnswer at (judgeFirst S room known ws)
+  pub step-right : (s : Step) → readStep ws ≡ some s → length known < room → judge S known s ≡ none → RightStep (at + sizeOf s) ≡ stepAnswer at (judgeFirst S room known ws)
   unfolding judgeFirst
   step-right s e h j = rw (e, lt-ltb (length known) room h, j)
 

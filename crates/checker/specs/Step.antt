@@ -1,5 +1,5 @@
 -- What the parts of a step's check answer, and the parts of the scratch: 0 to 5,125 the making of a row, whose last 1,025 bytes
--- are the row, to 7,175 the marks, to 8,200 the kinds. That they make up the judgement of Steps.antt is in Stepping/Laws.antt.
+-- are the row, to 7,175 the marks, to 8,200 the kinds. That they make up the judgement of Steps.antt is in Step/Laws.antt.
 pub mod Laws
 use Prim.Native.Nat.{ℕ, _+_}
 use mathlib.Core.Path.{_≡_}
@@ -19,9 +19,8 @@ use Rattle.checker.specs.declared.step.StepAnswer.the-variants.{Right as
 use Rattle.checker.specs.Words.{Words, holds}
 use Rattle.checker.specs.Steps.{Scope, sizeOf, resolvent, blocked, unless, Judged, right, wrong}
 use Rattle.checker.specs.Marks.Judging.{clean}
-use Rattle.checker.specs.Reading.{listOf}
 use Rattle.checker.specs.Kinds.{kindsOf, existentialOf, universalOf}
-use Rattle.checker.specs.Judgements.{judgementOf, resultReason, statementReason}
+use Rattle.checker.specs.Result.{judgementOf, resultReason, statementReason}
 
 abbrev pub marksIn : List ℕ → List ℕ
 marksIn scratch = take 2050 (drop 5125 scratch)
@@ -70,9 +69,9 @@ pub record Answers (reason : Option Reason) (r : Judgement) (scratch scratch′ 
   pub answer : r ≡ judgementOf reason
   pub kept : drop 5125 scratch′ ≡ drop 5125 scratch
 
--- The step's answer: where its statement begins and where the next step does.
+-- The step's answer: where the next step begins.
 abbrev pub stepAnswer : ℕ → Judged → StepAnswer
-stepAnswer at (right s) = RightStep (listOf at s) (at + sizeOf s)
+stepAnswer at (right s) = RightStep (at + sizeOf s)
 stepAnswer at (wrong r) = WrongStep r
 
 pub record StepChecked (at : ℕ) (j : Judged) (r : StepAnswer) (scratch scratch′ : List ℕ) : Type 0 where
