@@ -18,7 +18,7 @@ use Rattle.checker.specs.declared.step.StepAnswer.{StepAnswer}
 use Rattle.checker.specs.declared.step.StepAnswer.the-variants.{Right as RightStep, Wrong as WrongStep}
 use Rattle.checker.specs.Words.{Words, holds}
 use Rattle.checker.specs.Steps.{Scope, sizeOf, resolvent, blocked, unless, Judged, right, wrong}
-use Rattle.checker.specs.Marks.Judging.{clean}
+use Rattle.checker.specs.Marks.{clean}
 use Rattle.checker.specs.Kinds.{kindsOf, existentialOf, universalOf}
 use Rattle.checker.specs.Result.{judgementOf, resultReason, statementReason}
 

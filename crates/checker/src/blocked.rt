@@ -1,11 +1,10 @@
 // Does a variable of the clause depend on the reduced one? By the row of the reduced variable.
-use crate::word::is_zero;
 use formula::literal::Word;
 ghost use mathlib.Core.Path.{_≡_};
 ghost use lib.ListN.{length, getD};
 ghost use lib.Dec.{eqb};
 ghost use lib.IntN.{natAbs};
-ghost use Rattle.checker.specs.Words.Places.{clauseAt};
+ghost use Rattle.formula.specs.Decode.{clauseAt};
 ghost use Rattle.checker.specs.Blocked.{touches};
 
 // The byte of a word's variable is 1.
@@ -34,7 +33,7 @@ pub fn row_touches(words: &[i32], from: usize, row: &[u8]) -> bool
     let mut i = from;
     while i < words.len() {
         let word = words[i];
-        if is_zero(word) {
+        if Word::is_zero(word) {
             return false;
         }
         if word_touches(word, row) {

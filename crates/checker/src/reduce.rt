@@ -23,12 +23,11 @@ ghost use lib.IntN.{pos};
 ghost use Rattle.formula.specs.Word.{wordOf};
 ghost use Rattle.formula.specs.Tables.{Admitted};
 ghost use Rattle.dependency.specs.Row.{isUniversal};
-ghost use Rattle.checker.specs.Words.Places.{clauseAt};
+ghost use Rattle.formula.specs.Decode.{clauseAt};
 ghost use Rattle.checker.specs.Steps.{antecedent};
-ghost use Rattle.checker.specs.Lawful.Running.{AllWords};
+ghost use Rattle.checker.specs.Words.{AllWords, InRange, AllInRange};
 ghost use Rattle.checker.specs.Verdict.{scopeOf};
 ghost use Rattle.checker.specs.Numbered.{stored};
-ghost use Rattle.checker.specs.Marks.Judging.{InRange, AllInRange};
 ghost use Rattle.checker.specs.Kinds.{universalOf};
 ghost use Rattle.checker.specs.Step.{Clean, Ready, freeReason, reducingReason, reductionReason, Answers, kindsIn};
 

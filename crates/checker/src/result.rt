@@ -11,9 +11,9 @@ ghost use Prim.Native.Nat.{_≤_};
 ghost use lib.ListN.{length};
 ghost use lib.IntN.{pos};
 ghost use Rattle.checker.specs.Steps.{resolvent};
-ghost use Rattle.checker.specs.Words.Places.{clauseAt};
-ghost use Rattle.checker.specs.Marks.{Marked, Wiped};
-ghost use Rattle.checker.specs.Marks.Judging.{AllInRange, clean};
+ghost use Rattle.formula.specs.Decode.{clauseAt};
+ghost use Rattle.checker.specs.Marks.{Marked, Wiped, clean};
+ghost use Rattle.checker.specs.Words.{AllInRange};
 ghost use Rattle.checker.specs.Result.{decided, JudgedClean, resultReason, statementReason};
 
 // Nothing is wrong, or why the step is refused.

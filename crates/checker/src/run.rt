@@ -3,15 +3,14 @@ use crate::numbered::place_of;
 use crate::numbered::table_of;
 use crate::step::StepAnswer;
 use crate::step::check_step;
-use crate::word::is_zero;
 use formula::literal::ClauseNumber;
+use formula::literal::Word;
 use formula::refusal::Refusal;
 ghost use mathlib.Core.Path.{_≡_};
 ghost use Prim.Native.Nat.{_≤_, _<_, _+_};
 ghost use lib.ListN.{length};
-ghost use Rattle.formula.specs.Decode.{clausesOf};
+ghost use Rattle.formula.specs.Decode.{clausesOf, clauseAt};
 ghost use Rattle.formula.specs.Tables.{Admitted};
-ghost use Rattle.checker.specs.Words.Places.{clauseAt};
 ghost use Rattle.checker.specs.Verdict.{firstEmpty};
 ghost use Rattle.checker.specs.Numbered.{storedAt, stored};
 ghost use Rattle.checker.specs.Step.{Ready};
@@ -69,7 +68,7 @@ fn clause_is_empty(words: &[i32], from: usize) -> bool
 {
     if from < words.len() {
         let word = words[from];
-        return is_zero(word);
+        return Word::is_zero(word);
     }
     true
 }

@@ -12,10 +12,9 @@ ghost use lib.ListN.{length, drop};
 ghost use Rattle.formula.specs.Decode.{clauseAt};
 ghost use Rattle.formula.specs.Tables.{Admitted};
 ghost use Rattle.checker.specs.Steps.{judge, judgeFirst};
-ghost use Rattle.checker.specs.Lawful.Running.{AllWords};
+ghost use Rattle.checker.specs.Words.{AllWords, InRange};
 ghost use Rattle.checker.specs.Verdict.{scopeOf};
 ghost use Rattle.checker.specs.Numbered.{stored};
-ghost use Rattle.checker.specs.Marks.Judging.{InRange};
 ghost use Rattle.checker.specs.Reading.{stepOf};
 ghost use Rattle.checker.specs.Step.{Ready, Answers, StepChecked};
 

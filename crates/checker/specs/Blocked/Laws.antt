@@ -15,10 +15,9 @@ use Rattle.formula.specs.Word.{wordOf, positive, negative}
 use Rattle.formula.specs.Decode.{formulaOf}
 use Rattle.formula.specs.declared.literal.Word.{Word}
 use Rattle.formula.specs.declared.literal.Word.the-variants.{Zero, TooLarge, Positive, Negative}
-use Rattle.checker.specs.Words.{Words}
+use Rattle.checker.specs.Words.{Words, AllInRange}
 use Rattle.checker.specs.Steps.{blocked}
 use Rattle.checker.specs.Verdict.{scopeOf}
-use Rattle.checker.specs.Marks.Judging.{AllInRange}
 use Rattle.checker.specs.Blocked.{touches}
 
 mark-one : (b : Bool) → eqb (mark b) 1 ≡ b

@@ -20,12 +20,11 @@ use Rattle.formula.specs.Tables.Laws.{is-in-sound, absent-is-in, admitted-prefi
 use Rattle.formula.specs.declared.literal.Variable.{Variable}
 use Rattle.formula.specs.declared.literal.VariableFit.{VariableFit}
 use Rattle.formula.specs.declared.literal.VariableFit.the-variants.{Within, Outside}
-use Rattle.checker.specs.Words.{holds}
+use Rattle.checker.specs.Words.{holds, InRange, AllInRange}
 use Rattle.checker.specs.Words.Laws.{not-true-false, holds-sound, holds-absent, absent-holds}
 use Rattle.checker.specs.Steps.{positiveExistential}
 use Rattle.checker.specs.Verdict.{scopeOf}
 use Rattle.checker.specs.Verdict.Deciding.{is-universal-word, word-is-universal}
-use Rattle.checker.specs.Marks.Judging.{InRange, AllInRange}
 use Rattle.checker.specs.Kinds.{kindWord, kindsFrom, kindsOf, existentialOf, universalOf}
 
 -- The byte that a word stores.

@@ -17,7 +17,7 @@ use Rattle.formula.specs.Refusal.{refusal}
 use Rattle.formula.specs.declared.refusal.Reason.{Reason}
 use Rattle.formula.specs.declared.refusal.Refusal.{Refusal}
 use Rattle.formula.specs.declared.refusal.Reason.the-variants.{Blocked}
-use Rattle.checker.specs.Words.{Words}
+use Rattle.checker.specs.Words.{Words, AllWords}
 use Rattle.checker.specs.Steps.{
   Scope,
   Step,
@@ -47,9 +47,6 @@ use Rattle.checker.specs.Lawful.{Resolvent, Lawful, wordsOf, stepWords, 
 use Rattle.checker.specs.Lawful.Deciding.{Decides, NoZeros, numbered-member, BlockedStep, judge-lawful, lawful-judge, judge-blocked}
 
 -- What holds of each word of each numbered clause holds of a lawful step's words, and then of all numbered clauses.
-abbrev pub AllWords : (ℤ → Type 0) → List Words → Type 0
-AllWords P known = (C : Words) → List·Memᴰ C known → (x : ℤ) → List·Memᴰ x C → P x
-
 module _ (P : ℤ → Type 0) (F : Formula) (known : List Words) (all : AllWords P known) where
   pub lawful-words : (s : Step) → Lawful F known s → (x : ℤ) → List·Memᴰ x (statedBy s) → P x
   lawful-words (resolution i j e L) l x m = go (l .states .only x m)

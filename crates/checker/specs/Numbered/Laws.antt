@@ -20,8 +20,8 @@ use Rattle.formula.specs.declared.literal.ClauseNumber.{ClauseNumber}
 use Rattle.formula.specs.declared.literal.NumberFit.{NumberFit}
 use Rattle.formula.specs.declared.literal.NumberFit.the-variants.{Within, Outside}
 use Rattle.checker.specs.Words.{Words}
-use Rattle.formula.specs.Decode.{clausesOf}
-use Rattle.checker.specs.Words.Places.{clauseAt, clauses-place}
+use Rattle.formula.specs.Decode.{clausesOf, clauseAt}
+use Rattle.formula.specs.Decode.Places.{clauses-place}
 use Rattle.checker.specs.Steps.{antecedent}
 use Rattle.checker.specs.Reading.{statementOf}
 use Rattle.checker.specs.Numbered.{numberOf, tableOf, placeOf, storedAt, stored, OffsetsFilled}

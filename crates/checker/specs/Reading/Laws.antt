@@ -9,7 +9,7 @@ use native.Mathlib.Nat.{not-suc-le-zero, le-of-suc-le-suc}
 use lib.ListN.{length, getD, drop, length-drop, List·getD-eq-default}
 use lib.Seq.{drop-cons, drop-drop, getD-drop}
 use lib.IntN.{ℤ, pos, negsuc}
-use Rattle.formula.specs.Decode.{firstClause}
+use Rattle.formula.specs.Decode.{firstClause, clauseAt}
 use Rattle.checker.specs.declared.read.Kind.{Kind as KindRead}
 use Rattle.checker.specs.declared.read.Kind.the-variants.{Resolves, Reduces, Other}
 use Rattle.checker.specs.declared.read.Close.the-variants.{At, Missing}
@@ -18,7 +18,6 @@ use Rattle.checker.specs.declared.read.StepRead.{StepRead}
 use Rattle.checker.specs.declared.read.Reading.the-variants.{Broken, Step as Fields}
 use Rattle.checker.specs.Words.{Words, sameWord, isZero, closes}
 use Rattle.checker.specs.Words.Laws.{same-sound, zero-ends, literal-first}
-use Rattle.checker.specs.Words.Places.{clauseAt}
 use Rattle.checker.specs.Steps.{Step, resolution, reduction, statedBy, sizeOf, Kind, resolves, reduces, other, kindOf, ifClosed, readFields, readStep}
 use Rattle.checker.specs.Reading.{kindRead, kindIs, statementFrom, statementOf, closeIf, closedAt, fieldsOf, readingOf, stepOf}
 

@@ -13,21 +13,19 @@ use lib.IntN.{ℤ, pos, natAbs}
 use Rattle.formula.specs.Refusal.{refusal}
 use Rattle.formula.specs.Tables.{Admitted}
 use Rattle.formula.specs.Tables.Laws.{admitted-literal}
-use Rattle.formula.specs.Decode.{formulaOf, clausesOf}
+use Rattle.formula.specs.Decode.{formulaOf, clausesOf, clauseAt}
 use Rattle.formula.specs.declared.refusal.Reason.{Reason}
 use Rattle.checker.specs.declared.step.StepAnswer.{StepAnswer}
 use Rattle.checker.specs.declared.step.StepAnswer.the-variants.{Right as RightStep, Wrong as WrongStep}
-use Rattle.checker.specs.Words.{Words}
-use Rattle.checker.specs.Words.Places.{clauseAt}
+use Rattle.checker.specs.Words.{Words, AllWords, InRange}
 use Rattle.checker.specs.Steps.{Scope, Step, resolution, reduction, statedBy, sizeOf, judge, Judged, right, wrong, judgeFirst, readStep, run, refused}
 use Rattle.checker.specs.Steps.Running.{run-right, run-wrong}
 use Rattle.checker.specs.Lawful.Deciding.{NoZeros, judge-lawful}
-use Rattle.checker.specs.Lawful.Running.{AllWords, lawful-all-words, rightly}
+use Rattle.checker.specs.Lawful.Running.{lawful-all-words, rightly}
 use Rattle.checker.specs.Verdict.{scopeOf, firstEmpty}
 use Rattle.checker.specs.Verdict.Deciding.{scope-decides}
 use Rattle.checker.specs.Numbered.{storedAt, stored}
 use Rattle.checker.specs.Numbered.Laws.{stored-length, stored-get, stored-at-later, stored-at-step, stored-set-later, stored-step}
-use Rattle.checker.specs.Marks.Judging.{InRange}
 use Rattle.checker.specs.Reading.{statementOf}
 use Rattle.checker.specs.Reading.Laws.{statement-read}
 use Rattle.checker.specs.Step.{stepAnswer, Ready}

@@ -22,18 +22,17 @@ use Rattle.formula.specs.declared.literal.Word.{Word}
 use Rattle.formula.specs.declared.literal.Word.the-variants.{Zero, TooLarge, Positive, Negative}
 use Rattle.formula.specs.declared.refusal.Reason.{Reason}
 use Rattle.formula.specs.declared.refusal.Reason.the-variants.{WrongPivot, BrokenStep, NoRoom}
-use Rattle.checker.specs.Words.{Words, holds}
-use Rattle.checker.specs.Words.Places.{clauseAt}
+use Rattle.checker.specs.Words.{Words, holds, AllWords, InRange, AllInRange}
+use Rattle.formula.specs.Decode.{clauseAt}
 use Rattle.checker.specs.declared.result.Judgement.{Judgement}
 use Rattle.checker.specs.declared.result.Judgement.the-variants.{Right, Wrong}
 use Rattle.checker.specs.declared.step.StepAnswer.the-variants.{Right as RightStep, Wrong as WrongStep}
 use Rattle.checker.specs.Steps.{Scope, Step, resolution, reduction, sizeOf, readStep, antecedent, resolvent, positiveExistential, unless, judgeResolution, judgeReduction, judge, judgeFirst}
 use Rattle.checker.specs.Lawful.Deciding.{found-member}
-use Rattle.checker.specs.Lawful.Running.{AllWords}
 use Rattle.checker.specs.Verdict.{scopeOf}
 use Rattle.checker.specs.Numbered.{tableOf, placeOf, storedAt, stored}
 use Rattle.checker.specs.Numbered.Laws.{stored-get}
-use Rattle.checker.specs.Marks.Judging.{InRange, AllInRange, clean}
+use Rattle.checker.specs.Marks.{clean}
 use Rattle.checker.specs.Kinds.{kindWord, kindsFrom, kindsOf}
 use Rattle.checker.specs.Kinds.Laws.{existential-fit, universal-fit}
 use Rattle.checker.specs.Result.{judgementOf, resultReason}

@@ -14,7 +14,7 @@ use Rattle.formula.specs.Tables.{isIn, zeros, prefixRefusal, clausesRefusal, ta
 use Rattle.formula.specs.Refusal.{refusal}
 use Rattle.formula.specs.declared.refusal.Reason.the-variants.{NoRoom, WrongPivot, Tautology, Blocked, Misstated, NoConclusion}
 use Rattle.checker.specs.declared.verdict.Verdict.the-variants.{Accepted, Refused}
-use Rattle.checker.specs.Words.{sameWord, holds, without, closes}
+use Rattle.checker.specs.Words.{sameWord, isZero, holds, without, closes}
 use Rattle.checker.specs.Steps.{readStep, opposed, lists, covers, states, blocked, judgeResolution, judgeReduction, judgeFirst, run}
 use Rattle.checker.specs.Verdict.{firstEmpty, sizedVerdict, verdictOf}
 
@@ -82,5 +82,5 @@ pub positions :
     × (verdictOf examplePrefix exampleClauses (exampleSteps (pos 4)) 8199 9 ≡ Refused (refusal NoRoom 0))
     × (verdictOf examplePrefix exampleClauses (exampleSteps (pos 4)) 8200 3 ≡ Refused (refusal NoRoom 4))
     × (verdictOf examplePrefix exampleClauses (exampleSteps (pos 4)) 8200 8 ≡ Refused (refusal NoRoom 9))
-unfolding sameWord holds without firstClause closes readStep opposed lists covers states blocked judgeResolution judgeReduction judgeFirst run firstEmpty sizedVerdict verdictOf wordOf clausesOf isIn zeros prefixRefusal clausesRefusal tablesRefusal same after existentials holdsLiteral together joined literals reach member pair depends ℕ-discrete isUniversal
+unfolding sameWord isZero holds without firstClause closes readStep opposed lists covers states blocked judgeResolution judgeReduction judgeFirst run firstEmpty sizedVerdict verdictOf wordOf clausesOf isIn zeros prefixRefusal clausesRefusal tablesRefusal same after existentials holdsLiteral together joined literals reach member pair depends ℕ-discrete isUniversal
 positions = (refl, refl, refl, refl, refl, refl, refl, refl, refl, refl, refl, refl)

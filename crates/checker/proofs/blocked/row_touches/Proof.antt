@@ -8,7 +8,8 @@ use lib.ListN.{length, getD}
 use lib.IntN.{pos, natAbs}
 use mir.Syntax.{w32}
 use mir.Val.{toZ, ofZ}
-use Rattle.checker.specs.Words.Places.{clauseAt, clause-past, clause-zero, clause-literal}
+use Rattle.formula.specs.Decode.{clauseAt}
+use Rattle.formula.specs.Decode.Places.{clause-past, clause-zero, clause-literal}
 use Rattle.checker.specs.Blocked.{touches}
 use Rattle.checker.proofs.Signed.{read-zero, read-back}
 use Rattle.checker.proofs.blocked.row_touches.Statement.{statement}

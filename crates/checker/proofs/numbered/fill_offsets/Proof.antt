@@ -4,7 +4,7 @@ use mathlib.Core.Path.{_≡_, refl}
 use native.Mathlib.Omega.{arith}
 use borrow.Author.Needs.{needs}
 use lib.ListN.{length, length-set}
-use Rattle.checker.specs.Words.Places.{clause-within}
+use Rattle.formula.specs.Decode.Places.{clause-within}
 use Rattle.checker.specs.Numbered.Laws.{Filling, filling-begins, filling-more, filling-turns, filling-ends}
 use Rattle.checker.proofs.numbered.fill_offsets.Statement.{statement}
 use Rattle.checker.proofs.numbered.fill_offsets.Tie as tie

@@ -5,7 +5,7 @@ use native.Mathlib.Omega.{arith}
 use mir.Syntax.{w32}
 use mir.Val.{toZ, ofZ}
 use borrow.Author.Needs.{needs}
-use Rattle.checker.specs.Words.Places.{clauseAt}
+use Rattle.formula.specs.Decode.{clauseAt}
 use Rattle.checker.specs.Numbered.{numberOf, storedAt}
 use Rattle.checker.specs.Numbered.Laws.{number-range, number-antecedent, number-no-antecedent}
 use Rattle.checker.specs.Step.Laws.{stored-in-range, stored-by-number}

@@ -8,7 +8,7 @@ use Rattle.formula.specs.Word.{wordOf}
 use Rattle.formula.specs.declared.literal.VariableFit.the-variants.{Within}
 use borrow.Author.Needs.{needs}
 use Rattle.checker.specs.Words.{holds}
-use Rattle.checker.specs.Words.Places.{clauseAt}
+use Rattle.formula.specs.Decode.{clauseAt}
 use Rattle.checker.specs.Kinds.{universalOf}
 use Rattle.checker.specs.Kinds.Laws.{universal-found}
 use Rattle.checker.specs.Step.{kindsIn}

@@ -3,9 +3,8 @@ use mathlib.Core.Path.{_≡_, refl, ap, sym, _∙_}
 use mathlib.Core.List.{_++_}
 use lib.ListN.{take, drop}
 use Rattle.dependency.specs.Row.{rowOf}
-use Rattle.formula.specs.Decode.{formulaOf}
+use Rattle.formula.specs.Decode.{formulaOf, clauseAt}
 use borrow.Author.Needs.{needs}
-use Rattle.checker.specs.Words.Places.{clauseAt}
 use Rattle.checker.specs.Steps.{blocked}
 use Rattle.checker.specs.Verdict.{scopeOf}
 use Rattle.checker.specs.Blocked.Laws.{row-blocked}

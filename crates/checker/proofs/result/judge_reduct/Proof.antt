@@ -4,7 +4,7 @@ use borrow.Author.Needs.{needs}
 use mir.Syntax.{w32}
 use mir.Val.{toZ, ofZ}
 use Rattle.checker.specs.Words.{without}
-use Rattle.checker.specs.Words.Places.{clauseAt}
+use Rattle.formula.specs.Decode.{clauseAt}
 use Rattle.checker.specs.Marks.{Marked, Wiped}
 use Rattle.checker.specs.Marks.Judging.{clean-length}
 use Rattle.checker.specs.Result.Laws.{without-in-range, judged-statement}

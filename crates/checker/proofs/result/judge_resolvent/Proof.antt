@@ -2,7 +2,7 @@
 use mathlib.Core.Path.{_∙_}
 use borrow.Author.Needs.{needs}
 use lib.IntN.{pos}
-use Rattle.checker.specs.Words.Places.{clauseAt}
+use Rattle.formula.specs.Decode.{clauseAt}
 use Rattle.checker.specs.Steps.{resolvent}
 use Rattle.checker.specs.Marks.Judging.{clean-length}
 use Rattle.checker.specs.Result.Laws.{resolvent-in-range, judged-result}

@@ -3,7 +3,7 @@ use Prim.Native.Nat.{_+_, _-_}
 use mathlib.Core.Path.{_≡_, ap, ap₂, sym, _∙_}
 use native.Mathlib.Omega.{arith}
 use borrow.Author.Needs.{needs}
-use Rattle.checker.specs.Words.Places.{clauseAt}
+use Rattle.formula.specs.Decode.{clauseAt}
 use Rattle.checker.specs.Numbered.{storedAt}
 use Rattle.checker.specs.Running.{isEmpty}
 use Rattle.checker.specs.Step.Laws.{stored-by-number}
