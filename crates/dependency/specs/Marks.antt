@@ -1,43 +1,23 @@
 -- The marks of one search for paths: a byte a literal. 0: paths do not pass its variable; 1: they may, and have not
 -- reached its opposite; 2: they reached its opposite and go on from it; 3: the literal that the search starts from.
--- A literal marked 2 or 3 is an entry: in a clause that holds it, the literals of other variables are reached.
-pub mod Words
-pub mod Place
-pub mod Slots
-use Prim.Native.Nat.{ℕ, _+_, _*_, _<_}
+-- A literal marked 2 or 3 is an entry: in a clause that holds it, the literals of other variables are reached. Laws are in
+-- Marks/Laws.antt.
+pub mod Laws
+use Prim.Native.Nat.{ℕ, _<_}
 use mathlib.Core.Path.{_≡_}
 use mathlib.Core.Bool.{Bool, true, false}
 use mathlib.Core.List.{List, [], _∷_}
 use lib.ListN.{length, getD, set, drop}
 use lib.Dec.{ltb, eqb}
 use lib.IntN.{ℤ}
-use Rattle.formula.specs.Word.{wordOf}
-use Rattle.formula.specs.Decode.{firstClause, laterWords}
+use Rattle.formula.specs.Word.{wordOf, slot}
+use Rattle.formula.specs.Decode.{clauseAt, wordsAfter}
 use Rattle.formula.specs.declared.literal.Word.{Word}
 use Rattle.formula.specs.declared.literal.Word.the-variants.{Zero, TooLarge, Positive, Negative}
 
 abbrev pub select : {A : Type 0} → Bool → A → A → A
 select true a b = a
 select false a b = b
-
--- A word that closes its clause.
-abbrev pub isZero : Word → Bool
-isZero Zero = true
-isZero TooLarge = false
-isZero (Positive v) = false
-isZero (Negative v) = false
-
--- The byte of the literal of v with this sign.
-abbrev pub slot : ℕ → Bool → ℕ
-slot v true = 2 * v
-slot v false = 2 * v + 1
-
--- The same of a word, with what each sign adds; 0 for a word that is no literal.
-abbrev pub slotOf : ℕ → ℕ → Word → ℕ
-slotOf plus minus Zero = 0
-slotOf plus minus TooLarge = 0
-slotOf plus minus (Positive v) = 2 * v .0 + plus
-slotOf plus minus (Negative v) = 2 * v .0 + minus
 
 -- What is known of a clause's entries is one number: 0 for none, the variable of the only ones, or `several` for entries
 -- of two variables. It grows by a literal of v whose byte is `byte`.
@@ -74,8 +54,8 @@ reachClause entry (w ∷ C) m = reachClause entry C (reachWord entry (wordOf w) 
 
 -- The marks after the clause of the words at `from` is done, and where the next one begins.
 pub record ClauseReached (ws : List ℤ) (from entry : ℕ) (m m′ : List ℕ) (next : ℕ) : Type 0 where
-  pub marks : m′ ≡ reachClause entry (firstClause (drop from ws)) m
-  pub later : drop next ws ≡ laterWords (drop from ws)
+  pub marks : m′ ≡ reachClause entry (clauseAt ws from) m
+  pub later : drop next ws ≡ wordsAfter ws from
   pub further : from < length ws → from < next
 
 unfoldable pub pass : List (List ℤ) → List ℕ → List ℕ

@@ -1,13 +1,13 @@
 -- A search for the paths from one literal of a universal: the marks it starts with, passes over the clauses until one
--- changes nothing, and what the marks then say.
+-- changes nothing, and what the marks then say. The theorem is in Search/Laws.antt; what it joins: Initial, Invariant, Closed.
 pub mod Laws
 pub mod Count
-pub mod Shrink
-pub mod Front
+pub mod Progress
+pub mod Frame
 pub mod Entries
-pub mod Kept
+pub mod Invariant
 pub mod Closed
-pub mod Start
+pub mod Initial
 pub mod Rows
 use Prim.Native.Nat.{ℕ, zero, suc, _+_, _*_}
 use mathlib.Core.Path.{_≡_}
@@ -17,36 +17,21 @@ use lib.ListN.{length, getD, set}
 use lib.Dec.{eqb}
 use lib.IntN.{ℤ}
 use Rattle.qbf.specs.Literal.{literal}
-use Rattle.qbf.specs.Formula.{Formula}
+use Rattle.qbf.specs.Formula.{Quantifier, existential, universal, Prefix, Formula}
 use Rattle.qbf.specs.Path.{Path}
 use Rattle.qbf.specs.Dependency.{passable}
-use Rattle.formula.specs.Word.{wordOf}
-use Rattle.formula.specs.declared.literal.Word.{Word}
-use Rattle.formula.specs.declared.literal.Word.the-variants.{Zero, TooLarge, Positive, Negative}
-use Rattle.dependency.specs.Marks.{select, slot, pass}
+use Rattle.formula.specs.Word.{slot}
+use Rattle.dependency.specs.Marks.{select, pass}
 use Rattle.dependency.specs.Row.{mark}
 
--- The variable of a prefix word, and the words right of the variable u.
-abbrev pub variableIn : Word → ℕ
-variableIn Zero = 0
-variableIn TooLarge = 0
-variableIn (Positive v) = v .0
-variableIn (Negative v) = v .0
+-- The literals of the existentials among the entries may be passed.
+unfoldable pub openEntry : Quantifier → ℕ → List ℕ → List ℕ
+openEntry existential v m = set (set m (slot v true) 1) (slot v false) 1
+openEntry universal v m = m
 
-unfoldable pub rightOf : ℕ → List ℤ → List ℤ
-rightOf u [] = []
-rightOf u (w ∷ ws) = select (eqb (variableIn (wordOf w)) u) ws (rightOf u ws)
-
--- The literals of the existentials among the words may be passed.
-unfoldable pub openWord : Word → List ℕ → List ℕ
-openWord Zero m = m
-openWord TooLarge m = m
-openWord (Positive v) m = set (set m (slot (v .0) true) 1) (slot (v .0) false) 1
-openWord (Negative v) m = m
-
-unfoldable pub openWords : List ℤ → List ℕ → List ℕ
-openWords [] m = m
-openWords (w ∷ ws) m = openWords ws (openWord (wordOf w) m)
+unfoldable pub openEntries : Prefix → List ℕ → List ℕ
+openEntries [] m = m
+openEntries (x ∷ P) m = openEntries P (openEntry (x .quantifier) (x .variable) m)
 
 -- How many literals may be passed and are not reached.
 unfoldable pub ones : List ℕ → ℕ

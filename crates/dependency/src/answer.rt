@@ -1,20 +1,25 @@
 // The entry that gives a dependency row: the order of its refusals, then the row, then clear buffers.
 ghost use mathlib.Core.Path.{_≡_};
 ghost use mathlib.Core.Bool.{true, _&&_};
-ghost use mathlib.Core.List.{_++_, List·Memᴰ};
-ghost use Prim.Native.Nat.{_≤_};
+ghost use mathlib.Core.List.{_++_};
+ghost use Prim.Native.Nat.{_<_, _≤_};
 ghost use lib.ListN.{length, drop};
-ghost use lib.Dec.{leb};
-ghost use lib.IntN.{ℤ, natAbs};
+ghost use lib.Dec.{eqb};
+ghost use Rattle.qbf.specs.Formula.{universal};
 ghost use Rattle.formula.specs.Word.{wordOf};
+ghost use Rattle.formula.specs.Prefix.{prefixOf, entryAt, entryCount, isQuantifier, quantifies, Entries};
 ghost use Rattle.formula.specs.Tables.{Admitted};
 ghost use Rattle.formula.specs.Decode.{formulaOf};
-ghost use Rattle.dependency.specs.Row.{isUniversal, universalAsked, ifUniversal, ifRoom, rowRefusal, answerRow, RowDone};
-ghost use Rattle.dependency.specs.Asked.{negatesIn, RowFilled};
+ghost use Rattle.dependency.specs.Scratch.{scratchBound};
+ghost use Rattle.dependency.specs.Answer.{askedRefusal, roomRefusal, rowRefusal, answerRow, Asked, RowFilled, RowDone};
+use crate::row::SCRATCH;
 use crate::row::make_row;
-use crate::search::variable_of;
 use formula::clear::clear_bytes;
+use formula::literal::Variable;
 use formula::literal::Word;
+use formula::prefix::Entry;
+use formula::prefix::entry_at;
+use formula::prefix::entry_count;
 use formula::refusal::Reason;
 use formula::refusal::Refusal;
 use formula::tables::TablesAnswer;
@@ -26,25 +31,27 @@ pub enum RowAnswer {
     Refused(Refusal),
 }
 
-fn negates(word: i32, variable: usize) -> bool
-    ensures { λ r. ⌜ r ≡ negatesIn variable (wordOf word) ⌝ }
+// The entry at a place is this variable, universal.
+fn is_universal_at(prefix: &[i32], place: usize, variable: Variable) -> bool
+    requires { ⌜ Entries (now prefix) ⌝ }
+    requires { ⌜ place < entryCount (now prefix) ⌝ }
+    ensures { λ r. ⌜ r ≡ (isQuantifier universal (entryAt (now (prefix .entry)) place .quantifier) && eqb (entryAt (now (prefix .entry)) place .variable) (variable .0)) ⌝ }
 {
-    let kind = Word::of(word);
-    match kind {
-        Word::Zero => false,
-        Word::TooLarge => false,
-        Word::Positive(_) => false,
-        Word::Negative(v) => v.0 == variable,
+    match entry_at(prefix, place) {
+        Entry::Existential(_) => false,
+        Entry::Universal(u) => u.0 == variable.0,
     }
 }
 
-fn is_universal(prefix: &[i32], variable: usize) -> bool
-    requires { ⌜ variable ≤ 1024 ⌝ }
-    ensures { λ r. ⌜ r ≡ isUniversal (now (prefix .entry)) variable ⌝ }
+// The variable is universal in the prefix.
+fn is_universal(prefix: &[i32], variable: Variable) -> bool
+    requires { ⌜ Entries (now prefix) ⌝ }
+    ensures { λ r. ⌜ r ≡ quantifies universal (prefixOf (now (prefix .entry))) (variable .0) ⌝ }
 {
+    let count = entry_count(prefix);
     let mut i = 0;
-    while i < prefix.len() {
-        if negates(prefix[i], variable) {
+    while i < count {
+        if is_universal_at(prefix, i, variable) {
             return true;
         }
         i += 1;
@@ -52,39 +59,30 @@ fn is_universal(prefix: &[i32], variable: usize) -> bool
     false
 }
 
+// The refusal for the buffers' lengths, which comes last.
 fn room_answer(row: usize, scratch: usize) -> RowAnswer
-    ensures { λ r. ⌜ r ≡ answerRow (ifRoom (leb 1025 row && leb 8200 scratch)) ⌝ }
+    ensures { λ r. ⌜ r ≡ answerRow (roomRefusal scratchBound row scratch) ⌝ }
 {
     if row < 1_025 {
-        return RowAnswer::Refused(Refusal {
-            reason: Reason::NoRoom,
-            place: 0,
-        });
+        return RowAnswer::Refused(Refusal::new(Reason::NoRoom, 0));
     }
-    if scratch < 8_200 {
-        return RowAnswer::Refused(Refusal {
-            reason: Reason::NoRoom,
-            place: 0,
-        });
+    if scratch < SCRATCH {
+        return RowAnswer::Refused(Refusal::new(Reason::NoRoom, 0));
     }
     RowAnswer::Filled
 }
 
 // The refusals that come after those of the tables.
 fn asked_answer(prefix: &[i32], variable: i32, row: usize, scratch: usize) -> RowAnswer
-    requires { ⌜ ((w : ℤ) → List·Memᴰ w (now prefix) → (1 ≤ natAbs w) × (natAbs w ≤ 1024)) ⌝ }
-    ensures { λ r. ⌜ r ≡ answerRow (ifUniversal (universalAsked (now (prefix .entry)) variable) (ifRoom (leb 1025 row && leb 8200 scratch))) ⌝ }
+    requires { ⌜ Entries (now prefix) ⌝ }
+    ensures { λ r. ⌜ r ≡ answerRow (askedRefusal scratchBound (prefixOf (now (prefix .entry))) variable row scratch) ⌝ }
 {
-    let other = Refusal {
-        reason: Reason::NotUniversal,
-        place: 0,
-    };
-    let kind = Word::of(variable);
-    match kind {
+    let other = Refusal::new(Reason::NotUniversal, 0);
+    match Word::of(variable) {
         Word::Zero => RowAnswer::Refused(other),
         Word::TooLarge => RowAnswer::Refused(other),
         Word::Positive(v) => {
-            if is_universal(prefix, v.0) {
+            if is_universal(prefix, v) {
                 return room_answer(row, scratch);
             }
             RowAnswer::Refused(other)
@@ -101,7 +99,7 @@ fn row_answer(
     row: usize,
     scratch: usize,
 ) -> RowAnswer
-    ensures { λ r. ⌜ r ≡ answerRow (rowRefusal (now (prefix .entry)) (now (clauses .entry)) variable row scratch) ⌝ }
+    ensures { λ r. ⌜ r ≡ answerRow (rowRefusal scratchBound (now (prefix .entry)) (now (clauses .entry)) variable row scratch) ⌝ }
 {
     let tables = check_tables(prefix, clauses);
     match tables {
@@ -113,6 +111,19 @@ fn row_answer(
     }
 }
 
+// The variable whose number the word is; where it is none's, the first.
+fn asked_variable(word: i32) -> Variable
+    ensures { λ r. ⌜ Asked (wordOf word) (r .0) ⌝ }
+{
+    match Word::of(word) {
+        Word::Zero => Variable::first(),
+        Word::TooLarge => Variable::first(),
+        Word::Positive(v) => v,
+        Word::Negative(_) => Variable::first(),
+    }
+}
+
+// Copies bytes to the front of the row.
 fn copy_row(bytes: &[u8], row: &mut [u8])
     requires { ⌜ length (now bytes) ≤ length (now row) ⌝ }
     ensures { λ r. ⌜ now (row .exit) ≡ now (bytes .entry) ++ drop (length (now (bytes .entry))) (now (row .entry)) ⌝ }
@@ -125,14 +136,20 @@ fn copy_row(bytes: &[u8], row: &mut [u8])
 }
 
 // The row with what follows it cleared, and scratch cleared.
-fn write_row(prefix: &[i32], clauses: &[i32], variable: usize, row: &mut [u8], scratch: &mut [u8])
+fn write_row(
+    prefix: &[i32],
+    clauses: &[i32],
+    variable: Variable,
+    row: &mut [u8],
+    scratch: &mut [u8],
+)
     requires { ⌜ Admitted (now prefix) (now clauses) ⌝ }
-    requires { ⌜ isUniversal (now prefix) variable ≡ true ⌝ }
+    requires { ⌜ quantifies universal (prefixOf (now prefix)) (variable .0) ≡ true ⌝ }
     requires { ⌜ 1025 ≤ length (now row) ⌝ }
-    requires { ⌜ 8200 ≤ length (now scratch) ⌝ }
-    ensures { λ r. ⌜ RowFilled (formulaOf (now (prefix .entry)) (now (clauses .entry))) variable (now (row .entry)) (now (scratch .entry)) (now (row .exit)) (now (scratch .exit)) ⌝ }
+    requires { ⌜ scratchBound ≤ length (now scratch) ⌝ }
+    ensures { λ r. ⌜ RowFilled (formulaOf (now (prefix .entry)) (now (clauses .entry))) (variable .0) (now (row .entry)) (now (scratch .entry)) (now (row .exit)) (now (scratch .exit)) ⌝ }
 {
-    make_row(prefix, clauses, variable, &mut scratch[..5_125]);
+    make_row(prefix, clauses, variable, scratch);
     copy_row(&scratch[4_100..5_125], row);
     clear_bytes(row, 1_025);
     clear_bytes(scratch, 0);
@@ -151,8 +168,7 @@ pub fn dependency_row(
     let answer = row_answer(prefix, clauses, variable, row.len(), scratch.len());
     match answer {
         RowAnswer::Filled => {
-            let n = variable_of(variable);
-            write_row(prefix, clauses, n, row, scratch);
+            write_row(prefix, clauses, asked_variable(variable), row, scratch);
             RowAnswer::Filled
         }
         RowAnswer::Refused(r) => {

@@ -1,23 +1,22 @@
 // A pass over the clauses: each clause's entries first, then the literals that they reach.
 ghost use mathlib.Core.Path.{_≡_};
-ghost use lib.ListN.{length, drop};
-ghost use Rattle.formula.specs.Decode.{clausesOf};
+ghost use lib.ListN.{length};
+ghost use Rattle.formula.specs.Decode.{clausesOf, clauseAt};
 ghost use Rattle.dependency.specs.Marks.{clauseEntry, ClauseReached, pass};
-ghost use Rattle.formula.specs.Decode.{firstClause};
-use crate::marks::closes;
 use crate::marks::reach_word;
 use crate::marks::see_word;
+use formula::literal::Word;
 
 // What is known of the entries of the clause that begins at `from`; entries of two variables settle it.
 fn clause_entry(clauses: &[i32], from: usize, marks: &[u8]) -> usize
     requires { ⌜ length (now marks) ≡ 2050 ⌝ }
-    ensures { λ r. ⌜ r ≡ clauseEntry (now (marks .entry)) 0 (firstClause (drop from (now (clauses .entry)))) ⌝ }
+    ensures { λ r. ⌜ r ≡ clauseEntry (now (marks .entry)) 0 (clauseAt (now (clauses .entry)) from) ⌝ }
 {
     let mut seen = 0;
     let mut i = from;
     while i < clauses.len() {
         let word = clauses[i];
-        if closes(word) {
+        if Word::is_zero(word) {
             return seen;
         }
         seen = see_word(marks, word, seen);
@@ -38,7 +37,7 @@ fn reach_clause(clauses: &[i32], from: usize, entry: usize, marks: &mut [u8]) ->
     while i < clauses.len() {
         let word = clauses[i];
         i += 1;
-        if closes(word) {
+        if Word::is_zero(word) {
             return i;
         }
         reach_word(entry, word, marks);
@@ -46,6 +45,7 @@ fn reach_clause(clauses: &[i32], from: usize, entry: usize, marks: &mut [u8]) ->
     i
 }
 
+// One pass: every clause once, in order.
 pub fn pass(clauses: &[i32], marks: &mut [u8])
     requires { ⌜ length (now marks) ≡ 2050 ⌝ }
     ensures { λ r. ⌜ now (marks .exit) ≡ pass (clausesOf (now (clauses .entry))) (now (marks .entry)) ⌝ }

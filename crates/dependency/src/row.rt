@@ -1,16 +1,26 @@
-// Dependency rows: two searches side by side, then a byte for each variable number.
+// Dependency rows: two searches side by side, then a byte for each variable number. Callers make a row in their scratch and ask
+// it about variables; they know no more of scratch than where their own part begins.
 ghost use mathlib.Core.Path.{_≡_};
 ghost use mathlib.Core.Bool.{true};
 ghost use mathlib.Core.List.{_++_};
-ghost use lib.ListN.{length, take, replicate};
+ghost use Prim.Native.Nat.{_≤_};
+ghost use lib.ListN.{length, getD, take, replicate};
+ghost use lib.Dec.{eqb};
+ghost use Rattle.qbf.specs.Formula.{universal};
+ghost use Rattle.formula.specs.Prefix.{prefixOf, quantifies};
 ghost use Rattle.formula.specs.Tables.{Admitted};
 ghost use Rattle.formula.specs.Decode.{formulaOf};
-ghost use Rattle.dependency.specs.Row.{rowOf, isUniversal};
+ghost use Rattle.dependency.specs.Row.{rowOf};
+ghost use Rattle.dependency.specs.Scratch.{scratchBound, rowIn, RowMade};
 ghost use Rattle.dependency.specs.Search.{bothReached, dependsByte, rowFrom};
 use crate::search::search;
 use formula::clear::clear_bytes;
 use formula::literal::Variable;
-use formula::literal::VariableFit;
+
+// The bytes of scratch that the entries ask for, and where in it the caller's own part begins.
+pub const SCRATCH: usize = 8_200;
+
+pub const OWN: usize = 5_125;
 
 // 1 where both bytes are 2: each says that a search reached a literal.
 fn both_reached(one: u8, other: u8) -> u8
@@ -50,9 +60,9 @@ fn fill_row(work: &mut [u8])
 }
 
 // The row of a universal: the searches' bytes first, 0 at the end, then the row's 1,025.
-pub fn universal_row(prefix: &[i32], clauses: &[i32], variable: Variable, work: &mut [u8])
+fn universal_row(prefix: &[i32], clauses: &[i32], variable: Variable, work: &mut [u8])
     requires { ⌜ Admitted (now prefix) (now clauses) ⌝ }
-    requires { ⌜ isUniversal (now prefix) (variable .0) ≡ true ⌝ }
+    requires { ⌜ quantifies universal (prefixOf (now prefix)) (variable .0) ≡ true ⌝ }
     requires { ⌜ length (now work) ≡ 5125 ⌝ }
     ensures { λ r. ⌜ now (work .exit) ≡ replicate 4100 0 ++ rowOf (formulaOf (now (prefix .entry)) (now (clauses .entry))) (variable .0) ⌝ }
 {
@@ -62,15 +72,22 @@ pub fn universal_row(prefix: &[i32], clauses: &[i32], variable: Variable, work: 
     clear_bytes(&mut work[..4_100], 0);
 }
 
-// The same for a universal given by its number.
-pub fn make_row(prefix: &[i32], clauses: &[i32], variable: usize, work: &mut [u8])
+// Makes the row of a universal in scratch; the caller's own part is left as it is. Passes over the clauses, each in time of
+// their words, until one changes nothing: at most one for each literal of the prefix.
+pub fn make_row(prefix: &[i32], clauses: &[i32], variable: Variable, scratch: &mut [u8])
     requires { ⌜ Admitted (now prefix) (now clauses) ⌝ }
-    requires { ⌜ isUniversal (now prefix) variable ≡ true ⌝ }
-    requires { ⌜ length (now work) ≡ 5125 ⌝ }
-    ensures { λ r. ⌜ now (work .exit) ≡ replicate 4100 0 ++ rowOf (formulaOf (now (prefix .entry)) (now (clauses .entry))) variable ⌝ }
+    requires { ⌜ quantifies universal (prefixOf (now prefix)) (variable .0) ≡ true ⌝ }
+    requires { ⌜ scratchBound ≤ length (now scratch) ⌝ }
+    ensures { λ r. ⌜ RowMade (formulaOf (now (prefix .entry)) (now (clauses .entry))) (variable .0) (now (scratch .entry)) (now (scratch .exit)) ⌝ }
 {
-    let VariableFit::Within(u) = Variable::new(variable) else {
-        return;
-    };
-    universal_row(prefix, clauses, u, work);
+    universal_row(prefix, clauses, variable, &mut scratch[..OWN]);
+}
+
+// By the row that stands in scratch, the variable of this number depends on the row's universal.
+pub fn depends_in(scratch: &[u8], variable: usize) -> bool
+    requires { ⌜ scratchBound ≤ length (now scratch) ⌝ }
+    requires { ⌜ variable ≤ 1024 ⌝ }
+    ensures { λ r. ⌜ r ≡ eqb (getD (rowIn (now (scratch .entry))) variable 0) 1 ⌝ }
+{
+    scratch[4_100 + variable] == 1
 }

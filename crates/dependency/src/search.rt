@@ -1,16 +1,19 @@
 // A search for the paths from one literal of a universal: which literals may be passed, then passes until one changes nothing.
 ghost use mathlib.Core.Path.{_≡_};
-ghost use Prim.Native.Nat.{_≤_};
+ghost use Prim.Native.Nat.{_<_, _≤_};
 ghost use lib.ListN.{length, drop};
-ghost use Rattle.formula.specs.Word.{wordOf};
+ghost use Rattle.qbf.specs.Formula.{after};
+ghost use Rattle.formula.specs.Word.{slot};
+ghost use Rattle.formula.specs.Prefix.{prefixOf, entryAt, entryCount, Entries};
 ghost use Rattle.formula.specs.Tables.{Admitted};
 ghost use Rattle.formula.specs.Decode.{clausesOf, formulaOf};
-ghost use Rattle.dependency.specs.Marks.{slot};
-ghost use Rattle.dependency.specs.Search.{variableIn, rightOf, openWord, openWords, ones, Settled, Searched};
+ghost use Rattle.dependency.specs.Search.{openEntry, openEntries, ones, Settled, Searched};
 use crate::pass::pass;
 use formula::clear::clear_bytes;
 use formula::literal::Variable;
-use formula::literal::Word;
+use formula::prefix::Entry;
+use formula::prefix::entry_at;
+use formula::prefix::entry_count;
 
 // How many literals may be passed and are not reached.
 fn count_open(marks: &[u8]) -> usize
@@ -43,58 +46,62 @@ fn settle(clauses: &[i32], marks: &mut [u8])
     }
 }
 
-pub fn variable_of(word: i32) -> usize
-    ensures { λ r. ⌜ r ≡ variableIn (wordOf word) ⌝ }
+// The number of the variable of the entry at a place.
+fn variable_at(prefix: &[i32], place: usize) -> usize
+    requires { ⌜ Entries (now prefix) ⌝ }
+    requires { ⌜ place < entryCount (now prefix) ⌝ }
+    ensures { λ r. ⌜ r ≡ entryAt (now (prefix .entry)) place .variable ⌝ }
 {
-    let kind = Word::of(word);
-    match kind {
-        Word::Zero => 0,
-        Word::TooLarge => 0,
-        Word::Positive(v) => v.0,
-        Word::Negative(v) => v.0,
+    match entry_at(prefix, place) {
+        Entry::Existential(v) => v.0,
+        Entry::Universal(v) => v.0,
     }
 }
 
 // Where the entries right of a variable begin.
-fn right_of(prefix: &[i32], variable: usize) -> usize
-    ensures { λ r. ⌜ drop r (now (prefix .entry)) ≡ rightOf variable (now (prefix .entry)) ⌝ }
+fn right_of(prefix: &[i32], variable: Variable) -> usize
+    requires { ⌜ Entries (now prefix) ⌝ }
+    ensures { λ r. ⌜ drop r (prefixOf (now (prefix .entry))) ≡ after (variable .0) (prefixOf (now (prefix .entry))) ⌝ }
 {
+    let count = entry_count(prefix);
     let mut i = 0;
-    while i < prefix.len() {
-        let word = prefix[i];
+    while i < count {
+        let number = variable_at(prefix, i);
         i += 1;
-        if variable_of(word) == variable {
+        if number == variable.0 {
             return i;
         }
     }
     i
 }
 
-fn open_word(word: i32, marks: &mut [u8])
+// The literals of the entry at a place may be passed, if it is existential.
+fn open_entry(prefix: &[i32], place: usize, marks: &mut [u8])
+    requires { ⌜ Entries (now prefix) ⌝ }
+    requires { ⌜ place < entryCount (now prefix) ⌝ }
     requires { ⌜ length (now marks) ≡ 2050 ⌝ }
-    ensures { λ r. ⌜ now (marks .exit) ≡ openWord (wordOf word) (now (marks .entry)) ⌝ }
+    ensures { λ r. ⌜ now (marks .exit) ≡ openEntry (entryAt (now (prefix .entry)) place .quantifier) (entryAt (now (prefix .entry)) place .variable) (now (marks .entry)) ⌝ }
 {
-    let kind = Word::of(word);
-    match kind {
-        Word::Zero => {}
-        Word::TooLarge => {}
-        Word::Positive(v) => {
+    match entry_at(prefix, place) {
+        Entry::Existential(v) => {
             let n = 2 * v.0;
             marks[n] = 1;
             marks[n + 1] = 1;
         }
-        Word::Negative(_) => {}
+        Entry::Universal(_) => {}
     }
 }
 
 // The existentials from the place `from` on may be passed.
-fn open_words(prefix: &[i32], from: usize, marks: &mut [u8])
+fn open_entries(prefix: &[i32], from: usize, marks: &mut [u8])
+    requires { ⌜ Entries (now prefix) ⌝ }
     requires { ⌜ length (now marks) ≡ 2050 ⌝ }
-    ensures { λ r. ⌜ now (marks .exit) ≡ openWords (drop from (now (prefix .entry))) (now (marks .entry)) ⌝ }
+    ensures { λ r. ⌜ now (marks .exit) ≡ openEntries (drop from (prefixOf (now (prefix .entry)))) (now (marks .entry)) ⌝ }
 {
+    let count = entry_count(prefix);
     let mut i = from;
-    while i < prefix.len() {
-        open_word(prefix[i], marks);
+    while i < count {
+        open_entry(prefix, i, marks);
         i += 1;
     }
 }
@@ -118,8 +125,8 @@ pub fn search(prefix: &[i32], clauses: &[i32], variable: Variable, positive: boo
     ensures { λ r. ⌜ Searched (formulaOf (now (prefix .entry)) (now (clauses .entry))) (variable .0) positive (now (marks .exit)) ⌝ }
 {
     clear_bytes(marks, 0);
-    let from = right_of(prefix, variable.0);
-    open_words(prefix, from, marks);
+    let from = right_of(prefix, variable);
+    open_entries(prefix, from, marks);
     let source = source_of(variable, positive);
     marks[source] = 3;
     settle(clauses, marks);

@@ -1,84 +1,105 @@
 -- The first variable left of a prefix: whose turn it is, what is left after it, and what the position is by its two
 -- values, the bytes being stored to and put back. Assumes nothing.
-use Prim.Native.Nat.{ℕ, _-_, _<_}
-use mathlib.Core.Path.{_≡_, refl, ap, sym, _∙_}
+use Prim.Native.Nat.{ℕ, _<_}
+use mathlib.Core.Path.{_≡_, refl, ap, sym, _∙_, subst}
 use mathlib.Core.Bool.{Bool, true, false, false≢true}
 use mathlib.Core.List.{List, [], _∷_, List·Memᴰ, List·Memᴰ·head, List·Memᴰ·tail}
-use native.Mathlib.Nat.{not-suc-le-zero}
 use native.Mathlib.Omega.{arith}
-use lib.IntN.{ℤ, pos, negsuc, natAbs}
-use lib.ListN.{length, getD, set, take, drop, length-set}
-use lib.Seq.{take-length, set-set, set-getD}
+use lib.IntN.{ℤ}
+use lib.ListN.{length, getD, set, length-set}
+use lib.Seq.{set-set, set-getD}
 use Rattle.qbf.specs.Literal.{Matrix}
-use Rattle.qbf.specs.Formula.{Quantifier, existential, universal}
+use Rattle.qbf.specs.Formula.{Quantifier, existential, universal, Entry, Prefix}
 use Rattle.qbf.specs.Play.{Values, assign, turn, lost, falsified}
-use Rattle.formula.specs.Decode.{prefixOf}
-use Rattle.formula.specs.Decode.Laws.{entry-variable}
-use Rattle.evaluator.specs.Values.{valuesOf, values-set}
-use Rattle.evaluator.specs.Turns.{universalDue, Below, Due}
+use Rattle.formula.specs.Bounds.{variableBound}
+use Rattle.formula.specs.Prefix.{prefixOf, entryAt, entryCount, laterEntries, isQuantifier, Entries}
+use Rattle.formula.specs.Prefix.Laws.{entries-drop, later-entries, later-shorter}
+use Rattle.evaluator.specs.Values.{valuesOf}
+use Rattle.evaluator.specs.Values.Laws.{values-set}
+use Rattle.evaluator.specs.Turns.{universalDue, due, Due}
 
 -- v is the first variable of the prefix, on the side q, and `rest` is what is left after it
 pub record Opened (q : Quantifier) (n : ℕ) (prefix : List ℤ) (v : ℕ) (rest : List ℤ) : Type 0 where
   pub small : v < n
-  pub below : Below n rest
+  pub entries : Entries rest
+  pub reach : variableBound < n
   pub shorter : length rest < length prefix
   pub plays : (τ : Values) (M : Matrix)
       → lost (prefixOf prefix) τ M ≡ turn q (lost (prefixOf rest) (assign τ v false) M) (lost (prefixOf rest) (assign τ v true) M)
 
-pub opened : (q : Quantifier) (n : ℕ) (prefix : List ℤ) (v : ℕ)
-    → Due q n prefix → 0 < length prefix → v ≡ natAbs (getD prefix 0 (pos 0))
-    → Opened q n prefix v (take (length prefix - 1) (drop 1 prefix))
+-- the first entry, then those after it
+first-entry : (ws : List ℤ) → 0 < entryCount ws → prefixOf ws ≡ entryAt ws 0 ∷ prefixOf (laterEntries ws)
+first-entry ws h = entries-drop ws 0 h ∙ ap {B = Prefix} (λ P. entryAt ws 0 ∷ P) (sym (later-entries ws))
+
+lost-first :
+    (q : Quantifier) (P R : Prefix) (x : Entry) (τ : Values) (M : Matrix) → P ≡ x ∷ R → due P ≡ q
+    → lost P τ M ≡ turn q (lost R (assign τ (x .variable) false) M) (lost R (assign τ (x .variable) true) M)
 unfolding lost
-opened q n [] v d h e = absurd (not-suc-le-zero h)
-opened q n (w ∷ ws) v d h e =
-    let k : length (w ∷ ws) - 1 ≡ length ws = omega arith in
-    rw (k, take-length ws)
+lost-first q P R x τ M e f = let k : x .quantifier ≡ q = sym (ap due e) ∙ f in rw (e, k)
+
+pub opened : (q : Quantifier) (n : ℕ) (prefix : List ℤ) (v : ℕ) (rest : List ℤ)
+    → Due q n prefix → 0 < entryCount prefix → v ≡ entryAt prefix 0 .variable → rest ≡ laterEntries prefix
+    → Opened q n prefix v rest
+opened q n prefix v rest d h e f =
+    let split = first-entry prefix h in
+    let r = d .entries .ranged (entryAt prefix 0) (rw split (List·Memᴰ·head refl)) in
+    rw (f, e)
     (record {
-      small = rw e (d .below .0);
-      below = d .below .1;
-      shorter = omega arith;
-      plays = λ τ M. rw (d .first, entry-variable w, e);
+      small = omega (arith, r .1, d .reach);
+      entries = record { ranged = λ x m. d .entries .ranged x (subst (λ (P : Prefix). List·Memᴰ x P) (sym split) (List·Memᴰ·tail m)) };
+      reach = d .reach;
+      shorter = later-shorter prefix h;
+      plays = λ τ M. lost-first q (prefixOf prefix) (prefixOf (laterEntries prefix)) (entryAt prefix 0) τ M split (d .first);
     })
 
--- a bound on every word's variable
-pub below-all : (n : ℕ) (ws : List ℤ) → ((w : ℤ) → List·Memᴰ w ws → natAbs w < n) → Below n ws
-below-all n [] h = tt
-below-all n (w ∷ ws) h = (h w (List·Memᴰ·head refl), below-all n ws (λ x m. h x (List·Memᴰ·tail m)))
-
 -- the side that is due after it
-pub due-universal : (n : ℕ) (ws : List ℤ) → Below n ws → universalDue ws ≡ true → Due universal n ws
-unfolding universalDue
-due-universal n [] b e = absurd (false≢true e)
-due-universal n (pos v ∷ ws) b e = absurd (false≢true e)
-due-universal n (negsuc k ∷ ws) b e = record { first = refl; below = b }
+abbrev side : Bool → Quantifier
+side true = universal
+side false = existential
 
-pub due-existential : (n : ℕ) (ws : List ℤ) → Below n ws → universalDue ws ≡ false → Due existential n ws
+due-side : (P : Prefix) (b : Bool) → universalDue P ≡ b → due P ≡ side b
 unfolding universalDue
-due-existential n [] b e = record { first = refl; below = b }
-due-existential n (pos v ∷ ws) b e = record { first = refl; below = b }
-due-existential n (negsuc k ∷ ws) b e = absurd (false≢true (sym e))
+due-side [] true e = absurd (false≢true e)
+due-side [] false e = refl
+due-side (x ∷ P) b e = go (x .quantifier) refl b e
+  where
+    go : (q : Quantifier) → x .quantifier ≡ q → (b : Bool) → isQuantifier universal (x .quantifier) ≡ b → x .quantifier ≡ side b
+    go existential k true f = absurd (false≢true (rw k at f))
+    go existential k false f = k
+    go universal k true f = k
+    go universal k false f = absurd (false≢true (sym (rw k at f)))
+
+module _ (n : ℕ) (ws : List ℤ) (entries : Entries ws) (reach : variableBound < n) where
+  pub due-universal : universalDue (prefixOf ws) ≡ true → Due universal n ws
+  due-universal e = record { first = due-side (prefixOf ws) true e; entries = entries; reach = reach }
+
+  pub due-existential : universalDue (prefixOf ws) ≡ false → Due existential n ws
+  due-existential e = record { first = due-side (prefixOf ws) false e; entries = entries; reach = reach }
 
 -- where the universal side is due a variable is left
-pub universal-left : {n : ℕ} (ws : List ℤ) → Due universal n ws → 0 < length ws
-universal-left [] d = absurd (apart (d .first))
+pub universal-left : {n : ℕ} (ws : List ℤ) → Due universal n ws → 0 < entryCount ws
+universal-left ws d = left (prefixOf ws) (d .first)
   where
-    apart : existential ≡ universal → ⊥
-    apart e = let z : _≡_ {A = ℕ} 0 1 = cc in omega arith
-universal-left (w ∷ ws) d = omega arith
+    left : (P : Prefix) → due P ≡ universal → 0 < length P
+    left [] e = let z : _≡_ {A = ℕ} 0 1 = cc in absurd (omega arith)
+    left (x ∷ P) e = omega arith
 
 -- nothing left
-pub lost-none : (prefix : List ℤ) (τ : Values) (M : Matrix) → length prefix ≡ 0 → lost (prefixOf prefix) τ M ≡ falsified τ M
+pub lost-none : (prefix : List ℤ) (τ : Values) (M : Matrix) → entryCount prefix ≡ 0 → lost (prefixOf prefix) τ M ≡ falsified τ M
 unfolding lost
-lost-none [] τ M h = refl
-lost-none (w ∷ ws) τ M h = absurd (omega arith)
+lost-none prefix τ M h = none-left (prefixOf prefix) h
+  where
+    none-left : (P : Prefix) → length P ≡ 0 → lost P τ M ≡ falsified τ M
+    none-left [] e = refl
+    none-left (x ∷ P) e = absurd (omega arith)
 
 -- a side is handed the rest: its measure falls, and the side is due
 module _ {q : Quantifier} {n : ℕ} {prefix rest : List ℤ} {v : ℕ} (t m : ℕ) (o : Opened q n prefix v rest) (due : Bool) where
-  pub hand-universal : length prefix ≡ t → m ≡ n → due ≡ universalDue rest → due ≡ true → (length rest < t) × Due universal m rest
-  hand-universal h k e d = (omega (arith, o .shorter), rw k (due-universal n rest (o .below) (sym e ∙ d)))
+  pub hand-universal : length prefix ≡ t → m ≡ n → due ≡ universalDue (prefixOf rest) → due ≡ true → (length rest < t) × Due universal m rest
+  hand-universal h k e d = (omega (arith, o .shorter), rw k (due-universal n rest (o .entries) (o .reach) (sym e ∙ d)))
 
-  pub hand-existential : length prefix ≡ t → m ≡ n → due ≡ universalDue rest → due ≡ false → (length rest < t) × Due existential m rest
-  hand-existential h k e d = (omega (arith, o .shorter), rw k (due-existential n rest (o .below) (sym e ∙ d)))
+  pub hand-existential : length prefix ≡ t → m ≡ n → due ≡ universalDue (prefixOf rest) → due ≡ false → (length rest < t) × Due existential m rest
+  hand-existential h k e d = (omega (arith, o .shorter), rw k (due-existential n rest (o .entries) (o .reach) (sym e ∙ d)))
 
 -- the first call has answered at 0 and left the values as they were lent
 pub record Once (q : Quantifier) (prefix rest : List ℤ) (vs : List ℕ) (v : ℕ) (M : Matrix) (zero-lost : Bool) (left : List ℕ) : Type 0 where

@@ -1,6 +1,6 @@
 -- Tests and sums on a signed word, as the code makes them. Assumes nothing.
 use Prim.Native.Nat.{ℕ, zero, suc, _+_, _-_, _^_, _<_}
-use mathlib.Core.Path.{_≡_, refl, ap, _∙_}
+use mathlib.Core.Path.{_≡_, refl, _∙_}
 use mathlib.Core.Bool.{true, false}
 use native.Mathlib.Omega.{arith}
 use borrow.Author.Tests.{ltb-true, lt-ltb}
@@ -14,11 +14,6 @@ use mir.Facts.{toZ-ofZ}
 -- a word read back from its bits
 pub read-back : (z : ℤ) → mag z < 2147483648 → toZ w32 (ofZ w32 z) ≡ z
 read-back z h = toZ-ofZ {w = w32} {z = z} (record { sfits = h })
-
--- a word whose bits are 0
-pub bits-zero : (z : ℤ) → mag z < 2147483648 → ofZ w32 z ≡ 0 → z ≡ pos 0
-bits-zero (pos n) h e = ap pos e
-bits-zero (negsuc n) h e = absurd (omega arith)
 
 one-more : (n : ℕ) → negsuc n +ℤ pos 1 ≡ negℤ (pos n)
 one-more zero = refl

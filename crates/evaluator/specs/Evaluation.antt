@@ -7,11 +7,11 @@ use mathlib.Core.Option.{Option, none, some}
 use mathlib.Core.List.{List}
 use lib.Dec.{leb}
 use lib.IntN.{ℤ}
-use lib.ListN.{length}
 use Rattle.qbf.specs.Play.{Values, lost}
-use Rattle.formula.specs.Refusal.{refusal}
+use Rattle.formula.specs.Refusal.{refusal, require}
+use Rattle.formula.specs.Prefix.{prefixOf, entryCount}
 use Rattle.formula.specs.Tables.{tablesRefusal}
-use Rattle.formula.specs.Decode.{prefixOf, matrixOf}
+use Rattle.formula.specs.Decode.{matrixOf}
 use Rattle.formula.specs.declared.refusal.Refusal.{Refusal}
 use Rattle.formula.specs.declared.refusal.Reason.the-variants.{Oversized}
 use Rattle.evaluator.specs.declared.evaluation.Evaluation.{Evaluation}
@@ -32,10 +32,6 @@ abbrev pub verdict : Bool → Evaluation
 verdict true = False
 verdict false = True
 
-abbrev pub ifFits : Bool → Evaluation → Evaluation
-ifFits true later = later
-ifFits false later = Refused (refusal Oversized 0)
-
 abbrev pub afterTables : Option Refusal → Evaluation → Evaluation
 afterTables (some r) later = Refused r
 afterTables none later = later
@@ -47,4 +43,4 @@ unset v = false
 unfoldable pub evaluationOf : List ℤ → List ℤ → Evaluation
 evaluationOf prefix clauses =
     afterTables (tablesRefusal prefix clauses)
-    (ifFits (leb (length prefix) gameBound) (verdict (lost (prefixOf prefix) unset (matrixOf clauses))))
+    (require (leb (entryCount prefix) gameBound) (Refused (refusal Oversized 0)) (verdict (lost (prefixOf prefix) unset (matrixOf clauses))))

@@ -1,27 +1,24 @@
--- Whose turn a prefix is, and that its variables are within the values.
+-- Whose turn a prefix is, and what a side that is due may lean on.
 use Prim.Native.Nat.{ℕ, _<_}
 use mathlib.Core.Path.{_≡_}
-use mathlib.Core.Bool.{Bool, true, false}
+use mathlib.Core.Bool.{Bool, false}
 use mathlib.Core.List.{List, [], _∷_}
-use lib.IntN.{ℤ, pos, negsuc, natAbs}
-use Rattle.qbf.specs.Formula.{Quantifier, existential}
-use Rattle.formula.specs.Decode.{entryOf}
+use lib.IntN.{ℤ}
+use Rattle.qbf.specs.Formula.{Quantifier, existential, universal, Prefix}
+use Rattle.formula.specs.Bounds.{variableBound}
+use Rattle.formula.specs.Prefix.{prefixOf, isQuantifier, Entries}
 
-unfoldable pub universalDue : List ℤ → Bool
+unfoldable pub universalDue : Prefix → Bool
 universalDue [] = false
-universalDue (pos v ∷ ws) = false
-universalDue (negsuc n ∷ ws) = true
-
--- Each variable is below n.
-abbrev pub Below : ℕ → List ℤ → Type 0
-Below n [] = Unit {0}
-Below n (w ∷ ws) = (natAbs w < n) × Below n ws
+universalDue (x ∷ P) = isQuantifier universal (x .quantifier)
 
 -- The side whose turn it is. With no variable left it is the existential side's, which then looks at the matrix.
-abbrev pub due : List ℤ → Quantifier
+abbrev pub due : Prefix → Quantifier
 due [] = existential
-due (w ∷ ws) = entryOf w .quantifier
+due (x ∷ P) = x .quantifier
 
+-- The side q is due, and n values reach every variable.
 pub record Due (q : Quantifier) (n : ℕ) (prefix : List ℤ) : Type 0 where
-  pub first : due prefix ≡ q
-  pub below : Below n prefix
+  pub first : due (prefixOf prefix) ≡ q
+  pub entries : Entries prefix
+  pub reach : variableBound < n

@@ -2,6 +2,7 @@
 use crate::turns::existential_turn;
 use crate::turns::universal_due;
 use crate::turns::universal_turn;
+use formula::prefix::entry_count;
 use formula::refusal::Reason;
 use formula::refusal::Refusal;
 use formula::tables::TablesAnswer;
@@ -9,11 +10,12 @@ use formula::tables::check_tables;
 ghost use mathlib.Core.Path.{_≡_};
 ghost use lib.Dec.{leb};
 ghost use Rattle.qbf.specs.Play.{lost};
-ghost use Rattle.formula.specs.Decode.{prefixOf, matrixOf};
+ghost use Rattle.formula.specs.Prefix.{prefixOf, Entries};
+ghost use Rattle.formula.specs.Decode.{matrixOf};
 ghost use Rattle.formula.specs.Tables.{Admitted};
 ghost use Rattle.evaluator.specs.Evaluation.{gameBound, gameFit, unset, evaluationOf};
-ghost use Rattle.evaluator.specs.Turns.{Below};
 
+// True where the first position is not lost, or the refusal.
 pub enum Evaluation {
     True,
     False,
@@ -31,6 +33,7 @@ pub enum GameFit {
 impl GameLength {
     pub const MAX: usize = 16;
 
+    // A length that is played.
     pub fn new(n: usize) -> GameFit
         ensures { λ r. ⌜ r ≡ gameFit (leb n gameBound) n ⌝ }
     {
@@ -44,7 +47,7 @@ impl GameLength {
 
 // The first position is lost: the side of the first variable begins.
 fn first_lost(prefix: &[i32], clauses: &[i32]) -> bool
-    requires { ⌜ Below 1025 (now prefix) ⌝ }
+    requires { ⌜ Entries (now prefix) ⌝ }
     ensures { λ r. ⌜ r ≡ lost (prefixOf (now (prefix .entry))) unset (matrixOf (now (clauses .entry))) ⌝ }
 {
     let mut values = [0u8; 1025];
@@ -60,11 +63,8 @@ fn play(prefix: &[i32], clauses: &[i32]) -> Evaluation
     requires { ⌜ Admitted (now prefix) (now clauses) ⌝ }
     ensures { λ r. ⌜ r ≡ evaluationOf (now (prefix .entry)) (now (clauses .entry)) ⌝ }
 {
-    match GameLength::new(prefix.len()) {
-        GameFit::Oversized => Evaluation::Refused(Refusal {
-            reason: Reason::Oversized,
-            place: 0,
-        }),
+    match GameLength::new(entry_count(prefix)) {
+        GameFit::Oversized => Evaluation::Refused(Refusal::new(Reason::Oversized, 0)),
         GameFit::Within(_) => {
             if first_lost(prefix, clauses) {
                 Evaluation::False

@@ -1,18 +1,27 @@
--- A row in a reader's terms: 1,025 bytes, and the byte of e is 1 exactly when e depends on u, else 0.
+-- A row in a reader's terms: 1,025 bytes, and the byte of e is 1 exactly when e depends on u, else 0. Assumes nothing.
 use Prim.Native.Nat.{ℕ, zero, suc, _≤_, _<_}
 use mathlib.Core.Path.{_≡_, refl, ap, sym, _∙_}
 use mathlib.Core.Logic.{_↔_}
 use mathlib.Core.Bool.{Bool, true, false}
-use mathlib.Core.List.{[], _∷_, _++_}
+use mathlib.Core.List.{List, [], _∷_, _++_}
 use native.Mathlib.Decide.{ℕ-discrete}
 use native.Mathlib.Nat.{not-suc-le-zero}
 use native.Mathlib.Omega.{arith}
 use lib.ListN.{length, getD, length-append, List·getD-append}
 use lib.Seq.{getD-at}
-use Rattle.qbf.specs.Formula.{Formula}
+use lib.IntN.{ℤ}
+use Rattle.qbf.specs.Formula.{Formula, universal, entry}
 use Rattle.qbf.specs.Dependency.{Depends, depends}
 use Rattle.qbf.specs.Dependency.Laws.{depends-sound, depends-complete}
+use Rattle.formula.specs.Prefix.{prefixOf, quantifies}
+use Rattle.formula.specs.Prefix.Laws.{quantifies-sound}
+use Rattle.formula.specs.Tables.{Admitted}
+use Rattle.formula.specs.Tables.Laws.{admitted-entries}
 use Rattle.dependency.specs.Row.{mark, rowBelow, rowOf}
+
+-- A universal of admitted tables is in range.
+pub universal-range : (p c : List ℤ) → Admitted p c → (u : ℕ) → quantifies universal (prefixOf p) u ≡ true → (1 ≤ u) × (u ≤ 1024)
+universal-range p c a u h = admitted-entries p c a .ranged (entry u universal) (quantifies-sound universal (prefixOf p) u h)
 
 module _ (F : Formula) (u : ℕ) where
   row-below-length : (n : ℕ) → length (rowBelow F u n) ≡ n

@@ -12,13 +12,14 @@ use lib.Seq.{getD-set-same}
 use lib.IntN.{ℤ}
 use Rattle.qbf.specs.Literal.{Literal, neg}
 use Rattle.qbf.specs.Path.{Joined, Path}
+use Rattle.formula.specs.Word.{slot}
+use Rattle.formula.specs.Word.Laws.{word-of-literal}
 use Rattle.qbf.specs.Path.Laws.{closed-holds-paths}
 use Rattle.formula.specs.Decode.{literalOf, clauseOf}
-use Rattle.dependency.specs.Marks.{slot, reachAt, clauseEntry, pass}
-use Rattle.dependency.specs.Marks.Words.{word-of-literal}
+use Rattle.dependency.specs.Marks.{reachAt, clauseEntry, pass}
 use Rattle.dependency.specs.Search.Entries.{byte, entry-past}
-use Rattle.dependency.specs.Search.Shrink.{still-clause, still-word}
-use Rattle.dependency.specs.Search.Kept.{Entered, Kept, inside, reach-signed}
+use Rattle.dependency.specs.Search.Progress.{still-clause, still-word}
+use Rattle.dependency.specs.Search.Invariant.{Entered, Kept, inside, reach-signed}
 
 -- A variable in range.
 abbrev pub Ranged : ℕ → Type 0

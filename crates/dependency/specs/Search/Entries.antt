@@ -12,19 +12,19 @@ use lib.ListN.{getD}
 use lib.Dec.{ltb, eqb}
 use lib.IntN.{ℤ}
 use Rattle.qbf.specs.Literal.{Literal, literal, Clause}
-use Rattle.formula.specs.Word.{wordOf}
+use Rattle.formula.specs.Word.{wordOf, slot}
+use Rattle.formula.specs.Word.Laws.{signedWord, Recognised, nothing, names, recognised}
 use Rattle.formula.specs.Decode.{literalOf}
 use Rattle.formula.specs.declared.literal.Word.{Word}
 use Rattle.formula.specs.declared.literal.Word.the-variants.{Zero, TooLarge, Positive, Negative}
-use Rattle.dependency.specs.Marks.{select, several, slot, seeAt, seeWord, clauseEntry}
-use Rattle.dependency.specs.Marks.Words.{signed, Reading, nothing, names, reading}
+use Rattle.dependency.specs.Marks.{select, several, seeAt, seeWord, clauseEntry}
 
 -- A literal's byte.
 abbrev pub byte : List ℕ → Literal → ℕ
 byte m l = getD m (slot (l .variable) (l .sign)) 0
 
 -- Both signs are seen alike.
-see-signed : (m : List ℕ) (v : ℕ) (s : Bool) (seen : ℕ) → seeWord m (signed v s) seen ≡ seeAt (getD m (slot v s) 0) v seen
+see-signed : (m : List ℕ) (v : ℕ) (s : Bool) (seen : ℕ) → seeWord m (signedWord v s) seen ≡ seeAt (getD m (slot v s) 0) v seen
 unfolding seeWord
 see-signed m v true seen = refl
 see-signed m v false seen = refl
@@ -53,9 +53,9 @@ module _ (m : List ℕ) (L : Clause) where
 
   see-word-witnessed : (w : ℤ) → List·Memᴰ (literalOf w) L → (seen : ℕ) → Witnessed seen → Witnessed (seeWord m (wordOf w) seen)
   unfolding seeWord
-  see-word-witnessed w i seen h = go (reading w)
+  see-word-witnessed w i seen h = go (recognised w)
     where
-      go : Reading w → Witnessed (seeWord m (wordOf w) seen)
+      go : Recognised w → Witnessed (seeWord m (wordOf w) seen)
       go (nothing (inl e)) = rw e h
       go (nothing (inr e)) = rw e h
       go (names v s o b e q) = rw (e, see-signed m v s seen) (see-at-witnessed (literal v s) (rw q at i) seen h)
@@ -97,7 +97,7 @@ module _ (m : List ℕ) (v : ℕ) (small : v ≤ 1024) where
   clause-entry-past [] seen h = h
   clause-entry-past (w ∷ C) seen h = clause-entry-past C (seeWord m (wordOf w) seen) (see-word-past (wordOf w) seen h)
 
-  module _ (w : ℤ) (x : ℕ) (s : Bool) (is : wordOf w ≡ signed x s) (entry : 1 < getD m (slot x s) 0) (some : 1 ≤ x) (other : x ≡ v → ⊥) where
+  module _ (w : ℤ) (x : ℕ) (s : Bool) (is : wordOf w ≡ signedWord x s) (entry : 1 < getD m (slot x s) 0) (some : 1 ≤ x) (other : x ≡ v → ⊥) where
     see-entry-past : (seen : ℕ) → Past v (seeWord m (wordOf w) seen)
     unfolding seeAt
     see-entry-past seen = rw (is, see-signed m x s seen) (go (ltb (getD m (slot x s) 0) 2) (eqb seen 0) (eqb seen x) refl refl)

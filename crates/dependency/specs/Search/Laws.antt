@@ -1,67 +1,70 @@
 -- A search that has settled says which literals right of u paths reach, and no others: the theorem of layer 2's searches.
--- It joins Start (the marks at the start), Kept (each pass keeps what they say) and Closed (at the end nothing is missed).
-use Prim.Native.Nat.{ℕ}
-use mathlib.Core.Path.{_≡_, ap, sym, subst}
+-- It joins Initial (the marks at the start), Invariant (each pass keeps what they say) and Closed (at the end nothing is
+-- missed). Assumes nothing.
+use Prim.Native.Nat.{ℕ, zero, suc, _<_}
+use mathlib.Core.Path.{_≡_, refl, sym, subst}
 use mathlib.Core.Bool.{Bool, not}
-use mathlib.Core.List.{List, map, List·Memᴰ, Memᴰ·map, Memᴰ·of-map}
-use lib.ListN.{getD, set, replicate}
-use lib.IntN.{ℤ, natAbs}
+use mathlib.Core.List.{List, [], _∷_, map, List·Memᴰ, List·Memᴰ·head, List·Memᴰ·tail, Memᴰ·map, Memᴰ·of-map}
+use native.Mathlib.Nat.{le-of-suc-le-suc, not-suc-le-zero}
+use lib.ListN.{length, getD, set, replicate}
+use lib.IntN.{ℤ}
 use Rattle.qbf.specs.Literal.{Literal, literal}
-use Rattle.qbf.specs.Formula.{listed, after, existentials}
+use Rattle.qbf.specs.Formula.{Entry, entry, existential, Prefix, after, RightOf}
+use Rattle.qbf.specs.Formula.Laws.{neg-neg, after-within, right-asymmetric, existentials-member}
 use Rattle.qbf.specs.Path.{Path}
 use Rattle.qbf.specs.Dependency.{passable}
+use Rattle.formula.specs.Word.{slot}
+use Rattle.formula.specs.Prefix.{prefixOf, entryAt, entryCount, Entries}
 use Rattle.formula.specs.Tables.{Admitted}
-use Rattle.formula.specs.Tables.Laws.{admitted-prefix-word, admitted-proper}
-use Rattle.formula.specs.Decode.{clausesOf, clauseOf, prefixOf, formulaOf}
-use Rattle.formula.specs.Decode.Laws.{prefix-variables}
-use Rattle.dependency.specs.Marks.{slot}
-use Rattle.dependency.specs.Search.{rightOf, openWords, Settled, Searched}
-use Rattle.dependency.specs.Search.Kept.{Kept, neg-neg, passes-kept}
+use Rattle.formula.specs.Tables.Laws.{admitted-entries, admitted-proper}
+use Rattle.formula.specs.Decode.{clausesOf, clauseOf, formulaOf}
+use Rattle.dependency.specs.Search.{openEntries, Settled, Searched}
+use Rattle.dependency.specs.Search.Invariant.{Kept, passes-kept}
 use Rattle.dependency.specs.Search.Closed.{Ranged, paths-reached}
-use Rattle.dependency.specs.Search.Start.{right-word, after-right, existential-listed, after-listed, after-distinct, start-kept}
+use Rattle.dependency.specs.Search.Initial.{start-kept}
+
+-- The entry at a place is in range.
+pub entry-at-ranged : (ws : List ℤ) → Entries ws → (i : ℕ) → i < entryCount ws → Ranged (entryAt ws i .variable)
+entry-at-ranged ws h i l = h .ranged (entryAt ws i) (member (prefixOf ws) i l)
+  where
+    member : (P : Prefix) (i : ℕ) → i < length P → List·Memᴰ (getD P i (entry 0 existential)) P
+    member [] i h = absurd (not-suc-le-zero h)
+    member (x ∷ P) zero h = List·Memᴰ·head refl
+    member (x ∷ P) (suc i) h = List·Memᴰ·tail (member P i (le-of-suc-le-suc h))
 
 module _ (p c : List ℤ) (admitted : Admitted p c) (u : ℕ) (range : Ranged u) (s : Bool) (m : List ℕ)
-    (settled : Settled (clausesOf c) (set (openWords (rightOf u p) (replicate 2050 0)) (slot u s) 3) m) where
-  abbrev right : List ℤ
-  right = rightOf u p
-
+    (settled : Settled (clausesOf c) (set (openEntries (after u (prefixOf p)) (replicate 2050 0)) (slot u s) 3) m) where
   abbrev X : List ℕ
-  X = existentials (prefixOf right)
+  X = passable (formulaOf p c) u
 
-  passable-is : passable (formulaOf p c) u ≡ X
-  passable-is = ap existentials (after-right u p (admitted-prefix-word p c admitted))
-
-  -- a variable right of u is another than u, and in range
-  X-listed : (v : ℕ) → List·Memᴰ v X → List·Memᴰ v (listed (after u (prefixOf p)))
-  X-listed v i = existential-listed v (after u (prefixOf p)) (rw (sym passable-is) at i)
+  -- a variable that may be passed stands right of u, is another than u, and in range
+  X-right : (v : ℕ) → List·Memᴰ v X → RightOf (prefixOf p) u v
+  X-right v i = Memᴰ·map (λ (x : Entry). x .variable) (existentials-member (after u (prefixOf p)) i)
 
   X-apart : List·Memᴰ u X → ⊥
-  X-apart i = after-distinct u (prefixOf p) (admitted-proper p c admitted .prefix-distinct) (X-listed u i)
+  X-apart i = right-asymmetric (prefixOf p) (admitted-proper p c admitted .prefix-distinct) u u (X-right u i) (X-right u i)
 
   X-range : (v : ℕ) → List·Memᴰ v X → Ranged v
   X-range v i =
-      let l = rw (prefix-variables p) at (after-listed u v (prefixOf p) (X-listed v i)) in
-      let w = Memᴰ·of-map natAbs p l in
-      rw (w .2) at (admitted-prefix-word p c admitted (w .0) (w .1))
+      let x = Memᴰ·of-map (λ (x : Entry). x .variable) (prefixOf p) (after-within u (prefixOf p) (X-right v i)) in
+      rw (x .2) at (admitted-entries p c admitted .ranged (x .0) (x .1))
 
   kept : Kept (map clauseOf (clausesOf c)) X (literal u s) m
   kept =
       subst (λ (k : List ℕ). Kept (map clauseOf (clausesOf c)) X (literal u s) k) (sym (settled .passed))
-      (passes-kept (map clauseOf (clausesOf c)) X (literal u s) (settled .count) (clausesOf c) (set (openWords (rightOf u p) (replicate 2050 0)) (slot u s) 3)
+      (passes-kept (map clauseOf (clausesOf c)) X (literal u s) (settled .count) (clausesOf c) (set (openEntries (after u (prefixOf p)) (replicate 2050 0)) (slot u s) 3)
       (λ C i. Memᴰ·map clauseOf i)
-      (start-kept (map clauseOf (clausesOf c)) right (λ w i. admitted-prefix-word p c admitted w (right-word u p w i)) u s range X-apart))
+      (start-kept (map clauseOf (clausesOf c)) (after u (prefixOf p)) X-range u s range X-apart))
 
   pub searched : Searched (formulaOf p c) u s m
   searched =
       record {
         size = kept .size;
-        reached = λ e t i q. paths-reached (clausesOf c) X (literal u s) m kept (settled .still) range X-range (literal e t) (rw passable-is at q) (rw passable-is at i);
+        reached = λ e t i q. paths-reached (clausesOf c) X (literal u s) m kept (settled .still) range X-range (literal e t) q i;
         only = λ e t h. only′ e t h;
       }
     where
-      only′ :
-          (e : ℕ) (t : Bool) → getD m (slot e (not t)) 0 ≡ 2
-          → List·Memᴰ e (passable (formulaOf p c) u) × Path (map clauseOf (clausesOf c)) (passable (formulaOf p c) u) (literal u s) (literal e t)
+      only′ : (e : ℕ) (t : Bool) → getD m (slot e (not t)) 0 ≡ 2 → List·Memᴰ e X × Path (map clauseOf (clausesOf c)) X (literal u s) (literal e t)
       only′ e t h =
           let r = kept .reached (literal e (not t)) h in
-          rw passable-is (r .0, subst (λ (l : Literal). Path (map clauseOf (clausesOf c)) X (literal u s) l) (neg-neg (literal e t)) (r .1))
+          (r .0, subst (λ (l : Literal). Path (map clauseOf (clausesOf c)) X (literal u s) l) (neg-neg (literal e t)) (r .1))

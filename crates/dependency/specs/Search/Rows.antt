@@ -14,7 +14,7 @@ use Rattle.qbf.specs.Formula.{Formula}
 use Rattle.qbf.specs.Dependency.{Depends, depends}
 use Rattle.qbf.specs.Dependency.Laws.{depends-sound, depends-complete}
 use Rattle.formula.specs.Clear.{clearFrom}
-use Rattle.dependency.specs.Marks.{slot}
+use Rattle.formula.specs.Word.{slot}
 use Rattle.dependency.specs.Row.{mark, rowBelow, rowOf}
 use Rattle.dependency.specs.Search.{Searched, dependsByte, rowByte, rowFrom}
 

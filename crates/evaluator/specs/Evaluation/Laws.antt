@@ -9,14 +9,14 @@ use mathlib.Core.List.{List, [], _∷_}
 use native.Mathlib.Omega.{arith}
 use borrow.Author.Tests.{le-leb, lt-leb}
 use lib.IntN.{ℤ, pos}
-use lib.ListN.{length}
 use Rattle.qbf.specs.Play.{Values, satisfied, falsified, lost, Lost, Won}
 use Rattle.qbf.specs.Play.Laws.{lost-any-values, won-exactly}
 use Rattle.formula.specs.Refusal.{refusal}
 use Rattle.formula.specs.Tables.{zeros, clausesRefusal, prefixRefusal, tablesRefusal, Admitted}
 use Rattle.formula.specs.Tables.Laws.{admitted-proper}
 use Rattle.formula.specs.Word.{wordOf}
-use Rattle.formula.specs.Decode.{clausesOf, prefixOf, matrixOf, formulaOf}
+use Rattle.formula.specs.Prefix.{prefixOf, entryCount}
+use Rattle.formula.specs.Decode.{clausesOf, matrixOf, formulaOf}
 use Rattle.formula.specs.declared.refusal.Refusal.{Refusal}
 use Rattle.formula.specs.declared.refusal.Reason.the-variants.{Oversized}
 use Rattle.evaluator.specs.declared.evaluation.Evaluation.the-variants.{True, False, Refused}
@@ -27,15 +27,15 @@ pub evaluation-tables-refused : (p c : List ℤ) (r : Refusal) → tablesRefusal
 unfolding evaluationOf
 evaluation-tables-refused p c r e = rw e
 
-pub evaluation-oversized : (p c : List ℤ) → Admitted p c → gameBound < length p → evaluationOf p c ≡ Refused (refusal Oversized 0)
+pub evaluation-oversized : (p c : List ℤ) → Admitted p c → gameBound < entryCount p → evaluationOf p c ≡ Refused (refusal Oversized 0)
 unfolding evaluationOf
-evaluation-oversized p c a h = rw (a .passes, lt-leb (length p) gameBound h)
+evaluation-oversized p c a h = rw (a .passes, lt-leb (entryCount p) gameBound h)
 
-module _ (p c : List ℤ) (a : Admitted p c) (h : length p ≤ gameBound) where
+module _ (p c : List ℤ) (a : Admitted p c) (h : entryCount p ≤ gameBound) where
   -- The game is played: the answer is true or false, whatever values the variables are held to have before.
   pub evaluation-verdict : (τ : Values) → evaluationOf p c ≡ verdict (lost (prefixOf p) τ (matrixOf c))
   unfolding evaluationOf
-  evaluation-verdict τ = rw (a .passes, le-leb (length p) gameBound h) (ap verdict (lost-any-values (formulaOf p c) (admitted-proper p c a) unset τ))
+  evaluation-verdict τ = rw (a .passes, le-leb (entryCount p) gameBound h) (ap verdict (lost-any-values (formulaOf p c) (admitted-proper p c a) unset τ))
 
   pub evaluation-false-lost : (evaluationOf p c ≡ False → Lost (formulaOf p c)) × (Lost (formulaOf p c) → evaluationOf p c ≡ False)
   evaluation-false-lost = (λ e τ. decided (lost (prefixOf p) τ (matrixOf c)) (sym (evaluation-verdict τ) ∙ e), λ l. evaluation-verdict unset ∙ ap verdict (l unset))

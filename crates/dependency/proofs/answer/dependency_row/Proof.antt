@@ -1,5 +1,5 @@
 -- `dependency_row` decides first, then writes the row or clears both buffers. Assumes nothing.
-use mathlib.Core.Path.{_≡_, ap, sym, _∙_}
+use mathlib.Core.Path.{_≡_, sym, _∙_}
 use mathlib.Core.Bool.{true}
 use mathlib.Core.Option.{Option, none}
 use lib.ListN.{length}
@@ -7,20 +7,21 @@ use lib.IntN.{natAbs}
 use mir.Syntax.{w32}
 use mir.Val.{toZ, ofZ}
 use borrow.Author.Needs.{needs}
+use Rattle.qbf.specs.Formula.{universal}
 use Rattle.formula.specs.Word.{wordOf}
 use Rattle.formula.specs.declared.refusal.Refusal.{Refusal}
 use Rattle.formula.specs.declared.literal.Word.the-variants.{Positive}
 use Rattle.formula.specs.Clear.{clearFrom}
-use Rattle.formula.specs.Tables.Laws.{admitted-prefix-word}
-use Rattle.dependency.specs.Row.{isUniversal, rowRefusal, answerRow}
-use Rattle.dependency.specs.Row.Answer.{row-passed, row-refused, Granted, granted}
-use Rattle.dependency.specs.Row.Universal.{asked-word, asked-variable}
-use Rattle.dependency.specs.Search.{variableIn}
+use Rattle.formula.specs.Prefix.{prefixOf, quantifies}
+use Rattle.formula.specs.Tables.Laws.{admitted-entries}
+use Rattle.dependency.specs.Scratch.{scratchBound}
+use Rattle.dependency.specs.Answer.{rowRefusal, answerRow}
+use Rattle.dependency.specs.Answer.Laws.{row-passed, row-refused, Granted, granted, asked-word, asked-variable}
 use Rattle.dependency.proofs.answer.dependency_row.Statement.{statement}
 use Rattle.dependency.proofs.answer.dependency_row.Tie as tie
 
 abbrev refusal-at : (c : tie.Start) → Option Refusal
-refusal-at c = rowRefusal (c .args .prefix .now) (c .args .clauses .now) (c .args .variable) (length (c .args .row .now)) (length (c .args .scratch .now))
+refusal-at c = rowRefusal scratchBound (c .args .prefix .now) (c .args .clauses .now) (c .args .variable) (length (c .args .row .now)) (length (c .args .scratch .now))
 
 decided : (c : tie.After-row-answer) → c .row-answer .result ≡ answerRow (refusal-at (c .before .before .before))
 decided c =
@@ -34,26 +35,26 @@ passed c = row-passed (refusal-at (c .before .before .before .before .before)) (
 
 allowed :
     (c : tie.After-enum-told)
-    → Granted (c .before .before .before .before .before .args .prefix .now) (c .before .before .before .before .before .args .clauses .now) (c .before .before .before .before .before .args .variable) (length (c .before .before .before .before .before .args .row .now)) (length (c .before .before .before .before .before .args .scratch .now))
+    → Granted scratchBound (c .before .before .before .before .before .args .prefix .now) (c .before .before .before .before .before .args .clauses .now) (c .before .before .before .before .before .args .variable) (length (c .before .before .before .before .before .args .row .now)) (length (c .before .before .before .before .before .args .scratch .now))
 allowed c =
     let a = c .before .before .before .before .before .args in
-    granted (a .prefix .now) (a .clauses .now) (a .variable) (length (a .row .now)) (length (a .scratch .now)) (passed c)
+    granted scratchBound (a .prefix .now) (a .clauses .now) (a .variable) (length (a .row .now)) (length (a .scratch .now)) (passed c)
 
 word-is : (c : tie.After-enum-told) → wordOf (c .before .before .before .before .before .args .variable) ≡ Positive (record { 0 = natAbs (c .before .before .before .before .before .args .variable) })
 word-is c =
     let a = c .before .before .before .before .before .args in
-    asked-word (a .prefix .now) (admitted-prefix-word (a .prefix .now) (a .clauses .now) (allowed c .admitted)) (a .variable) (allowed c .asked)
+    asked-word (a .prefix .now) (admitted-entries (a .prefix .now) (a .clauses .now) (allowed c .admitted)) (a .variable) (allowed c .asked)
 
-number-is : (c : tie.After-variable-of) → c .variable-of .result ≡ natAbs (c .before .before .before .before .before .before .args .variable)
+number-is : (c : tie.After-asked-variable) → c .asked-variable .result .0 ≡ natAbs (c .before .before .before .before .before .before .args .variable)
 number-is c =
     let w = c .before .before .before .before .before .before .args .variable in
     let e : toZ w32 (ofZ w32 w) ≡ w = search needs in
-    (rw e at (c .variable-of .ensures)) ∙ ap variableIn (word-is (c .before))
+    (rw e at (c .asked-variable .ensures)) .numbered _ (word-is (c .before))
 
-universal-is : (c : tie.After-variable-of) → isUniversal (c .before .before .before .before .before .before .args .prefix .now) (c .variable-of .result) ≡ true
+universal-is : (c : tie.After-asked-variable) → quantifies universal (prefixOf (c .before .before .before .before .before .before .args .prefix .now)) (c .asked-variable .result .0) ≡ true
 universal-is c =
     let a = c .before .before .before .before .before .before .args in
-    rw (number-is c) (sym (asked-variable (a .prefix .now) (a .variable) (record { 0 = natAbs (a .variable) }) (word-is (c .before))) ∙ allowed (c .before) .asked)
+    rw (number-is c) (sym (asked-variable (prefixOf (a .prefix .now)) (a .variable) (record { 0 = natAbs (a .variable) }) (word-is (c .before))) ∙ allowed (c .before) .asked)
 
 write-row-requires : tie.Need-write-row-requires
 write-row-requires c κs =

@@ -1,60 +1,51 @@
--- `is_universal` runs down the prefix: a universal of the words is one of those left. Assumes nothing.
-use Prim.Native.Nat.{_≤_, _-_}
+-- `is_universal` runs down the prefix: a universal of the prefix is one of the entries left. Assumes nothing.
+use Prim.Native.Nat.{_≤_, _<_, _-_}
 use mathlib.Core.Path.{_≡_, refl, sym, _∙_}
-use mathlib.Core.List.{List}
 use native.Mathlib.Numerals.{add-one}
-use lib.IntN.{ℤ, pos}
-use mir.Syntax.{w32}
-use mir.Val.{toZ, ofZ}
+use native.Mathlib.Omega.{arith}
 use borrow.Author.Needs.{needs}
-use lib.ListN.{length, drop, getD, drop-of-length-le}
-use lib.Seq.{drop-cons}
-use Rattle.dependency.specs.Row.{isNegated, isUniversal}
-use Rattle.dependency.specs.Row.Universal.{negates-word}
+use lib.ListN.{drop, drop-of-length-le}
+use Rattle.qbf.specs.Formula.{universal}
+use Rattle.formula.specs.Prefix.{prefixOf, entryCount, quantifies}
+use Rattle.formula.specs.Prefix.Laws.{entries-drop}
 use Rattle.dependency.proofs.answer.is_universal.Statement.{statement}
 use Rattle.dependency.proofs.answer.is_universal.Tie as tie
 
 abbrev Inv-loop : tie.InvT-loop
-Inv-loop prefix variable i₀ i = isUniversal (drop i prefix) variable ≡ isUniversal prefix variable
+Inv-loop prefix variable count i₀ i = quantifies universal (drop i (prefixOf prefix)) (variable .0) ≡ quantifies universal (prefixOf prefix) (variable .0)
 
 abbrev μ-loop : tie.MeasureT-loop
-μ-loop prefix variable i₀ i = length prefix - i
+μ-loop prefix variable count i₀ i = count - i
 
-abbrev words : (c : tie.At-loop Inv-loop μ-loop) → List ℤ
-words c = c .before .args .prefix .now
-
-abbrev word-at : (c : tie.After-negates-arg Inv-loop μ-loop) → ℤ
-word-at c = getD (words (c .before .before)) (c .before .before .loop .i) (pos 0)
-
-told : (c : tie.After-negates Inv-loop μ-loop) → c .negates .result ≡ isNegated (c .before .before .before .before .args .variable) (word-at (c .before))
-told c =
-    let e : toZ w32 (ofZ w32 (word-at (c .before))) ≡ word-at (c .before) = search needs in
-    let start = c .before .before .before .before in
-    (rw e at (c .negates .ensures)) ∙ negates-word (start .args .variable) (word-at (c .before)) (start .pre)
+within : (c : tie.In-loop Inv-loop μ-loop) → c .before .loop .i < entryCount (c .before .before .before .args .prefix .now)
+within c = omega (arith, c .before .before .entry-count .ensures, c .loop-test .taken)
 
 loop-holds : tie.Need-loop-holds Inv-loop μ-loop
 loop-holds c = refl
 
+is-universal-at-requires : tie.Need-is-universal-at-requires Inv-loop μ-loop
+is-universal-at-requires c κs = (c .before .before .before .pre, within c)
+
 returns : tie.Need-returns Inv-loop μ-loop
-unfolding isUniversal
+unfolding quantifies
 returns c =
-    let l = c .before .before .before .before .loop in
-    let e = rw (drop-cons (words (c .before .before .before .before)) (l .i) (pos 0) (search needs)) at (l .inv) in
-    rw (sym (told (c .before)) ∙ c .if1 .taken) at e
+    let loop = c .before .before in
+    let e = rw (entries-drop _ _ (within loop)) at (loop .before .loop .inv) in
+    rw (sym (c .before .is-universal-at .ensures) ∙ c .if1 .taken) at e
 
 loop-again : tie.Need-loop-again Inv-loop μ-loop
-unfolding isUniversal
+unfolding quantifies
 loop-again c =
-    let l = c .before .before .before .before .loop in
-    let e = rw (drop-cons (words (c .before .before .before .before)) (l .i) (pos 0) (search needs)) at (l .inv) in
-    rw add-one (rw (sym (told (c .before)) ∙ c .if1 .left) at e)
+    let loop = c .before .before in
+    let e = rw (entries-drop _ _ (within loop)) at (loop .before .loop .inv) in
+    rw add-one (rw (sym (c .before .is-universal-at .ensures) ∙ c .if1 .left) at e)
 
 returns-2 : tie.Need-returns-2 Inv-loop μ-loop
-unfolding isUniversal
+unfolding quantifies
 returns-2 c =
     let l = c .before .loop in
-    let h : length (words (c .before)) ≤ l .i = search needs in
-    rw (drop-of-length-le (words (c .before)) h) at (l .inv)
+    let h : entryCount (c .before .before .before .args .prefix .now) ≤ l .i = omega (arith, c .before .before .entry-count .ensures, c .loop-test .left) in
+    rw (drop-of-length-le (prefixOf (c .before .before .before .args .prefix .now)) h) at (l .inv)
 
 pub is-universal-spec : {M : Type 1} → statement M
 is-universal-spec =
@@ -62,10 +53,9 @@ is-universal-spec =
     (tie.spec
     Inv-loop
     μ-loop
-    loop-holds
-    (λ c. search needs)
-    (λ c. search needs)
     (λ c κs. search needs)
+    loop-holds
+    is-universal-at-requires
     returns
     (λ c. search needs)
     (λ c. search needs)

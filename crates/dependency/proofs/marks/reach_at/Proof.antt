@@ -13,15 +13,6 @@ returns-2 : tie.Need-returns-2
 unfolding reachAt
 returns-2 c = rw (ne-eqb _ _ (c .before .if1 .left), eq-eqb _ _ (c .if2 .taken))
 
-slice-read-if3 : tie.Need-slice-read-if3
-slice-read-if3 c = search needs
-
-slice-write-marks : tie.Need-slice-write-marks
-slice-write-marks c = search needs
-
-same-length : tie.Need-same-length
-same-length c = search needs
-
 returns-3 : tie.Need-returns-3
 unfolding reachAt
 returns-3 c = rw (ne-eqb _ _ (c .before .before .before .if1 .left), ne-eqb _ _ (c .before .before .if2 .left), eq-eqb _ _ (c .if3 .taken))
@@ -31,4 +22,4 @@ unfolding reachAt
 returns-4 c = rw (ne-eqb _ _ (c .before .before .before .if1 .left), ne-eqb _ _ (c .before .before .if2 .left), ne-eqb _ _ (c .if3 .left))
 
 pub reach-at-spec : {M : Type 1} → statement M
-reach-at-spec = tie.close (tie.spec returns returns-2 slice-read-if3 slice-write-marks same-length returns-3 returns-4)
+reach-at-spec = tie.close (tie.spec returns returns-2 (λ c. search needs) (λ c. search needs) (λ c. search needs) returns-3 returns-4)

@@ -5,24 +5,21 @@ use Prim.Native.Nat.{ℕ, _<_, _/_}
 use mir.Syntax.{w32}
 use mir.Val.{toZ, ofZ}
 use borrow.Author.Needs.{needs}
-use Rattle.formula.specs.Word.{wordOf}
-use Rattle.dependency.specs.Marks.{slotOf, reachAt}
-use Rattle.dependency.specs.Marks.Slots.{slot-within, reach-nothing, reach-literal}
+use Rattle.formula.specs.Word.{wordOf, slotOf, opposite}
+use Rattle.dependency.specs.Marks.{reachAt}
+use Rattle.dependency.specs.Marks.Laws.{opposite-slot-bound, reach-nothing, reach-literal}
 use Rattle.dependency.proofs.marks.reach_word.Statement.{statement}
 use Rattle.dependency.proofs.marks.reach_word.Tie as tie
 
 -- the byte, and that it is among the marks
-slot-told : (c : tie.After-slot-of) → c .slot-of .result ≡ slotOf 1 0 (wordOf (c .before .before .args .word))
+slot-told : (c : tie.After-opposite-slot) → c .opposite-slot .result ≡ slotOf (opposite (wordOf (c .before .before .args .word)))
 slot-told c =
     let w = c .before .before .args .word in
     let e : toZ w32 (ofZ w32 w) ≡ w = search needs in
-    rw e at (c .slot-of .ensures)
+    rw e at (c .opposite-slot .ensures)
 
-within : (c : tie.After-slot-of) → c .slot-of .result < 2050
-within c = rw (slot-told c) (slot-within (c .before .before .args .word) 1 0 (omega arith) (omega arith))
-
-slot-of-requires : tie.Need-slot-of-requires
-slot-of-requires c κs = search needs
+within : (c : tie.After-opposite-slot) → c .opposite-slot .result < 2050
+within c = rw (slot-told c) (opposite-slot-bound (c .before .before .args .word))
 
 returns : tie.Need-returns
 returns c =
@@ -32,9 +29,6 @@ returns c =
 reach-at-requires : tie.Need-reach-at-requires
 reach-at-requires c κs = omega (arith, within (c .before .before))
 
-same-length : tie.Need-same-length
-same-length c = search needs
-
 returns-2 : tie.Need-returns-2
 returns-2 c =
     let told = c .before .before .before .before .before in
@@ -42,7 +36,7 @@ returns-2 c =
     let at = slot-told told in
     c .before .before .reach-at .ensures
     ∙ ap (λ (n : ℕ). reachAt (a .entry) (n / 2) n (a .marks .now)) at
-    ∙ reach-literal (a .word) (a .marks .now) (a .entry) (λ z. c .before .before .before .before .if1 .left (at ∙ z))
+    ∙ reach-literal (wordOf (a .word)) (a .marks .now) (a .entry) (λ z. c .before .before .before .before .if1 .left (at ∙ z))
 
 pub reach-word-spec : {M : Type 1} → statement M
-reach-word-spec = tie.close (tie.spec slot-of-requires returns reach-at-requires same-length returns-2)
+reach-word-spec = tie.close (tie.spec (λ c κs. search needs) returns reach-at-requires (λ c. search needs) returns-2)

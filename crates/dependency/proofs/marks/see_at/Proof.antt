@@ -5,9 +5,6 @@ use Rattle.dependency.specs.Marks.{seeAt}
 use Rattle.dependency.proofs.marks.see_at.Statement.{statement}
 use Rattle.dependency.proofs.marks.see_at.Tie as tie
 
-shared-slice-read-if1 : tie.Need-shared-slice-read-if1
-shared-slice-read-if1 c = search needs
-
 returns : tie.Need-returns
 unfolding seeAt
 returns c = rw (lt-ltb _ _ (c .if1 .taken))
@@ -25,4 +22,4 @@ unfolding seeAt
 returns-4 c = rw (le-ltb _ _ (c .before .before .if1 .left), ne-eqb _ _ (c .before .if2 .left), ne-eqb _ _ (c .if3 .left))
 
 pub see-at-spec : {M : Type 1} → statement M
-see-at-spec = tie.close (tie.spec shared-slice-read-if1 returns returns-2 returns-3 returns-4)
+see-at-spec = tie.close (tie.spec (λ c. search needs) returns returns-2 returns-3 returns-4)

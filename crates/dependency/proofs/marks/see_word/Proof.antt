@@ -6,24 +6,22 @@ use lib.ListN.{getD}
 use mir.Syntax.{w32}
 use mir.Val.{toZ, ofZ}
 use borrow.Author.Needs.{needs}
-use Rattle.formula.specs.Word.{wordOf}
-use Rattle.dependency.specs.Marks.{slotOf, seeAt}
-use Rattle.dependency.specs.Marks.Slots.{slot-within, see-nothing, see-literal}
+use Rattle.formula.specs.Word.{wordOf, slotOf}
+use Rattle.formula.specs.Word.Laws.{slot-bound}
+use Rattle.dependency.specs.Marks.{seeAt}
+use Rattle.dependency.specs.Marks.Laws.{see-nothing, see-literal}
 use Rattle.dependency.proofs.marks.see_word.Statement.{statement}
 use Rattle.dependency.proofs.marks.see_word.Tie as tie
 
 -- the byte, and that it is among the marks
-slot-told : (c : tie.After-slot-of) → c .slot-of .result ≡ slotOf 0 1 (wordOf (c .before .before .args .word))
+slot-told : (c : tie.After-slot) → c .slot .result ≡ slotOf (wordOf (c .before .before .args .word))
 slot-told c =
     let w = c .before .before .args .word in
     let e : toZ w32 (ofZ w32 w) ≡ w = search needs in
-    rw e at (c .slot-of .ensures)
+    rw e at (c .slot .ensures)
 
-within : (c : tie.After-slot-of) → c .slot-of .result < 2050
-within c = rw (slot-told c) (slot-within (c .before .before .args .word) 0 1 (omega arith) (omega arith))
-
-slot-of-requires : tie.Need-slot-of-requires
-slot-of-requires c κs = search needs
+within : (c : tie.After-slot) → c .slot .result < 2050
+within c = rw (slot-told c) (slot-bound (c .before .before .args .word))
 
 returns : tie.Need-returns
 returns c =
@@ -39,7 +37,7 @@ returns-2 c =
     let at = slot-told (c .before .before) in
     c .see-at .ensures
     ∙ ap (λ (n : ℕ). seeAt (getD (a .marks .now) n 0) (n / 2) (a .seen)) at
-    ∙ see-literal (a .word) (a .marks .now) (a .seen) (λ z. c .before .if1 .left (at ∙ z))
+    ∙ see-literal (wordOf (a .word)) (a .marks .now) (a .seen) (λ z. c .before .if1 .left (at ∙ z))
 
 pub see-word-spec : {M : Type 1} → statement M
-see-word-spec = tie.close (tie.spec slot-of-requires returns see-at-requires returns-2)
+see-word-spec = tie.close (tie.spec (λ c κs. search needs) returns see-at-requires returns-2)

@@ -4,18 +4,18 @@ use mathlib.Core.Path.{_≡_, refl, sym, _∙_}
 use lib.IntN.{ℤ, pos}
 use mir.Syntax.{w32}
 use mir.Val.{toZ, ofZ}
-use Rattle.formula.specs.Word.{wordOf}
+use Rattle.formula.specs.Word.{wordOf, isZero}
 use borrow.Author.Needs.{needs}
-use lib.ListN.{length, drop, getD}
-use Rattle.dependency.specs.Marks.{clauseEntry, isZero, seeWord}
-use Rattle.dependency.specs.Marks.Slots.{clause-entry-several}
-use Rattle.dependency.specs.Marks.Place.{first-clause-more, first-clause-closing, first-clause-end}
-use Rattle.formula.specs.Decode.{firstClause}
+use lib.ListN.{length, getD}
+use Rattle.dependency.specs.Marks.{clauseEntry, seeWord}
+use Rattle.dependency.specs.Marks.Laws.{clause-entry-several}
+use Rattle.formula.specs.Decode.{clauseAt}
+use Rattle.formula.specs.Decode.Places.{clause-literal, clause-zero, clause-past}
 use Rattle.dependency.proofs.pass.clause_entry.Statement.{statement}
 use Rattle.dependency.proofs.pass.clause_entry.Tie as tie
 
 abbrev Inv-loop : tie.InvT-loop
-Inv-loop clauses from marks seen₀ i₀ seen i = clauseEntry marks seen (firstClause (drop i clauses)) ≡ clauseEntry marks 0 (firstClause (drop from clauses))
+Inv-loop clauses from marks seen₀ i₀ seen i = clauseEntry marks seen (clauseAt clauses i) ≡ clauseEntry marks 0 (clauseAt clauses from)
 
 abbrev μ-loop : tie.MeasureT-loop
 μ-loop clauses from marks seen₀ i₀ seen i = length clauses - i
@@ -23,8 +23,8 @@ abbrev μ-loop : tie.MeasureT-loop
 abbrev word-at : (c : tie.After-word Inv-loop μ-loop) → ℤ
 word-at c = getD (c .before .before .before .before .args .clauses .now) (c .before .before .loop .i) (pos 0)
 
-told : (c : tie.After-closes Inv-loop μ-loop) → c .closes .result ≡ isZero (wordOf (word-at (c .before)))
-told c = let e : toZ w32 (ofZ w32 (word-at (c .before))) ≡ word-at (c .before) = search needs in rw e at (c .closes .ensures)
+told : (c : tie.After-is-zero Inv-loop μ-loop) → c .is-zero .result ≡ isZero (word-at (c .before))
+told c = let e : toZ w32 (ofZ w32 (word-at (c .before))) ≡ word-at (c .before) = search needs in rw e at (c .is-zero .ensures)
 
 seen-told :
     (c : tie.After-see-word Inv-loop μ-loop)
@@ -34,13 +34,13 @@ seen-told c = let e : toZ w32 (ofZ w32 (word-at (c .before .before .before))) �
 -- one word further
 step :
     (c : tie.After-see-word Inv-loop μ-loop)
-    → clauseEntry (c .before .before .before .before .before .before .before .args .marks .now) (c .see-word .result) (firstClause (drop (c .before .before .before .before .before .loop .i + 1) (c .before .before .before .before .before .before .before .args .clauses .now)))
-    ≡ clauseEntry (c .before .before .before .before .before .before .before .args .marks .now) 0 (firstClause (drop (c .before .before .before .before .before .before .before .args .from) (c .before .before .before .before .before .before .before .args .clauses .now)))
+    → clauseEntry (c .before .before .before .before .before .before .before .args .marks .now) (c .see-word .result) (clauseAt (c .before .before .before .before .before .before .before .args .clauses .now) (c .before .before .before .before .before .loop .i + 1))
+    ≡ clauseEntry (c .before .before .before .before .before .before .before .args .marks .now) 0 (clauseAt (c .before .before .before .before .before .before .before .args .clauses .now) (c .before .before .before .before .before .before .before .args .from))
 unfolding clauseEntry
 step c =
     let k = sym (told (c .before .before)) ∙ c .before .if1 .left in
     let l = c .before .before .before .before .before .loop in
-    rw (seen-told c) (rw (first-clause-more (c .before .before .before .before .before .before .before .args .clauses .now) (l .i) (pos 0) (search needs) k) at (l .inv))
+    rw (seen-told c) (rw (clause-literal (c .before .before .before .before .before .before .before .args .clauses .now) (l .i) (search needs) k) at (l .inv))
 
 loop-holds : tie.Need-loop-holds Inv-loop μ-loop
 loop-holds c = refl
@@ -50,7 +50,7 @@ unfolding clauseEntry
 returns c =
     let k = sym (told (c .before)) ∙ c .if1 .taken in
     let l = c .before .before .before .before .loop in
-    rw (first-clause-closing (c .before .before .before .before .before .before .args .clauses .now) (l .i) (pos 0) (search needs) k) at (l .inv)
+    rw (clause-zero (c .before .before .before .before .before .before .args .clauses .now) (l .i) (search needs) k) at (l .inv)
 
 returns-2 : tie.Need-returns-2 Inv-loop μ-loop
 returns-2 c = c .if2 .taken ∙ sym (clause-entry-several _ _) ∙ (rw (c .if2 .taken) at (step (c .before)))
@@ -62,7 +62,7 @@ returns-3 : tie.Need-returns-3 Inv-loop μ-loop
 unfolding clauseEntry
 returns-3 c =
     let l = c .before .loop in
-    rw (first-clause-end (c .before .before .before .args .clauses .now) (l .i) (search needs)) at (l .inv)
+    rw (clause-past (c .before .before .before .args .clauses .now) (l .i) (search needs)) at (l .inv)
 
 pub clause-entry-spec : {M : Type 1} → statement M
 clause-entry-spec =

@@ -2,12 +2,11 @@
 use Prim.Native.Nat.{_≤_, _-_}
 use mathlib.Core.Path.{_≡_, refl, _∙_}
 use native.Mathlib.Omega.{arith}
-use lib.IntN.{pos}
 use borrow.Author.Needs.{needs}
 use lib.ListN.{length, drop, drop-of-length-le}
 use Rattle.formula.specs.Decode.{clausesOf}
 use Rattle.dependency.specs.Marks.{pass}
-use Rattle.dependency.specs.Marks.Place.{clauses-at}
+use Rattle.formula.specs.Decode.Places.{clauses-at}
 use Rattle.dependency.proofs.pass.pass.Statement.{statement}
 use Rattle.dependency.proofs.pass.pass.Tie as tie
 
@@ -36,12 +35,9 @@ unfolding pass
 loop-again c =
     let l = c .before .before .before .before .before .before .before .loop in
     let ws = c .before .before .before .before .before .before .before .before .before .args .clauses .now in
-    let e = rw (clauses-at ws (l .at) (pos 0) (search needs)) at (l .inv .0) in
+    let e = rw (clauses-at ws (l .at) (search needs)) at (l .inv .0) in
     let r = c .before .before .reach-clause .ensures in
     (rw (r .later, r .marks, c .before .before .before .before .clause-entry .ensures) e, c .before .before .reach-clause .kept .1 .1 .1 .0 ∙ l .inv .1)
-
-same-length : tie.Need-same-length Inv-loop μ-loop
-same-length c = search needs
 
 returns : tie.Need-returns Inv-loop μ-loop
 unfolding pass clausesOf
@@ -54,4 +50,4 @@ returns c =
 pub pass-spec : {M : Type 1} → statement M
 pass-spec =
     tie.close
-    (tie.spec Inv-loop μ-loop loop-holds clause-entry-requires reach-clause-requires loop-less loop-again same-length returns)
+    (tie.spec Inv-loop μ-loop loop-holds clause-entry-requires reach-clause-requires loop-less loop-again (λ c. search needs) returns)

@@ -6,26 +6,19 @@ use lib.IntN.{ℤ, pos}
 use mir.Syntax.{w32}
 use mir.Val.{toZ, ofZ}
 use borrow.Author.Needs.{needs}
-use lib.ListN.{length, drop, getD}
-use Rattle.formula.specs.Word.{wordOf}
-use Rattle.dependency.specs.Marks.{isZero, reachWord, reachClause}
-use Rattle.dependency.specs.Marks.Place.{
-  first-clause-more,
-  first-clause-closing,
-  first-clause-end,
-  later-words-more,
-  later-words-closing,
-  later-words-end,
-}
-use Rattle.formula.specs.Decode.{firstClause, laterWords}
+use lib.ListN.{length, getD}
+use Rattle.formula.specs.Word.{wordOf, isZero}
+use Rattle.formula.specs.Decode.{clauseAt, wordsAfter}
+use Rattle.formula.specs.Decode.Places.{clause-literal, clause-zero, clause-past, after-literal, after-zero, after-past}
+use Rattle.dependency.specs.Marks.{reachWord, reachClause}
 use Rattle.dependency.proofs.pass.reach_clause.Statement.{statement}
 use Rattle.dependency.proofs.pass.reach_clause.Tie as tie
 
 -- What is left of the clause gives the same marks, and the same words come after it.
 abbrev Inv-loop : tie.InvT-loop
 Inv-loop clauses from entry marks₀ i₀ marks i =
-    (reachClause entry (firstClause (drop i clauses)) marks ≡ reachClause entry (firstClause (drop from clauses)) marks₀)
-    × (laterWords (drop i clauses) ≡ laterWords (drop from clauses))
+    (reachClause entry (clauseAt clauses i) marks ≡ reachClause entry (clauseAt clauses from) marks₀)
+    × (wordsAfter clauses i ≡ wordsAfter clauses from)
     × (from ≤ i)
     × (length marks ≡ length marks₀)
 
@@ -38,8 +31,8 @@ words c = c .before .before .args .clauses .now
 abbrev word-at : (c : tie.After-word Inv-loop μ-loop) → ℤ
 word-at c = getD (words (c .before .before)) (c .before .before .loop .i) (pos 0)
 
-told : (c : tie.After-closes Inv-loop μ-loop) → c .closes .result ≡ isZero (wordOf (word-at (c .before)))
-told c = let e : toZ w32 (ofZ w32 (word-at (c .before))) ≡ word-at (c .before) = search needs in rw e at (c .closes .ensures)
+told : (c : tie.After-is-zero Inv-loop μ-loop) → c .is-zero .result ≡ isZero (word-at (c .before))
+told c = let e : toZ w32 (ofZ w32 (word-at (c .before))) ≡ word-at (c .before) = search needs in rw e at (c .is-zero .ensures)
 
 -- the marks after one word
 reached :
@@ -60,8 +53,8 @@ returns c =
     let l = c .before .before .before .before .loop in
     let ws = words (c .before .before .before .before) in
     record {
-      marks = rw (first-clause-closing ws (l .i) (pos 0) (search needs) k) at (l .inv .0);
-      later = sym (later-words-closing ws (l .i) (pos 0) (search needs) k) ∙ l .inv .1;
+      marks = rw (clause-zero ws (l .i) (search needs) k) at (l .inv .0);
+      later = sym (after-zero ws (l .i) (search needs) k) ∙ l .inv .1;
       further = λ h. search needs;
     }
 
@@ -74,8 +67,8 @@ loop-again c =
     let k = sym (told (c .before .before .before .before .before)) ∙ c .before .before .before .before .if1 .left in
     let l = c .before .before .before .before .before .before .before .before .loop in
     let ws = words (c .before .before .before .before .before .before .before .before) in (
-      rw (reached (c .before .before)) (rw (first-clause-more ws (l .i) (pos 0) (search needs) k) at (l .inv .0)),
-      sym (later-words-more ws (l .i) (pos 0) (search needs) k) ∙ l .inv .1,
+      rw (reached (c .before .before)) (rw (clause-literal ws (l .i) (search needs) k) at (l .inv .0)),
+      sym (after-literal ws (l .i) (search needs) k) ∙ l .inv .1,
       search needs,
       c .before .before .reach-word .kept .1 .1 .0 ∙ l .inv .3,
     )
@@ -86,8 +79,8 @@ returns-2 c =
     let l = c .before .loop in
     let ws = words (c .before) in
     record {
-      marks = rw (first-clause-end ws (l .i) (search needs)) at (l .inv .0);
-      later = sym (later-words-end ws (l .i) (search needs)) ∙ l .inv .1;
+      marks = rw (clause-past ws (l .i) (search needs)) at (l .inv .0);
+      later = sym (after-past ws (l .i) (search needs)) ∙ l .inv .1;
       further = λ h. search needs;
     }
 

@@ -26,16 +26,10 @@ second-pair a b c d h = go (eqb a 2 && eqb b 2) h
     go true k = absurd (k refl)
     go false k = refl
 
-both-reached-requires : tie.Need-both-reached-requires
-both-reached-requires c κs = search needs
-
 returns : tie.Need-returns
 returns c =
     let a = c .before .before .args in
     first-pair (a .first) (a .second) (a .third) (a .fourth) (sym (c .before .both-reached .ensures) ∙ c .if1 .taken)
-
-both-reached-requires-2 : tie.Need-both-reached-requires-2
-both-reached-requires-2 c κs = search needs
 
 returns-2 : tie.Need-returns-2
 returns-2 c =
@@ -44,4 +38,4 @@ returns-2 c =
     ∙ second-pair (a .first) (a .second) (a .third) (a .fourth) (λ k. c .before .if1 .left (c .before .before .both-reached .ensures ∙ k))
 
 pub depends-byte-spec : {M : Type 1} → statement M
-depends-byte-spec = tie.close (tie.spec both-reached-requires returns both-reached-requires-2 returns-2)
+depends-byte-spec = tie.close (tie.spec (λ c κs. search needs) returns (λ c κs. search needs) returns-2)

@@ -7,7 +7,7 @@ use borrow.Author.Needs.{needs}
 use lib.ListN.{length, take, drop, length-set, length-drop, take-append-drop}
 use lib.Seq.{take-set-le, drop-set-add, take-suc-set, take-all}
 use Rattle.dependency.specs.Search.{rowFrom, rowByte}
-use Rattle.dependency.specs.Search.Front.{front-row-byte}
+use Rattle.dependency.specs.Search.Frame.{front-row-byte}
 use Rattle.dependency.proofs.row.fill_row.Statement.{statement}
 use Rattle.dependency.proofs.row.fill_row.Tie as tie
 

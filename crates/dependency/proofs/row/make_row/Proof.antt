@@ -1,53 +1,41 @@
--- `make_row` makes its number a variable, which a universal of the prefix is. Assumes nothing.
-use Prim.Native.Nat.{ℕ, _≤_}
-use mathlib.Core.Path.{_≡_, ap, sym, _∙_}
+-- `make_row` lends the part of scratch before the caller's. Assumes nothing.
+use Prim.Native.Nat.{_≤_}
+use mathlib.Core.Path.{_≡_, sym}
 use native.Mathlib.Omega.{arith}
 use borrow.Author.Needs.{needs}
-use borrow.Author.Tests.{le-leb}
-use Rattle.formula.specs.Bounds.{variableFit, inRange}
-use Rattle.formula.specs.declared.literal.Variable.{Variable}
-use Rattle.formula.specs.declared.literal.VariableFit.{VariableFit}
-use Rattle.formula.specs.declared.literal.VariableFit.the-variants.{Within, Outside}
-use Rattle.dependency.specs.Row.Universal.{universal-range}
+use lib.ListN.{length, take}
+use lib.Seq.{length-take-le}
+use Rattle.formula.specs.Decode.{formulaOf}
+use Rattle.dependency.specs.Scratch.{scratchBound}
+use Rattle.dependency.specs.Scratch.Laws.{row-made}
 use Rattle.dependency.proofs.row.make_row.Statement.{statement}
 use Rattle.dependency.proofs.row.make_row.Tie as tie
 
-range : (c : tie.Start) → (1 ≤ c .args .variable) × (c .args .variable ≤ 1024)
-range c = universal-range (c .args .prefix .now) (c .args .clauses .now) (c .pre .0) (c .args .variable) (c .pre .1 .0)
+lent : (c : tie.Start) → length (take 5125 (c .args .scratch .now)) ≡ 5125
+unfolding scratchBound
+lent c = let h : 8200 ≤ length (c .args .scratch .now) = c .pre .1 .1 in length-take-le 5125 (c .args .scratch .now) (omega arith)
 
--- a number in range is made a variable
-made : (n : ℕ) (f : VariableFit) → (1 ≤ n) × (n ≤ 1024) → variableFit (inRange n 1024) n ≡ f → Within (record { 0 = n }) ≡ f
-made n f r e = rw (le-leb 1 n (r .0), le-leb n 1024 (r .1)) at e
+slice-relend-prefix-universal-row : tie.Need-slice-relend-prefix-universal-row
+unfolding scratchBound
+slice-relend-prefix-universal-row c = search needs
 
-number-of : (n : ℕ) (u : Variable) → Within (record { 0 = n }) ≡ Within u → n ≡ u .0
-number-of n u e = let q : record { 0 = n } ≡ u = cc in ap (λ (v : Variable). v .0) q
+slice-aggregate-universal-row : tie.Need-slice-aggregate-universal-row
+slice-aggregate-universal-row c = sym (lent (c .before .before))
 
-variable-at : (c : tie.After-known-told) → c .before .before .before .before .before .args .variable ≡ c .before .u .given .0 .0 .0
-variable-at c =
-    let start = c .before .before .before .before .before in
-    number-of (start .args .variable) _ (made (start .args .variable) _ (range start) (sym (c .before .before .before .new .ensures) ∙ c .before .u .given .1))
+universal-row-requires : tie.Need-universal-row-requires
+universal-row-requires c κs = let start = c .before .before in (start .pre .0, (start .pre .1 .0, lent start))
 
 returns : tie.Need-returns
 returns c =
-    let start = c .before .before .before .before in
-    let e = made (start .args .variable) Outside (range start) (sym (c .before .before .new .ensures) ∙ c .enum-told .given .1) in
-    let z : _≡_ {A = ℕ} 0 1 = cc in
-    absurd (omega arith)
-
-universal-row-requires : tie.Need-universal-row-requires
-universal-row-requires c κs = rw (← variable-at (c .before)) (c .before .before .before .before .before .before .pre)
-
-returns-2 : tie.Need-returns-2
-returns-2 c = rw (variable-at (c .before .before .before .before)) (c .before .before .universal-row .ensures)
+    let a = c .before .before .before .before .before .args in
+    row-made (formulaOf (a .prefix .now) (a .clauses .now)) (a .variable .0) (a .scratch .now) _ (c .before .before .universal-row .ensures)
 
 pub make-row-spec : {M : Type 1} → statement M
 make-row-spec =
     tie.close
     (tie.spec
-    (λ c κs. search needs)
-    (λ c. search needs)
-    (λ c. search needs)
-    returns
+    slice-relend-prefix-universal-row
+    slice-aggregate-universal-row
     universal-row-requires
     (λ c. search needs)
-    returns-2)
+    returns)

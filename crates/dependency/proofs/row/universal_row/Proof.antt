@@ -10,7 +10,7 @@ use Rattle.formula.specs.Decode.{formulaOf}
 use Rattle.dependency.specs.Row.{rowOf}
 use Rattle.dependency.specs.Search.{rowFrom}
 use Rattle.dependency.specs.Search.Rows.{row-from-searches, lent-twice, row-left}
-use Rattle.dependency.specs.Row.Universal.{universal-range}
+use Rattle.dependency.specs.Row.Laws.{universal-range}
 use Rattle.dependency.proofs.row.universal_row.Statement.{statement}
 use Rattle.dependency.proofs.row.universal_row.Tie as tie
 

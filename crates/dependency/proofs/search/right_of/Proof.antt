@@ -1,62 +1,57 @@
 -- `right_of` runs down the prefix: what stands right of the variable is found in what is left. Assumes nothing.
-use Prim.Native.Nat.{_≤_, _-_}
-use mathlib.Core.Path.{_≡_, refl, sym, _∙_}
+use Prim.Native.Nat.{_≤_, _<_, _-_}
+use mathlib.Core.Path.{_≡_, refl, ap, sym, _∙_}
 use native.Mathlib.Numerals.{add-one}
-use mathlib.Core.List.{List}
-use lib.IntN.{ℤ, pos}
-use mir.Syntax.{w32}
-use mir.Val.{toZ, ofZ}
+use native.Mathlib.Omega.{arith}
 use borrow.Author.Needs.{needs}
-use borrow.Author.Tests.{eq-eqb, ne-eqb}
-use lib.ListN.{length, drop, getD, drop-of-length-le}
-use lib.Seq.{drop-cons}
-use Rattle.formula.specs.Word.{wordOf}
-use Rattle.dependency.specs.Search.{variableIn, rightOf}
+use lib.ListN.{length, drop, drop-of-length-le}
+use Rattle.qbf.specs.Formula.{after}
+use Rattle.qbf.specs.Formula.Laws.{after-own, after-other}
+use Rattle.formula.specs.Prefix.{prefixOf, entryCount}
+use Rattle.formula.specs.Prefix.Laws.{entries-drop}
 use Rattle.dependency.proofs.search.right_of.Statement.{statement}
 use Rattle.dependency.proofs.search.right_of.Tie as tie
 
 abbrev Inv-loop : tie.InvT-loop
-Inv-loop prefix variable i₀ i = rightOf variable (drop i prefix) ≡ rightOf variable prefix
+Inv-loop prefix variable count i₀ i = after (variable .0) (drop i (prefixOf prefix)) ≡ after (variable .0) (prefixOf prefix)
 
 abbrev μ-loop : tie.MeasureT-loop
-μ-loop prefix variable i₀ i = length prefix - i
+μ-loop prefix variable count i₀ i = count - i
 
-abbrev words : (c : tie.At-loop Inv-loop μ-loop) → List ℤ
-words c = c .before .args .prefix .now
-
-abbrev word-at : (c : tie.After-word Inv-loop μ-loop) → ℤ
-word-at c = getD (words (c .before .before)) (c .before .before .loop .i) (pos 0)
-
-told : (c : tie.After-variable-of Inv-loop μ-loop) → c .variable-of .result ≡ variableIn (wordOf (word-at (c .before)))
-told c = let e : toZ w32 (ofZ w32 (word-at (c .before))) ≡ word-at (c .before) = search needs in rw e at (c .variable-of .ensures)
+within : (c : tie.In-loop Inv-loop μ-loop) → c .before .loop .i < entryCount (c .before .before .before .args .prefix .now)
+within c = omega (arith, c .before .before .entry-count .ensures, c .loop-test .taken)
 
 loop-holds : tie.Need-loop-holds Inv-loop μ-loop
 loop-holds c = refl
 
+variable-at-requires : tie.Need-variable-at-requires Inv-loop μ-loop
+variable-at-requires c κs = (c .before .before .before .pre, within c)
+
 returns : tie.Need-returns Inv-loop μ-loop
-unfolding rightOf
 returns c =
-    let l = c .before .before .before .before .loop in
-    let ws = words (c .before .before .before .before) in
-    let e = rw (drop-cons ws (l .i) (pos 0) (search needs)) at (l .inv) in
-    let k = eq-eqb (variableIn (wordOf (word-at (c .before .before)))) (c .before .before .before .before .before .args .variable) (sym (told (c .before)) ∙ c .if1 .taken) in
-    rw add-one (rw k at e)
+    let loop = c .before .before .before in
+    let v = loop .before .before .before .args .variable .0 in
+    rw add-one
+    (sym (after-own v _ _ (sym (c .before .before .variable-at .ensures) ∙ c .if1 .taken))
+    ∙ ap (after v) (sym (entries-drop (loop .before .before .before .args .prefix .now) (loop .before .loop .i) (within loop)))
+    ∙ loop .before .loop .inv)
 
 loop-again : tie.Need-loop-again Inv-loop μ-loop
-unfolding rightOf
 loop-again c =
-    let l = c .before .before .before .before .loop in
-    let ws = words (c .before .before .before .before) in
-    let e = rw (drop-cons ws (l .i) (pos 0) (search needs)) at (l .inv) in
-    let k = ne-eqb (variableIn (wordOf (word-at (c .before .before)))) (c .before .before .before .before .before .args .variable) (λ q. c .if1 .left (told (c .before) ∙ q)) in
-    rw add-one (rw k at e)
+    let loop = c .before .before .before in
+    let v = loop .before .before .before .args .variable .0 in
+    rw add-one
+    (sym (after-other v _ _ (λ e. c .if1 .left (c .before .before .variable-at .ensures ∙ e)))
+    ∙ ap (after v) (sym (entries-drop (loop .before .before .before .args .prefix .now) (loop .before .loop .i) (within loop)))
+    ∙ loop .before .loop .inv)
 
 returns-2 : tie.Need-returns-2 Inv-loop μ-loop
-unfolding rightOf
+unfolding after
 returns-2 c =
     let l = c .before .loop in
-    let h : length (words (c .before)) ≤ l .i = search needs in
-    rw (drop-of-length-le (words (c .before)) h) (rw (drop-of-length-le (words (c .before)) h) at (l .inv))
+    let P = prefixOf (c .before .before .before .args .prefix .now) in
+    let h : length P ≤ l .i = omega (arith, c .before .before .entry-count .ensures, c .loop-test .left) in
+    rw (drop-of-length-le P h) (rw (drop-of-length-le P h) at (l .inv))
 
 pub right-of-spec : {M : Type 1} → statement M
 right-of-spec =
@@ -64,11 +59,10 @@ right-of-spec =
     (tie.spec
     Inv-loop
     μ-loop
-    loop-holds
-    (λ c. search needs)
-    (λ c. search needs)
-    (λ c. search needs)
     (λ c κs. search needs)
+    loop-holds
+    variable-at-requires
+    (λ c. search needs)
     returns
     (λ c. search needs)
     loop-again

@@ -6,8 +6,11 @@ use native.Mathlib.Omega.{arith}
 use borrow.Author.Needs.{needs}
 use lib.ListN.{length, replicate, length-set}
 use Rattle.formula.specs.Clear.{clearFrom}
-use Rattle.dependency.specs.Marks.{slot}
-use Rattle.dependency.specs.Search.{rightOf, openWords}
+use Rattle.qbf.specs.Formula.{after}
+use Rattle.formula.specs.Word.{slot}
+use Rattle.formula.specs.Prefix.{prefixOf, Entries}
+use Rattle.formula.specs.Tables.Laws.{admitted-entries}
+use Rattle.dependency.specs.Search.{openEntries}
 use Rattle.dependency.specs.Search.Laws.{searched}
 use Rattle.dependency.proofs.search.search.Statement.{statement}
 use Rattle.dependency.proofs.search.search.Tie as tie
@@ -23,13 +26,24 @@ unfolding clearFrom
 cleared c = rw (c .before .before .before .pre .1 .1) at (c .clear-bytes .ensures)
 
 opened :
-    (c : tie.After-open-words)
-    → c .open-words .last .1 .1 .0
-    ≡ openWords (rightOf (c .before .before .before .before .before .before .before .before .args .variable .0) (c .before .before .before .before .before .before .before .before .args .prefix .now)) (replicate 2050 0)
-opened c = rw (c .before .before .right-of .ensures, cleared (c .before .before .before .before .before)) at (c .open-words .ensures)
+    (c : tie.After-open-entries)
+    → c .open-entries .last .1 .1 .0
+    ≡ openEntries (after (c .before .before .before .before .before .before .before .before .args .variable .0) (prefixOf (c .before .before .before .before .before .before .before .before .args .prefix .now))) (replicate 2050 0)
+opened c = rw (c .before .before .right-of .ensures, cleared (c .before .before .before .before .before)) at (c .open-entries .ensures)
 
-opened-size : (c : tie.After-open-words) → length (c .open-words .last .1 .1 .0) ≡ 2050
-opened-size c = c .open-words .kept .1 .1 .0 ∙ c .before .before .before .before .before .clear-bytes .kept .0 ∙ c .before .before .before .before .before .before .before .before .pre .1 .1
+opened-size : (c : tie.After-open-entries) → length (c .open-entries .last .1 .1 .0) ≡ 2050
+opened-size c = c .open-entries .kept .1 .1 .0 ∙ c .before .before .before .before .before .clear-bytes .kept .0 ∙ c .before .before .before .before .before .before .before .before .pre .1 .1
+
+entries : (c : tie.Start) → Entries (c .args .prefix .now)
+entries c = admitted-entries (c .args .prefix .now) (c .args .clauses .now) (c .pre .0)
+
+right-of-requires : tie.Need-right-of-requires
+right-of-requires c κs = entries (c .before .before .before .before .before)
+
+open-entries-requires : tie.Need-open-entries-requires
+open-entries-requires c κs =
+    let start = c .before .before .before .before .before .before .before in
+    (entries start, c .before .before .before .before .clear-bytes .kept .0 ∙ start .pre .1 .1)
 
 source-of-requires : tie.Need-source-of-requires
 source-of-requires c κs = c .before .before .before .before .before .before .before .before .before .before .pre .1 .0 .1
@@ -60,8 +74,8 @@ search-spec =
     tie.close
     (tie.spec
     (λ c κs. search needs)
-    (λ c κs. search needs)
-    (λ c κs. search needs)
+    right-of-requires
+    open-entries-requires
     source-of-requires
     slice-write-marks
     settle-requires

@@ -10,7 +10,7 @@ use lib.ListN.{length}
 use Rattle.formula.specs.Decode.{clausesOf}
 use Rattle.dependency.specs.Marks.{pass}
 use Rattle.dependency.specs.Search.{ones, passes}
-use Rattle.dependency.specs.Search.Shrink.{pass-ones, pass-still, none-left-still}
+use Rattle.dependency.specs.Search.Progress.{pass-ones, pass-still, none-left-still}
 use Rattle.dependency.proofs.search.settle.Statement.{statement}
 use Rattle.dependency.proofs.search.settle.Tie as tie
 

@@ -3,23 +3,21 @@
 use Prim.Native.Nat.{_+_, _-_}
 use mathlib.Core.Path.{_≡_, refl, ap, sym, _∙_}
 use mathlib.Core.Bool.{Bool, true, false, _||_}
-use native.Mathlib.Omega.{arith}
 use borrow.Author.Needs.{needs}
-use lib.IntN.{pos}
-use lib.ListN.{length, drop, getD}
-use mir.Syntax.{w32}
-use mir.Val.{toZ, ofZ}
+use lib.IntN.{ℤ, pos}
+use lib.ListN.{length, getD}
 use Rattle.qbf.specs.Play.{satisfied}
-use Rattle.formula.specs.Decode.{firstClause, clauseOf}
+use Rattle.formula.specs.Word.{isZero}
+use Rattle.formula.specs.Decode.{clauseAt, clauseOf}
 use Rattle.evaluator.specs.Values.{valuesOf}
-use Rattle.evaluator.proofs.Signed.{read-back, bits-zero}
+use Rattle.evaluator.proofs.Signed.{read-back}
 use Rattle.evaluator.proofs.Words.{satisfied-at-zero, satisfied-at-word, satisfied-at-end}
 use Rattle.evaluator.proofs.clause.clause_satisfied.Statement.{statement}
 use Rattle.evaluator.proofs.clause.clause_satisfied.Tie as tie
 
 abbrev Inv-loop : tie.InvT-loop
 Inv-loop values clauses from i₀ i =
-    satisfied (valuesOf values) (clauseOf (firstClause (drop i clauses))) ≡ satisfied (valuesOf values) (clauseOf (firstClause (drop from clauses)))
+    satisfied (valuesOf values) (clauseOf (clauseAt clauses i)) ≡ satisfied (valuesOf values) (clauseOf (clauseAt clauses from))
 
 abbrev μ-loop : tie.MeasureT-loop
 μ-loop values clauses from i₀ i = length clauses - i
@@ -27,42 +25,39 @@ abbrev μ-loop : tie.MeasureT-loop
 loop-holds : tie.Need-loop-holds Inv-loop μ-loop
 loop-holds c = refl
 
+abbrev word-at : (c : tie.After-word Inv-loop μ-loop) → ℤ
+word-at c = getD (c .before .before .before .before .args .clauses .now) (c .before .before .loop .i) (pos 0)
+
+told : (c : tie.After-is-zero Inv-loop μ-loop) → c .is-zero .result ≡ isZero (word-at (c .before))
+told c = rw (read-back (word-at (c .before)) (c .before .word .given)) at (c .is-zero .ensures)
+
 returns : tie.Need-returns Inv-loop μ-loop
 returns c =
-    let l = c .before .before .before .loop in
-    let s = c .before .before .before .before .before in
-    let ws = s .args .clauses .now in
-    let z : getD ws (l .i) (pos 0) ≡ pos 0 = bits-zero (getD ws (l .i) (pos 0)) (c .before .word .given) (c .if1 .taken) in
-    sym (satisfied-at-zero (valuesOf (s .args .values .now)) ws (l .i) (search needs) z) ∙ l .inv
+    let l = c .before .before .before .before .loop in
+    let s = c .before .before .before .before .before .before in
+    sym (satisfied-at-zero (valuesOf (s .args .values .now)) (s .args .clauses .now) (l .i) (search needs) (sym (told (c .before)) ∙ c .if1 .taken)) ∙ l .inv
 
 -- what the test of the literal at the place, answered b, says of the clause
 tested :
     (c : tie.After-literal-true Inv-loop μ-loop) (b : Bool)
     → c .literal-true .result ≡ b
-    → let l = c .before .before .before .before .loop in
-    let s = c .before .before .before .before .before .before in
+    → let l = c .before .before .before .before .before .loop in
+    let s = c .before .before .before .before .before .before .before in
     let τ = valuesOf (s .args .values .now) in
     let ws = s .args .clauses .now in
-    (b || satisfied τ (clauseOf (firstClause (drop (l .i + 1) ws)))) ≡ satisfied τ (clauseOf (firstClause (drop (s .args .from) ws)))
+    (b || satisfied τ (clauseOf (clauseAt ws (l .i + 1)))) ≡ satisfied τ (clauseOf (clauseAt ws (s .args .from)))
 tested c b t =
-    let l = c .before .before .before .before .loop in
-    let s = c .before .before .before .before .before .before in
+    let l = c .before .before .before .before .before .loop in
+    let s = c .before .before .before .before .before .before .before in
     let ws = s .args .clauses .now in
     let τ = valuesOf (s .args .values .now) in
-    let w = getD ws (l .i) (pos 0) in
-    let e : toZ w32 (ofZ w32 w) ≡ w = read-back w (c .before .before .word .given) in
-    ap (λ (b : Bool). b || satisfied τ (clauseOf (firstClause (drop (l .i + 1) ws)))) (sym t ∙ (rw e at (c .literal-true .ensures)))
-    ∙ sym (satisfied-at-word τ ws (l .i) (search needs) (λ k. c .before .if1 .left (ap (ofZ w32) k)))
+    let e = read-back (word-at (c .before .before .before)) (c .before .before .before .word .given) in
+    ap (λ (b : Bool). b || satisfied τ (clauseOf (clauseAt ws (l .i + 1)))) (sym t ∙ (rw e at (c .literal-true .ensures)))
+    ∙ sym (satisfied-at-word τ ws (l .i) (search needs) (sym (told (c .before .before)) ∙ c .before .if1 .left))
     ∙ l .inv
 
 returns-2 : tie.Need-returns-2 Inv-loop μ-loop
 returns-2 c = tested (c .before) true (c .if2 .taken)
-
-add-i : tie.Need-add-i Inv-loop μ-loop
-add-i c = omega arith
-
-loop-less : tie.Need-loop-less Inv-loop μ-loop
-loop-less c = omega arith
 
 loop-again : tie.Need-loop-again Inv-loop μ-loop
 loop-again c = tested (c .before) false (c .if2 .left)
@@ -81,10 +76,11 @@ clause-satisfied-spec =
     loop-holds
     (λ c. search needs)
     (λ c. search needs)
+    (λ c κs. search needs)
     returns
     (λ c κs. search needs)
     returns-2
-    add-i
-    loop-less
+    (λ c. search needs)
+    (λ c. search needs)
     loop-again
     returns-3)

@@ -37,12 +37,6 @@ unfolding valuesOf
 negative-true vs (pos n) e = absurd (omega (arith, ltb-true n 0 e))
 negative-true vs (negsuc n) e = beq-false (eqb (getD vs (suc n) 0) 1)
 
-magnitude-requires : tie.Need-magnitude-requires
-magnitude-requires c κs = search needs
-
-value-requires : tie.Need-value-requires
-value-requires c κs = search needs
-
 returns : tie.Need-returns
 returns c =
     let s = c .before .before .before .before in
@@ -58,4 +52,4 @@ returns-2 c =
     (positive-true (s .args .values .now) (s .args .word) (rw e at (c .if1 .left)))
 
 pub literal-true-spec : {M : Type 1} → statement M
-literal-true-spec = tie.close (tie.spec magnitude-requires value-requires returns returns-2)
+literal-true-spec = tie.close (tie.spec (λ c κs. search needs) (λ c κs. search needs) returns returns-2)

@@ -42,10 +42,7 @@ cast-result-2 c = rw (back (c .before)) (nonnegative (c .before .args .word) (rw
 returns : tie.Need-returns
 returns c = rw (opposite-at c) (negative-at c .is)
 
-returns-2 : tie.Need-returns-2
-returns-2 c = search needs
-
 pub magnitude-spec : {M : Type 1} → statement M
 magnitude-spec =
     tie.close
-    (tie.spec add-result sub-result cast-result add-result-2 cast-result-2 returns returns-2)
+    (tie.spec add-result sub-result cast-result add-result-2 cast-result-2 returns (λ c. search needs))

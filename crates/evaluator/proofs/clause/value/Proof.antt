@@ -5,14 +5,8 @@ use lib.ListN.{List·getD-eq-default}
 use Rattle.evaluator.proofs.clause.value.Statement.{statement}
 use Rattle.evaluator.proofs.clause.value.Tie as tie
 
-shared-slice-read-result : tie.Need-shared-slice-read-result
-shared-slice-read-result c = search needs
-
-returns : tie.Need-returns
-returns c = search needs
-
 returns-2 : tie.Need-returns-2
 returns-2 c = sym (List·getD-eq-default (c .before .args .values .now) 0 (c .if1 .left))
 
 pub value-spec : {M : Type 1} → statement M
-value-spec = tie.close (tie.spec shared-slice-read-result returns returns-2)
+value-spec = tie.close (tie.spec (λ c. search needs) (λ c. search needs) returns-2)

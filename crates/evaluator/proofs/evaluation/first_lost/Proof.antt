@@ -2,8 +2,10 @@
 use mathlib.Core.Path.{ap, sym, _∙_}
 use borrow.Author.Needs.{needs}
 use Rattle.qbf.specs.Play.{Values, lost}
-use Rattle.formula.specs.Decode.{prefixOf, matrixOf}
-use Rattle.evaluator.specs.Values.{values-zero}
+use native.Mathlib.Omega.{arith}
+use Rattle.formula.specs.Prefix.{prefixOf}
+use Rattle.formula.specs.Decode.{matrixOf}
+use Rattle.evaluator.specs.Values.Laws.{values-zero}
 use Rattle.evaluator.proofs.Position.{due-universal, due-existential}
 use Rattle.evaluator.proofs.evaluation.first_lost.Statement.{statement}
 use Rattle.evaluator.proofs.evaluation.first_lost.Tie as tie
@@ -11,12 +13,12 @@ use Rattle.evaluator.proofs.evaluation.first_lost.Tie as tie
 universal-turn-requires : tie.Need-universal-turn-requires
 universal-turn-requires c κs =
     let s = c .before .before .before in
-    due-universal 1025 (s .args .prefix .now) (s .pre) (sym (c .before .before .universal-due .ensures) ∙ c .before .if1 .taken)
+    due-universal 1025 (s .args .prefix .now) (s .pre) (omega arith) (sym (c .before .before .universal-due .ensures) ∙ c .before .if1 .taken)
 
 existential-turn-requires : tie.Need-existential-turn-requires
 existential-turn-requires c κs =
     let s = c .before .before .before in
-    due-existential 1025 (s .args .prefix .now) (s .pre) (sym (c .before .before .universal-due .ensures) ∙ c .before .if1 .left)
+    due-existential 1025 (s .args .prefix .now) (s .pre) (omega arith) (sym (c .before .before .universal-due .ensures) ∙ c .before .if1 .left)
 
 returns : tie.Need-returns
 returns c =

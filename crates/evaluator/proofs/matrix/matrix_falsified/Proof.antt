@@ -7,7 +7,7 @@ use native.Mathlib.Omega.{arith}
 use borrow.Author.Needs.{needs}
 use lib.ListN.{length, drop}
 use Rattle.qbf.specs.Play.{falsified}
-use Rattle.formula.specs.Decode.{laterWords, matrixOf}
+use Rattle.formula.specs.Decode.{wordsAfter, matrixOf}
 use Rattle.evaluator.specs.Values.{valuesOf}
 use Rattle.evaluator.proofs.Words.{falsified-at, falsified-at-end}
 use Rattle.evaluator.proofs.matrix.matrix_falsified.Statement.{statement}
@@ -30,13 +30,13 @@ tested :
     let s = c .before .before .before .before in
     let τ = valuesOf (s .args .values .now) in
     let ws = s .args .clauses .now in
-    (not b || falsified τ (matrixOf (laterWords (drop (l .i) ws)))) ≡ falsified τ (matrixOf ws)
+    (not b || falsified τ (matrixOf (wordsAfter ws (l .i)))) ≡ falsified τ (matrixOf ws)
 tested c b t =
     let l = c .before .before .loop in
     let s = c .before .before .before .before in
     let τ = valuesOf (s .args .values .now) in
     let ws = s .args .clauses .now in
-    ap (λ (b : Bool). not b || falsified τ (matrixOf (laterWords (drop (l .i) ws)))) (sym t ∙ c .clause-satisfied .ensures)
+    ap (λ (b : Bool). not b || falsified τ (matrixOf (wordsAfter ws (l .i)))) (sym t ∙ c .clause-satisfied .ensures)
     ∙ sym (falsified-at τ ws (l .i) (search needs))
     ∙ l .inv
 

@@ -1,41 +1,53 @@
--- `universal_due` looks at the sign of the first word. Assumes nothing.
+-- `universal_due` looks at the first entry, if there is one. Assumes nothing.
 use Prim.Native.Nat.{_<_, _≤_}
-use mathlib.Core.Path.{_≡_, refl}
+use mathlib.Core.Path.{_≡_, refl, sym, _∙_}
 use mathlib.Core.Bool.{false}
-use mathlib.Core.List.{List, [], _∷_}
+use mathlib.Core.List.{[], _∷_}
 use native.Mathlib.Omega.{arith}
 use native.Mathlib.Nat.{not-suc-le-zero}
 use borrow.Author.Needs.{needs}
-use borrow.Author.Tests.{le-ltb}
-use lib.IntN.{ℤ, pos, negsuc}
 use lib.ListN.{length, getD}
-use lib.Signed.{ltZ}
+use Rattle.qbf.specs.Formula.{Entry, entry, existential, universal, Prefix}
+use Rattle.formula.specs.Prefix.{prefixOf, entryAt, entryCount, isQuantifier}
+use Rattle.formula.specs.Prefix.Laws.{shown-existential, shown-universal}
 use Rattle.evaluator.specs.Turns.{universalDue}
-use Rattle.evaluator.proofs.Signed.{read-back}
 use Rattle.evaluator.proofs.turns.universal_due.Statement.{statement}
 use Rattle.evaluator.proofs.turns.universal_due.Tie as tie
 
-due-none : (ws : List ℤ) → length ws ≤ 0 → false ≡ universalDue ws
+due-none : (P : Prefix) → length P ≤ 0 → false ≡ universalDue P
 unfolding universalDue
 due-none [] h = refl
-due-none (w ∷ ws) h = absurd (omega arith)
+due-none (x ∷ P) h = absurd (omega arith)
 
-due-sign : (ws : List ℤ) → 0 < length ws → ltZ (getD ws 0 (pos 0)) (pos 0) ≡ universalDue ws
+due-first : (P : Prefix) → 0 < length P → isQuantifier universal (getD P 0 (entry 0 existential) .quantifier) ≡ universalDue P
 unfolding universalDue
-due-sign [] h = absurd (not-suc-le-zero h)
-due-sign (pos n ∷ ws) h = le-ltb n 0 (omega arith)
-due-sign (negsuc n ∷ ws) h = refl
+due-first [] h = absurd (not-suc-le-zero h)
+due-first (x ∷ P) h = refl
 
-shared-slice-copy-out-word : tie.Need-shared-slice-copy-out-word
-shared-slice-copy-out-word c = search needs
+-- the first entry, and that there is one
+abbrev shown : (c : tie.Start) → Entry
+shown c = entryAt (c .args .prefix .now) 0
+
+some-left : (c : tie.Then1) → 0 < entryCount (c .before .before .args .prefix .now)
+some-left c = omega (arith, c .before .entry-count .ensures, c .if1 .taken)
+
+entry-at-requires : tie.Need-entry-at-requires
+entry-at-requires c κs = (c .before .before .pre, some-left c)
 
 returns : tie.Need-returns
 returns c =
-    rw (read-back (getD (c .before .before .args .prefix .now) 0 (pos 0)) (c .word .given))
-    (due-sign (c .before .before .args .prefix .now) (c .before .if1 .taken))
+    let start = c .before .before .before .before .before in
+    rw (shown-existential (shown start) _ (sym (c .before .before .entry-at .ensures) ∙ c .enum-told .given .1)) at (due-first (prefixOf (start .args .prefix .now)) (some-left (c .before .before .before)))
 
 returns-2 : tie.Need-returns-2
-returns-2 c = due-none (c .before .args .prefix .now) (c .if1 .left)
+returns-2 c =
+    let start = c .before .before .before .before .before in
+    rw (shown-universal (shown start) _ (sym (c .before .before .entry-at .ensures) ∙ c .enum-told2 .given .1)) at (due-first (prefixOf (start .args .prefix .now)) (some-left (c .before .before .before)))
+
+returns-3 : tie.Need-returns-3
+returns-3 c = due-none (prefixOf (c .before .before .args .prefix .now)) (omega (arith, c .before .entry-count .ensures, c .if1 .left))
 
 pub universal-due-spec : {M : Type 1} → statement M
-universal-due-spec = tie.close (tie.spec shared-slice-copy-out-word returns returns-2)
+universal-due-spec =
+    tie.close
+    (tie.spec (λ c κs. search needs) entry-at-requires (λ c. search needs) (λ c. search needs) returns returns-2 returns-3)

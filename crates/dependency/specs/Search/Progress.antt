@@ -10,10 +10,10 @@ use borrow.Author.Tests.{eqb-true}
 use lib.ListN.{getD, set}
 use lib.Dec.{eqb}
 use lib.IntN.{ℤ}
-use Rattle.formula.specs.Word.{wordOf}
+use Rattle.formula.specs.Word.{wordOf, slot}
 use Rattle.formula.specs.declared.literal.Word.{Word}
 use Rattle.formula.specs.declared.literal.Word.the-variants.{Zero, TooLarge, Positive, Negative}
-use Rattle.dependency.specs.Marks.{select, slot, reachAt, reachWord, clauseEntry, reachClause, pass}
+use Rattle.dependency.specs.Marks.{select, reachAt, reachWord, clauseEntry, reachClause, pass}
 use Rattle.dependency.specs.Search.{ones}
 
 -- One literal is reached.

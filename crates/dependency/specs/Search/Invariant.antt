@@ -14,19 +14,13 @@ use lib.Dec.{eqb}
 use lib.IntN.{ℤ}
 use Rattle.qbf.specs.Literal.{Literal, literal, neg, Matrix}
 use Rattle.qbf.specs.Path.{Joined, Path, one, more}
-use Rattle.formula.specs.Word.{wordOf}
+use Rattle.qbf.specs.Formula.Laws.{neg-neg}
+use Rattle.formula.specs.Word.{wordOf, slot}
+use Rattle.formula.specs.Word.Laws.{signedWord, Recognised, nothing, names, recognised}
 use Rattle.formula.specs.Decode.{literalOf, clauseOf}
-use Rattle.dependency.specs.Marks.{select, slot, reachAt, reachWord, clauseEntry, reachClause, pass}
-use Rattle.dependency.specs.Marks.Words.{signed, Reading, nothing, names, reading}
+use Rattle.dependency.specs.Marks.{select, reachAt, reachWord, clauseEntry, reachClause, pass}
 use Rattle.dependency.specs.Search.{passes}
 use Rattle.dependency.specs.Search.Entries.{byte, clause-entry-witnessed}
-
-pub not-not : (s : Bool) → not (not s) ≡ s
-not-not true = refl
-not-not false = refl
-
-pub neg-neg : (l : Literal) → neg (neg l) ≡ l
-neg-neg l = λ i. literal (l .variable) (not-not (l .sign) i)
 
 -- Literals of one byte are equal.
 pub slot-injective : (k l : Literal) → slot (k .variable) (k .sign) ≡ slot (l .variable) (l .sign) → k ≡ l
@@ -61,7 +55,7 @@ set-byte m l b h k = go (ℕ-discrete (slot (k .variable) (k .sign)) (slot (l .v
     go (no n) = inr (getD-set-other m (slot (l .variable) (l .sign)) (slot (k .variable) (k .sign)) b 0 n)
 
 -- Both signs are reached alike.
-pub reach-signed : (m : List ℕ) (entry v : ℕ) (s : Bool) → reachWord entry (signed v s) m ≡ reachAt entry v (slot v (not s)) m
+pub reach-signed : (m : List ℕ) (entry v : ℕ) (s : Bool) → reachWord entry (signedWord v s) m ≡ reachAt entry v (slot v (not s)) m
 unfolding reachWord
 reach-signed m entry v true = refl
 reach-signed m entry v false = refl
@@ -154,9 +148,9 @@ module _ (M : Matrix) (X : List ℕ) (a : Literal) where
       → ((entry ≡ 0 → ⊥) → (entry ≡ literalOf w .variable → ⊥) → Path M X a (literalOf w))
       → Kept M X a (reachWord entry (wordOf w) m)
   unfolding reachWord
-  reach-word-kept m entry w h p = go (reading w)
+  reach-word-kept m entry w h p = go (recognised w)
     where
-      go : Reading w → Kept M X a (reachWord entry (wordOf w) m)
+      go : Recognised w → Kept M X a (reachWord entry (wordOf w) m)
       go (nothing (inl e)) = rw e h
       go (nothing (inr e)) = rw e h
       go (names v s o b e q) = rw (e, reach-signed m entry v s) (reach-at-kept m entry v s h (rw q at p))

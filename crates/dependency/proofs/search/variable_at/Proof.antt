@@ -1,0 +1,21 @@
+-- `variable_at` answers the variable with either quantifier. Assumes nothing.
+use mathlib.Core.Path.{_≡_, ap, sym, _∙_}
+use borrow.Author.Needs.{needs}
+use Rattle.qbf.specs.Formula.{Entry}
+use Rattle.formula.specs.Prefix.{entryAt}
+use Rattle.formula.specs.Prefix.Laws.{shown-existential, shown-universal}
+use Rattle.dependency.proofs.search.variable_at.Statement.{statement}
+use Rattle.dependency.proofs.search.variable_at.Tie as tie
+
+-- the entry at the place
+abbrev shown : (c : tie.Start) → Entry
+shown c = entryAt (c .args .prefix .now) (c .args .place)
+
+returns : tie.Need-returns
+returns c = sym (ap (λ (x : Entry). x .variable) (shown-existential (shown (c .before .before .before .before)) _ (sym (c .before .before .before .entry-at .ensures) ∙ c .before .v .given .1)))
+
+returns-2 : tie.Need-returns-2
+returns-2 c = sym (ap (λ (x : Entry). x .variable) (shown-universal (shown (c .before .before .before .before)) _ (sym (c .before .before .before .entry-at .ensures) ∙ c .before .v2 .given .1)))
+
+pub variable-at-spec : {M : Type 1} → statement M
+variable-at-spec = tie.close (tie.spec (λ c κs. search needs) (λ c. search needs) (λ c. search needs) returns returns-2)
