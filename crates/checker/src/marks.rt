@@ -8,6 +8,9 @@ ghost use Rattle.formula.specs.Decode.{firstClause};
 ghost use Rattle.checker.specs.Words.{without};
 ghost use Rattle.checker.specs.Marks.{Marked, Ticked, Wiped, alone};
 
+// Where in scratch the marks end and the kinds of the variables begin: the 2,050 marks begin at `OWN`.
+pub const KINDS: usize = 7_175;
+
 // Marks a word, unless it is the one left out; tells whether its opposite is marked.
 fn mark_word(word: i32, except: i32, marks: &mut [u8]) -> bool
     requires { ⌜ length (now marks) ≡ 2050 ⌝ }

@@ -1,11 +1,13 @@
 // The check of a proof, on tables and step words: the entry of this layer.
 use crate::kinds::fill_kinds;
+use crate::marks::KINDS;
 use crate::numbered::fill_offsets;
 use crate::run::Found;
 use crate::run::Run;
 use crate::run::first_empty;
 use crate::run::run_steps;
 use crate::verdict::Verdict;
+use dependency::row::SCRATCH;
 use formula::bounds::ProofFit;
 use formula::bounds::ProofLength;
 use formula::clear::clear_bytes;
@@ -64,14 +66,14 @@ fn judge_steps<'a>(
     ensures { λ r. ⌜ r ≡ conclude inputs (run (scopeOf (now (prefix .entry)) (now (clauses .entry))) (length (now (offsets .entry))) (clausesOf (now (clauses .entry))) zero (now (steps .entry))) ⌝ }
 {
     clear_lent(scratch, offsets);
-    fill_kinds(prefix, &mut scratch[7_175..8_200]);
+    fill_kinds(prefix, &mut scratch[KINDS..SCRATCH]);
     fill_offsets(clauses, offsets);
     match run_steps(
         prefix,
         clauses,
         steps,
         inputs,
-        &mut scratch[..8_200],
+        &mut scratch[..SCRATCH],
         offsets,
     ) {
         Run::Refused(refusal) => Verdict::Refused(refusal),
@@ -94,7 +96,7 @@ fn judge_sized<'a>(
     match ProofLength::new(steps.len()) {
         ProofFit::Oversized => Verdict::Refused(Refusal::new(Reason::Oversized, 0)),
         ProofFit::Within(_) => {
-            if scratch.len() < 8_200 {
+            if scratch.len() < SCRATCH {
                 return Verdict::Refused(Refusal::new(Reason::NoRoom, 0));
             }
             if offsets.len() < inputs {

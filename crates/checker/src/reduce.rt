@@ -1,14 +1,18 @@
 // Kind 2: a reduction. Each check costs the row of its variable, and one pass over the clause and the statement.
 use crate::blocked::row_touches;
 use crate::clause::has_word;
-use crate::kinds::universal_of;
+use crate::kinds::UNIVERSAL;
+use crate::kinds::variable_of;
+use crate::marks::KINDS;
 use crate::numbered::antecedent_of;
 use crate::numbered::place_of;
 use crate::numbered::table_of;
 use crate::read::StepRead;
 use crate::result::Judgement;
 use crate::result::judge_reduct;
-use dependency::row::universal_row;
+use dependency::row::OWN;
+use dependency::row::SCRATCH;
+use dependency::row::make_row;
 use formula::literal::Literal;
 use formula::literal::LiteralFit;
 use formula::literal::NumberFit;
@@ -22,7 +26,8 @@ ghost use lib.ListN.{length, getD};
 ghost use lib.IntN.{pos};
 ghost use Rattle.formula.specs.Word.{wordOf};
 ghost use Rattle.formula.specs.Tables.{Admitted};
-ghost use Rattle.dependency.specs.Row.{isUniversal};
+ghost use Rattle.qbf.specs.Formula.{universal};
+ghost use Rattle.formula.specs.Prefix.{prefixOf, quantifies};
 ghost use Rattle.formula.specs.Decode.{clauseAt};
 ghost use Rattle.checker.specs.Steps.{antecedent};
 ghost use Rattle.checker.specs.Words.{AllWords, InRange, AllInRange};
@@ -43,11 +48,11 @@ fn reduce_on(
     statement: usize,
     scratch: &mut [u8],
 ) -> Judgement
-    requires { ⌜ Clean (now scratch) ⌝ ∗ ⌜ Admitted (now prefix) (now clauses) ⌝ ∗ ⌜ isUniversal (now prefix) (variable .0) ≡ true ⌝ ∗ ⌜ AllInRange (clauseAt (now words) from) ⌝ }
+    requires { ⌜ Clean (now scratch) ⌝ ∗ ⌜ Admitted (now prefix) (now clauses) ⌝ ∗ ⌜ quantifies universal (prefixOf (now prefix)) (variable .0) ≡ true ⌝ ∗ ⌜ AllInRange (clauseAt (now words) from) ⌝ }
     ensures { λ r. ⌜ Answers (freeReason (scopeOf (now (prefix .entry)) (now (clauses .entry))) (variable .0) (literal .0) (clauseAt (now (words .entry)) from) (clauseAt (now (steps .entry)) statement)) r (now (scratch .entry)) (now (scratch .exit)) ⌝ }
 {
-    universal_row(prefix, clauses, variable, &mut scratch[..5_125]);
-    if row_touches(words, from, &scratch[4_100..5_125]) {
+    make_row(prefix, clauses, variable, scratch);
+    if row_touches(words, from, scratch) {
         return Judgement::Wrong(Reason::Blocked);
     }
     judge_reduct(
@@ -56,7 +61,7 @@ fn reduce_on(
         literal,
         steps,
         statement,
-        &mut scratch[5_125..7_175],
+        &mut scratch[OWN..KINDS],
     )
 }
 
@@ -75,7 +80,7 @@ fn reduce_literal(
     ensures { λ r. ⌜ Answers (reducingReason (scopeOf (now (prefix .entry)) (now (clauses .entry))) (universalOf (kindsIn (now (scratch .entry))) (wordOf (literal .0))) (literal .0) (clauseAt (now (words .entry)) from) (clauseAt (now (steps .entry)) statement)) r (now (scratch .entry)) (now (scratch .exit)) ⌝ }
 {
     let a = literal.0;
-    match universal_of(a, &scratch[7_175..8_200]) {
+    match variable_of(a, UNIVERSAL, &scratch[KINDS..SCRATCH]) {
         VariableFit::Outside => Judgement::Wrong(Reason::WrongPivot),
         VariableFit::Within(variable) => {
             if has_word(words, from, a) {

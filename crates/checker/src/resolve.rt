@@ -1,12 +1,16 @@
 // Kind 1: a resolution. Each check costs one pass over the two clauses and the statement.
 use crate::clause::has_word;
-use crate::kinds::existential_of;
+use crate::kinds::EXISTENTIAL;
+use crate::kinds::variable_of;
+use crate::marks::KINDS;
 use crate::numbered::antecedent_of;
 use crate::numbered::place_of;
 use crate::numbered::table_of;
 use crate::read::StepRead;
 use crate::result::Judgement;
 use crate::result::judge_resolvent;
+use dependency::row::OWN;
+use dependency::row::SCRATCH;
 use formula::literal::ClauseNumber;
 use formula::literal::NumberFit;
 use formula::literal::Variable;
@@ -93,7 +97,7 @@ fn resolve_fields<'a>(
     requires { ⌜ AllInRange (storedAt inputs (now clauses) (now steps) (now offsets) (left .0 - 1)) ⌝ ∗ ⌜ AllInRange (storedAt inputs (now clauses) (now steps) (now offsets) (right .0 - 1)) ⌝ }
     ensures { λ r. ⌜ Answers (resolvingReason (existentialOf (kindsIn (now (scratch .entry))) (wordOf (step .pivot))) (storedAt inputs (now (clauses .entry)) (now (steps .entry)) (now (offsets .entry)) (left .0 - 1)) (storedAt inputs (now (clauses .entry)) (now (steps .entry)) (now (offsets .entry)) (right .0 - 1)) (clauseAt (now (steps .entry)) (step .statement))) r (now (scratch .entry)) (now (scratch .exit)) ⌝ }
 {
-    match existential_of(step.pivot, &scratch[7_175..8_200]) {
+    match variable_of(step.pivot, EXISTENTIAL, &scratch[KINDS..SCRATCH]) {
         VariableFit::Outside => Judgement::Wrong(Reason::WrongPivot),
         VariableFit::Within(pivot) => resolve_numbered(
             clauses,
@@ -104,7 +108,7 @@ fn resolve_fields<'a>(
             right,
             pivot,
             step.statement,
-            &mut scratch[5_125..7_175],
+            &mut scratch[OWN..KINDS],
         ),
     }
 }

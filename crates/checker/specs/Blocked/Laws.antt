@@ -1,20 +1,20 @@
 -- The row of a universal touches a clause exactly when the clause is blocked. Assumes nothing.
-use Prim.Native.Nat.{ℕ, zero, suc}
+use Prim.Native.Nat.{ℕ, _<_, _≤_}
 use mathlib.Core.Path.{_≡_, refl, ap, ap₂, sym, _∙_}
 use mathlib.Core.Bool.{Bool, true, false, _||_}
 use mathlib.Core.List.{List, [], _∷_, List·Memᴰ·head, List·Memᴰ·tail}
 use native.Mathlib.Omega.{arith}
-use borrow.Author.Tests.{leb-false}
-use lib.Dec.{leb, eqb}
-use lib.ListN.{length, getD, List·getD-eq-default}
-use lib.IntN.{ℤ, pos, negsuc, natAbs}
+use native.Mathlib.Decide.{decLt}
+use lib.Dec.{eqb}
+use lib.ListN.{getD, take, drop, length-take, List·getD-eq-default}
+use lib.IntN.{ℤ, natAbs}
 use Rattle.qbf.specs.Dependency.{depends}
 use Rattle.dependency.specs.Row.{mark, rowOf}
 use Rattle.dependency.specs.Row.Laws.{row-byte}
-use Rattle.formula.specs.Word.{wordOf, positive, negative}
+use Rattle.dependency.specs.Scratch.{rowIn}
+use Rattle.formula.specs.Word.{wordOf, variableOf}
+use Rattle.formula.specs.Word.Laws.{variable-magnitude, variable-large}
 use Rattle.formula.specs.Decode.{formulaOf}
-use Rattle.formula.specs.declared.literal.Word.{Word}
-use Rattle.formula.specs.declared.literal.Word.the-variants.{Zero, TooLarge, Positive, Negative}
 use Rattle.checker.specs.Words.{Words, AllInRange}
 use Rattle.checker.specs.Steps.{blocked}
 use Rattle.checker.specs.Verdict.{scopeOf}
@@ -34,23 +34,18 @@ row-blocked prefix clauses u (x ∷ C) r =
     (ap (λ (n : ℕ). eqb n 1) (row-byte (formulaOf prefix clauses) u (natAbs x) (r x (List·Memᴰ·head refl) .1)) ∙ mark-one (depends (formulaOf prefix clauses) u (natAbs x)))
     (row-blocked prefix clauses u C (λ y k. r y (List·Memᴰ·tail k)))
 
--- The byte by what the word was read as.
-abbrev pub byteOf : List ℕ → Word → ℕ
-byteOf row Zero = getD row 0 0
-byteOf row TooLarge = 0
-byteOf row (Positive v) = getD row (v .0) 0
-byteOf row (Negative v) = getD row (v .0) 0
+-- A word's variable, where it is a number of the row, is its magnitude; a magnitude past the row has no byte there.
+pub variable-near : (w : ℤ) → variableOf (wordOf w) ≤ 1024 → variableOf (wordOf w) ≡ natAbs w
+variable-near w h = go (decLt 1024 (natAbs w))
+  where
+    go : Dec (1024 < natAbs w) → variableOf (wordOf w) ≡ natAbs w
+    go (yes l) = let e = variable-large w l in absurd (omega arith)
+    go (no m) = variable-magnitude w (omega arith)
 
-pub byte-read : (row : List ℕ) (w : ℤ) → length row ≡ 1025 → byteOf row (wordOf w) ≡ getD row (natAbs w) 0
-unfolding wordOf
-byte-read row (pos zero) h = refl
-byte-read row (pos (suc n)) h = go (leb (suc n) 1024) refl
+pub row-far : (scratch : List ℕ) (w : ℤ) → 1024 < variableOf (wordOf w) → getD (rowIn scratch) (natAbs w) 0 ≡ 0
+unfolding rowIn
+row-far scratch w h = go (decLt 1024 (natAbs w))
   where
-    go : (b : Bool) → leb (suc n) 1024 ≡ b → byteOf row (positive b (suc n)) ≡ getD row (suc n) 0
-    go true e = refl
-    go false e = sym (List·getD-eq-default row 0 (omega (arith, h, leb-false (suc n) 1024 e)))
-byte-read row (negsuc n) h = go (leb (suc n) 1024) refl
-  where
-    go : (b : Bool) → leb (suc n) 1024 ≡ b → byteOf row (negative b (suc n)) ≡ getD row (suc n) 0
-    go true e = refl
-    go false e = sym (List·getD-eq-default row 0 (omega (arith, h, leb-false (suc n) 1024 e)))
+    go : Dec (1024 < natAbs w) → getD (take 1025 (drop 4100 scratch)) (natAbs w) 0 ≡ 0
+    go (yes l) = List·getD-eq-default (take 1025 (drop 4100 scratch)) 0 (omega (arith, l, length-take 1025 (drop 4100 scratch)))
+    go (no m) = let e = variable-magnitude w (omega arith) in absurd (omega arith)

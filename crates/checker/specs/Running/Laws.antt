@@ -10,6 +10,7 @@ use lib.ListN.{length, getD, set, drop, getElem?, drop-of-length-le, length-set}
 use lib.Seq.{drop-cons, drop-drop, getD-set-same, getD-set-other}
 use native.Mathlib.Decide.{decLt}
 use lib.IntN.{ℤ, pos, natAbs}
+use Rattle.dependency.specs.Scratch.{own}
 use Rattle.formula.specs.Refusal.{refusal}
 use Rattle.formula.specs.Tables.{Admitted}
 use Rattle.formula.specs.Tables.Laws.{admitted-literal}
@@ -206,7 +207,7 @@ module _ (prefix clauses steps : List ℤ) (inputs room : ℕ) (scratch offsets 
       (next : ℕ) (scratch′ : List ℕ)
       → Taken (scopeOf prefix clauses) (length offsets) (stored inputs clauses steps offsets numbered) steps at next
       → length scratch′ ≡ length scratch
-      → drop 5125 scratch′ ≡ drop 5125 scratch
+      → drop own scratch′ ≡ drop own scratch
       → Going prefix clauses steps inputs room scratch′ (set offsets numbered at) (numbered + 1) next
   going-turns next scratch′ t l k =
       let f = t .fits in

@@ -7,7 +7,7 @@ use Rattle.qbf.specs.Literal.{same}
 use Rattle.qbf.specs.Formula.{after, existentials}
 use Rattle.qbf.specs.Path.{holds as holdsLiteral, together, joined, literals, reach}
 use Rattle.qbf.specs.Dependency.{member, pair, depends}
-use Rattle.dependency.specs.Row.{isUniversal}
+use Rattle.formula.specs.Prefix.{quantifies}
 use Rattle.formula.specs.Word.{wordOf}
 use Rattle.formula.specs.Decode.{firstClause, clausesOf}
 use Rattle.formula.specs.Tables.{isIn, zeros, prefixRefusal, clausesRefusal, tablesRefusal}
@@ -82,5 +82,5 @@ pub positions :
     × (verdictOf examplePrefix exampleClauses (exampleSteps (pos 4)) 8199 9 ≡ Refused (refusal NoRoom 0))
     × (verdictOf examplePrefix exampleClauses (exampleSteps (pos 4)) 8200 3 ≡ Refused (refusal NoRoom 4))
     × (verdictOf examplePrefix exampleClauses (exampleSteps (pos 4)) 8200 8 ≡ Refused (refusal NoRoom 9))
-unfolding sameWord isZero holds without firstClause closes readStep opposed lists covers states blocked judgeResolution judgeReduction judgeFirst run firstEmpty sizedVerdict verdictOf wordOf clausesOf isIn zeros prefixRefusal clausesRefusal tablesRefusal same after existentials holdsLiteral together joined literals reach member pair depends ℕ-discrete isUniversal
+unfolding sameWord isZero holds without firstClause closes readStep opposed lists covers states blocked judgeResolution judgeReduction judgeFirst run firstEmpty sizedVerdict verdictOf wordOf clausesOf isIn zeros prefixRefusal clausesRefusal tablesRefusal same after existentials holdsLiteral together joined literals reach member pair depends ℕ-discrete quantifies
 positions = (refl, refl, refl, refl, refl, refl, refl, refl, refl, refl, refl, refl)

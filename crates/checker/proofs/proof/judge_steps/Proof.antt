@@ -4,7 +4,7 @@ use mathlib.Core.List.{_++_}
 use native.Mathlib.Omega.{arith}
 use lib.ListN.{length, take, drop}
 use Rattle.formula.specs.Decode.{clausesOf}
-use Rattle.formula.specs.Tables.Laws.{admitted-clauses-length, admitted-closed}
+use Rattle.formula.specs.Tables.Laws.{admitted-entries, admitted-clauses-length, admitted-closed}
 use borrow.Author.Needs.{needs}
 use Rattle.checker.specs.declared.run.Run.the-variants.{Ended}
 use Rattle.checker.specs.Step.{Ready}
@@ -27,6 +27,9 @@ room-at c = c .run-steps .kept .1 .1 .1 .1 .1 .0 ∙ c .before .before .before .
 -- the run ended
 ended-at : (c : tie.After-known-told2) → let start = c .before .before .before .before .before .before .before .before .before .before .before .before .before .before .before .before .before .before .before .before .before .before .before .before .before .before .before in RunDone (start .args .prefix .now) (start .args .clauses .now) (start .args .steps .now) (start .args .inputs) (Ended (c .before .numbered .given .0 .0)) (c .before .before .before .before .before .before .before .run-steps .last .1 .1 .1 .1 .1 .0)
 ended-at c = rw (c .before .numbered .given .1) at (c .before .before .before .before .before .before .before .run-steps .ensures)
+
+fill-kinds-requires : tie.Need-fill-kinds-requires
+fill-kinds-requires c κs = let start = c .before .before .before .before .before .before .before .before .before .before in (admitted-entries (start .args .prefix .now) (start .args .clauses .now) (start .pre .0), search needs)
 
 fill-offsets-requires : tie.Need-fill-offsets-requires
 fill-offsets-requires c κs =
@@ -84,7 +87,7 @@ judge-steps-spec =
     (λ c. search needs)
     (λ c. search needs)
     (λ c. search needs)
-    (λ c κs. search needs)
+    fill-kinds-requires
     fill-offsets-requires
     (λ c. search needs)
     slice-aggregate-run-steps

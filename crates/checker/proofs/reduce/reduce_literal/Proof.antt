@@ -17,12 +17,12 @@ use Rattle.checker.proofs.reduce.reduce_literal.Statement.{statement}
 use Rattle.checker.proofs.reduce.reduce_literal.Tie as tie
 
 -- what the reduced literal was found to be, and whether the clause holds it
-fit-at : (c : tie.After-universal-of) → c .universal-of .result ≡ universalOf (kindsIn (c .before .before .before .before .before .args .scratch .now)) (wordOf (c .before .before .before .before .before .args .literal .0))
+fit-at : (c : tie.After-variable-of) → c .variable-of .result ≡ universalOf (kindsIn (c .before .before .before .before .before .args .scratch .now)) (wordOf (c .before .before .before .before .before .args .literal .0))
 fit-at c =
     let start = c .before .before .before .before .before in
     let word = start .args .literal .0 in
     let e : toZ w32 (ofZ w32 word) ≡ word = search needs in
-    rw e at (c .universal-of .ensures)
+    rw e at (c .variable-of .ensures)
 
 held-at : (c : tie.After-has-word) → c .has-word .result ≡ holds (c .before .before .before .before .before .before .before .before .before .args .literal .0) (clauseAt (c .before .before .before .before .before .before .before .before .before .args .words .now) (c .before .before .before .before .before .before .before .before .before .args .from))
 held-at c =

@@ -14,12 +14,12 @@ use Rattle.checker.proofs.resolve.resolve_fields.Statement.{statement}
 use Rattle.checker.proofs.resolve.resolve_fields.Tie as tie
 
 -- what the pivot's word was found to be
-fit-at : (c : tie.After-existential-of) → c .existential-of .result ≡ existentialOf (kindsIn (c .before .before .before .before .before .before .args .scratch .now)) (wordOf (c .before .before .before .before .before .before .args .step .pivot))
+fit-at : (c : tie.After-variable-of) → c .variable-of .result ≡ existentialOf (kindsIn (c .before .before .before .before .before .before .args .scratch .now)) (wordOf (c .before .before .before .before .before .before .args .step .pivot))
 fit-at c =
     let start = c .before .before .before .before .before .before in
     let word = start .args .step .pivot in
     let e : toZ w32 (ofZ w32 word) ≡ word = search needs in
-    rw e at (c .existential-of .ensures)
+    rw e at (c .variable-of .ensures)
 
 resolve-numbered-requires : tie.Need-resolve-numbered-requires
 resolve-numbered-requires c κs =
