@@ -6,7 +6,7 @@ use mathlib.Core.List.{List, [], _∷_, List·Memᴰ·head, List·Memᴰ·tail}
 use native.Mathlib.Omega.{arith}
 use native.Mathlib.Decide.{decLt}
 use lib.Dec.{eqb}
-use lib.ListN.{getD, take, drop, length-take, List·getD-eq-default}
+use lib.ListN.{length, getD, length-take, List·getD-eq-default}
 use lib.IntN.{ℤ, natAbs}
 use Rattle.qbf.specs.Dependency.{depends}
 use Rattle.dependency.specs.Row.{mark, rowOf}
@@ -42,10 +42,13 @@ variable-near w h = go (decLt 1024 (natAbs w))
     go (yes l) = let e = variable-large w l in absurd (omega arith)
     go (no m) = variable-magnitude w (omega arith)
 
-pub row-far : (scratch : List ℕ) (w : ℤ) → 1024 < variableOf (wordOf w) → getD (rowIn scratch) (natAbs w) 0 ≡ 0
+row-short : (scratch : List ℕ) → length (rowIn scratch) ≤ 1025
 unfolding rowIn
+row-short scratch = simp length-take (omega arith)
+
+pub row-far : (scratch : List ℕ) (w : ℤ) → 1024 < variableOf (wordOf w) → getD (rowIn scratch) (natAbs w) 0 ≡ 0
 row-far scratch w h = go (decLt 1024 (natAbs w))
   where
-    go : Dec (1024 < natAbs w) → getD (take 1025 (drop 4100 scratch)) (natAbs w) 0 ≡ 0
-    go (yes l) = List·getD-eq-default (take 1025 (drop 4100 scratch)) 0 (omega (arith, l, length-take 1025 (drop 4100 scratch)))
+    go : Dec (1024 < natAbs w) → getD (rowIn scratch) (natAbs w) 0 ≡ 0
+    go (yes l) = List·getD-eq-default (rowIn scratch) 0 (omega (arith, l, row-short scratch))
     go (no m) = let e = variable-magnitude w (omega arith) in absurd (omega arith)
