@@ -1,7 +1,7 @@
 -- `end_of` is where the reader of clause words finds the closing 0. Assumes nothing.
 use mathlib.Core.Path.{_∙_}
 use lib.ListN.{drop}
-use Rattle.checker.specs.Words.Places.{close-first-clause}
+use Rattle.formula.specs.Decode.Places.{close-first-clause}
 use Rattle.checker.proofs.clause.end_of.Statement.{statement}
 use Rattle.checker.proofs.clause.end_of.Tie as tie
 

@@ -9,7 +9,8 @@ use mir.Syntax.{w32}
 use mir.Val.{toZ, ofZ}
 use mir.Facts.{toZ-ofZ}
 use Rattle.checker.specs.Words.{without}
-use Rattle.checker.specs.Words.Places.{clauseAt, clause-past, clause-zero, clause-literal}
+use Rattle.formula.specs.Decode.{clauseAt}
+use Rattle.formula.specs.Decode.Places.{clause-past, clause-zero, clause-literal}
 use Rattle.checker.specs.Marks.{markAll, meets, alone, Marked}
 use Rattle.checker.specs.Marks.Laws.{Continues, mark-turns, mark-ends}
 use Rattle.checker.proofs.Signed.{read-zero, read-back}

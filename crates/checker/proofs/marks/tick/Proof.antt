@@ -8,7 +8,8 @@ use lib.ListN.{length, getD}
 use lib.IntN.{pos}
 use mir.Syntax.{w32}
 use mir.Val.{toZ, ofZ}
-use Rattle.checker.specs.Words.Places.{clauseAt, clause-past, clause-zero, clause-literal}
+use Rattle.formula.specs.Decode.{clauseAt}
+use Rattle.formula.specs.Decode.Places.{clause-past, clause-zero, clause-literal}
 use Rattle.checker.specs.Marks.{alone, Ticked}
 use Rattle.checker.specs.Marks.Laws.{TicksOn, tick-turns, tick-stops, tick-ends}
 use Rattle.checker.proofs.Signed.{read-zero, read-back}

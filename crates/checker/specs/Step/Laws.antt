@@ -11,34 +11,32 @@ use lib.Dec.{leb}
 use lib.ListN.{length, getD, take, drop, replicate, length-set, length-replicate, length-drop, take-append-drop}
 use lib.Seq.{take-at, drop-at, drop-drop, take-all, length-take-le}
 use lib.IntN.{ℤ, pos, negsuc, negℤ, natAbs}
-use Rattle.dependency.specs.Row.{isUniversal, rowOf}
-use Rattle.dependency.specs.Row.Laws.{row-length}
-use Rattle.qbf.specs.Formula.{Formula}
+use Rattle.qbf.specs.Formula.{Formula, existential, universal}
+use Rattle.dependency.specs.Scratch.{scratchBound, own, RowMade}
+use Rattle.dependency.specs.Scratch.Laws.{own-part}
+use Rattle.formula.specs.Prefix.{prefixOf, quantifies}
 use Rattle.formula.specs.Bounds.{variableFit}
 use Rattle.formula.specs.Word.{wordOf}
 use Rattle.formula.specs.Tables.{Admitted}
 use Rattle.formula.specs.declared.literal.VariableFit.{VariableFit}
-use Rattle.formula.specs.declared.literal.Word.{Word}
-use Rattle.formula.specs.declared.literal.Word.the-variants.{Zero, TooLarge, Positive, Negative}
 use Rattle.formula.specs.declared.refusal.Reason.{Reason}
 use Rattle.formula.specs.declared.refusal.Reason.the-variants.{WrongPivot, BrokenStep, NoRoom}
 use Rattle.checker.specs.Rules.{plainRules}
-use Rattle.checker.specs.Words.{Words, holds}
-use Rattle.checker.specs.Words.Places.{clauseAt}
+use Rattle.checker.specs.Words.{Words, holds, AllWords, InRange, AllInRange}
+use Rattle.formula.specs.Decode.{clauseAt}
+use Rattle.checker.specs.declared.result.Judgement.{Judgement}
 use Rattle.checker.specs.declared.result.Judgement.the-variants.{Right, Wrong}
 use Rattle.checker.specs.declared.step.StepAnswer.the-variants.{Right as RightStep, Wrong as WrongStep}
-use Rattle.checker.specs.Steps.{Scope, Step, sizeOf, readStep, resolvent, positiveExistential, unless, judgeResolution, judgeReduction, judge, judgeFirst}
-use Rattle.checker.specs.Lawful.{AllWords}
+use Rattle.checker.specs.Steps.{Scope, Step, resolution, reduction, sizeOf, readStep, antecedent, resolvent, positiveExistential, unless, judgeResolution, judgeReduction, judge, judgeFirst}
 use Rattle.checker.specs.Lawful.Laws.{found-member}
 use Rattle.checker.specs.Verdict.{scopeOf}
-use Rattle.checker.specs.Numbered.{tableOf, storedAt, stored}
+use Rattle.checker.specs.Numbered.{tableOf, placeOf, storedAt, stored}
 use Rattle.checker.specs.Numbered.Laws.{stored-get}
-use Rattle.checker.specs.Marks.Judging.{InRange, AllInRange, clean}
-use Rattle.checker.specs.Kinds.{kindWord, kindsFrom, kindsOf}
-use Rattle.checker.specs.Reading.{listOf}
-use Rattle.checker.specs.Kinds.Laws.{existential-fit, universal-fit}
-use Rattle.checker.specs.Judgements.{judgementOf, resultReason}
-use Rattle.checker.specs.Stepping.{kindsIn, Clean, Ready, resolvingReason, resolutionReason, freeReason, reducingReason, reductionReason, stepAnswer}
+use Rattle.checker.specs.Marks.{clean}
+use Rattle.checker.specs.Kinds.{kindsOf}
+use Rattle.checker.specs.Kinds.Laws.{length-kinds, existential-fit, universal-fit}
+use Rattle.checker.specs.Result.{judgementOf, resultReason}
+use Rattle.checker.specs.Step.{kindsIn, Clean, Ready, resolvingReason, resolutionReason, freeReason, reducingReason, reductionReason, Answers, stepAnswer}
 
 -- A part that comes back as it was.
 pub part-back : (xs ys : List ℕ) (a k : ℕ) → ys ≡ take k (drop a xs) → take a xs ++ (ys ++ drop k (drop a xs)) ≡ xs
@@ -47,35 +45,13 @@ part-back xs ys a k e =
     ∙ ap (λ (zs : List ℕ). take a xs ++ zs) (take-append-drop k (drop a xs))
     ∙ take-append-drop a xs
 
--- The first part with anything in it: what follows stays.
-pub front-kept : (ys xs : List ℕ) (k : ℕ) → length ys ≡ k → drop k (ys ++ drop k xs) ≡ drop k xs
-front-kept ys xs k e = drop-at ys (drop k xs) k e
+-- Making a row leaves the checker's own part, and needs no more scratch than there is.
+pub row-kept : (F : Formula) (u : ℕ) (scratch scratch′ : List ℕ) → RowMade F u scratch scratch′ → drop own scratch′ ≡ drop own scratch
+row-kept F u scratch scratch′ h = sym (own-part scratch′) ∙ h .kept ∙ own-part scratch
 
--- The row in the first part.
-pub row-in : (F : Formula) (u : ℕ) (w rest : List ℕ) → w ≡ replicate 4100 0 ++ rowOf F u → take 1025 (drop 4100 (w ++ rest)) ≡ rowOf F u
-row-in F u w rest e =
-    rw (e, append-split (replicate 4100 0) (rowOf F u) rest, drop-at (replicate 4100 0) (rowOf F u ++ rest) 4100 (length-replicate {A = ℕ} 4100 0))
-    (take-at (rowOf F u) rest 1025 (row-length F u))
-  where
-    append-split : (a b c : List ℕ) → (a ++ b) ++ c ≡ a ++ (b ++ c)
-    append-split [] b c = refl
-    append-split (x ∷ a) b c = ap {B = List ℕ} (λ r. x ∷ r) (append-split a b c)
-
--- The kinds have a byte for each number from 0 to 1,024.
-length-kind : (kinds : List ℕ) (w : Word) → length (kindWord kinds w) ≡ length kinds
-length-kind kinds Zero = refl
-length-kind kinds TooLarge = refl
-length-kind kinds (Positive v) = length-set kinds (v .0) 1
-length-kind kinds (Negative v) = length-set kinds (v .0) 2
-
-pub length-kinds-from : (kinds : List ℕ) (ws : List ℤ) → length (kindsFrom kinds ws) ≡ length kinds
-unfolding kindsFrom
-length-kinds-from kinds [] = refl
-length-kinds-from kinds (w ∷ ws) = length-kinds-from (kindWord kinds (wordOf w)) ws ∙ length-kind kinds (wordOf w)
-
-pub length-kinds : (prefix : List ℤ) → length (kindsOf prefix) ≡ 1025
-unfolding kindsOf
-length-kinds prefix = length-kinds-from (replicate 1025 0) prefix ∙ length-replicate {A = ℕ} 1025 0
+pub clean-bound : (scratch scratch′ : List ℕ) → Clean scratch → length scratch′ ≡ length scratch → scratchBound ≤ length scratch′
+unfolding scratchBound
+clean-bound scratch scratch′ c l = let e = c .size in omega arith
 
 module _ (prefix : List ℤ) (scratch : List ℕ) (ready : Ready prefix scratch) where
   pub ready-clean : Clean scratch
@@ -87,17 +63,14 @@ module _ (prefix : List ℤ) (scratch : List ℕ) (ready : Ready prefix scratch)
 
   pub ready-kinds : kindsIn scratch ≡ kindsOf prefix
   ready-kinds =
-      ap (take 1025) (sym (drop-drop 2050 5125 scratch) ∙ ap (drop 2050) (ready .later) ∙ drop-at clean (kindsOf prefix) 2050 (length-replicate {A = ℕ} 2050 0))
+      ap (take 1025) (sym (drop-drop 2050 own scratch) ∙ ap (drop 2050) (ready .later) ∙ drop-at clean (kindsOf prefix) 2050 (length-replicate {A = ℕ} 2050 0))
       ∙ take-all 1025 (kindsOf prefix) (let e = length-kinds prefix in omega arith)
 
-  pub ready-kept : (scratch′ : List ℕ) → length scratch′ ≡ length scratch → drop 5125 scratch′ ≡ drop 5125 scratch → Ready prefix scratch′
+  pub ready-kept : (scratch′ : List ℕ) → length scratch′ ≡ length scratch → drop own scratch′ ≡ drop own scratch → Ready prefix scratch′
   ready-kept scratch′ l k = record { size = l ∙ ready .size; later = k ∙ ready .later }
 
-pub first-part : (scratch : List ℕ) → Clean scratch → length (take 5125 scratch) ≡ 5125
-first-part scratch c = length-take-le 5125 scratch (let e = c .size in omega arith)
-
 -- Clean marks stay so while what follows the first part stays.
-pub clean-kept : (scratch scratch′ : List ℕ) → Clean scratch → length scratch′ ≡ length scratch → drop 5125 scratch′ ≡ drop 5125 scratch → Clean scratch′
+pub clean-kept : (scratch scratch′ : List ℕ) → Clean scratch → length scratch′ ≡ length scratch → drop own scratch′ ≡ drop own scratch → Clean scratch′
 clean-kept scratch scratch′ c l k = record { size = l ∙ c .size; marks = ap (take 2050) k ∙ c .marks }
 
 kinds-there : (scratch : List ℕ) → length scratch ≡ 8200 → 1025 ≤ length (drop 7175 scratch)
@@ -108,26 +81,26 @@ length-kinds-in scratch h = length-take-le 1025 (drop 7175 scratch) (kinds-there
 
 -- A numbered clause by its number.
 pub stored-by-number :
-    (inputs : ℕ) (clauses steps : Words) (starts : List ℕ) (n : ℕ) → 1 ≤ n
-    → storedAt inputs clauses steps starts (n - 1) ≡ clauseAt (tableOf (leb n inputs) clauses steps) (getD starts (n - 1) 0)
+    (inputs : ℕ) (clauses steps : Words) (offsets : List ℕ) (n : ℕ) → 1 ≤ n
+    → storedAt inputs clauses steps offsets (n - 1) ≡ clauseAt (tableOf (leb n inputs) clauses steps) (placeOf (leb n inputs) steps (getD offsets (n - 1) 0))
 unfolding storedAt
-stored-by-number inputs clauses steps starts n h =
+stored-by-number inputs clauses steps offsets n h =
     let e : suc (n - 1) ≡ n = omega arith in
-    ap (λ (k : ℕ). clauseAt (tableOf (leb k inputs) clauses steps) (getD starts (n - 1) 0)) e
+    ap (λ (k : ℕ). clauseAt (tableOf (leb k inputs) clauses steps) (placeOf (leb k inputs) steps (getD offsets (n - 1) 0))) e
 
 pub stored-in-range :
-    (inputs : ℕ) (clauses steps : Words) (starts : List ℕ) (last n : ℕ) → 1 ≤ n → n ≤ last
-    → AllWords InRange (stored inputs clauses steps starts last)
-    → AllInRange (storedAt inputs clauses steps starts (n - 1))
-stored-in-range inputs clauses steps starts last n h k all =
-    all (storedAt inputs clauses steps starts (n - 1))
-    (found-member (stored inputs clauses steps starts last) (n - 1) (storedAt inputs clauses steps starts (n - 1)) (stored-get inputs clauses steps starts last (n - 1) (omega arith)))
+    (inputs : ℕ) (clauses steps : Words) (offsets : List ℕ) (last n : ℕ) → 1 ≤ n → n ≤ last
+    → AllWords InRange (stored inputs clauses steps offsets last)
+    → AllInRange (storedAt inputs clauses steps offsets (n - 1))
+stored-in-range inputs clauses steps offsets last n h k all =
+    all (storedAt inputs clauses steps offsets (n - 1))
+    (found-member (stored inputs clauses steps offsets last) (n - 1) (storedAt inputs clauses steps offsets (n - 1)) (stored-get inputs clauses steps offsets last (n - 1) (omega arith)))
 
 -- The judgement from its parts, on tables that pass.
 module _ (prefix clauses : List ℤ) (a : Admitted prefix clauses) where
   resolving : (e : ℤ) (C D L : Words) → resolvingReason (variableFit (positiveExistential (scopeOf prefix clauses) e) (natAbs e)) C D L ≡ judgeResolution (scopeOf prefix clauses) e L (some C) (some D)
   unfolding judgeResolution
-  resolving (pos v) C D L = go (holds (pos v) prefix)
+  resolving (pos v) C D L = go (quantifies existential (prefixOf prefix) v)
     where
       go : (b : Bool) → resolvingReason (variableFit b v) C D L ≡ unless (b && holds (pos v) C && holds (negℤ (pos v)) D) WrongPivot (resultReason (resolvent (pos v) C D) L)
       go true = refl
@@ -149,7 +122,27 @@ module _ (prefix clauses : List ℤ) (a : Admitted prefix clauses) where
   reduction-judged x L none = refl
   reduction-judged x L (some C) =
       ap (λ (f : VariableFit). reducingReason (scopeOf prefix clauses) f x C L) (universal-fit prefix clauses a x)
-      ∙ reducing x C L (isUniversal prefix (natAbs x))
+      ∙ reducing x C L (quantifies universal (prefixOf prefix) (natAbs x))
+
+  -- The answers of the two kinds, with the kinds of the variables in the scratch.
+  module _ (scratch : List ℕ) (ready : Ready prefix scratch) (known : List Words) (r : Judgement) (scratch′ : List ℕ) where
+    pub resolution-answers :
+        (i j e : ℤ) (L : Words) → Answers (resolutionReason (kindsIn scratch) e L (antecedent known i) (antecedent known j)) r scratch scratch′
+        → Answers (judge (scopeOf prefix clauses) known (resolution i j e L)) r scratch scratch′
+    resolution-answers i j e L h =
+        record {
+          answer = (rw (ready-kinds prefix scratch ready) at (h .answer)) ∙ ap judgementOf (resolution-judged e L (antecedent known i) (antecedent known j));
+          kept = h .kept;
+        }
+
+    pub reduction-answers :
+        (i x : ℤ) (L : Words) → Answers (reductionReason (scopeOf prefix clauses) (kindsIn scratch) x L (antecedent known i)) r scratch scratch′
+        → Answers (judge (scopeOf prefix clauses) known (reduction i x L)) r scratch scratch′
+    reduction-answers i x L h =
+        record {
+          answer = (rw (ready-kinds prefix scratch ready) at (h .answer)) ∙ ap judgementOf (reduction-judged x L (antecedent known i));
+          kept = h .kept;
+        }
 
 -- The step's answer, by what was read and judged.
 module _ (S : Scope) (room : ℕ) (known : List Words) (ws : Words) (at : ℕ) where
@@ -161,7 +154,7 @@ module _ (S : Scope) (room : ℕ) (known : List Words) (ws : Words) (at : ℕ) w
   unfolding judgeFirst
   step-no-room s e h = rw (e, le-ltb (length known) room h)
 
-  pub step-right : (s : Step) → readStep plainRules ws ≡ some s → length known < room → judge S known s ≡ none → RightStep (listOf at s) (at + sizeOf s) ≡ stepAnswer at (judgeFirst plainRules S room known ws)
+  pub step-right : (s : Step) → readStep plainRules ws ≡ some s → length known < room → judge S known s ≡ none → RightStep (at + sizeOf s) ≡ stepAnswer at (judgeFirst plainRules S room known ws)
   unfolding judgeFirst
   step-right s e h j = rw (e, lt-ltb (length known) room h, j)
 
