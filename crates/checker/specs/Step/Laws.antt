@@ -68,16 +68,6 @@ module _ (prefix : List ℤ) (scratch : List ℕ) (ready : Ready prefix scratch)
   pub ready-kept : (scratch′ : List ℕ) → length scratch′ ≡ length scratch → drop own scratch′ ≡ drop own scratch → Ready prefix scratch′
   ready-kept scratch′ l k = record { size = l ∙ ready .size; later = k ∙ ready .later }
 
--- Clean marks stay so while what follows the first part stays.
-pub clean-kept : (scratch scratch′ : List ℕ) → Clean scratch → length scratch′ ≡ length scratch → drop own scratch′ ≡ drop own scratch → Clean scratch′
-clean-kept scratch scratch′ c l k = record { size = l ∙ c .size; marks = ap (take 2050) k ∙ c .marks }
-
-kinds-there : (scratch : List ℕ) → length scratch ≡ 8200 → 1025 ≤ length (drop 7175 scratch)
-kinds-there scratch h = rw (length-drop 7175 scratch) (omega arith)
-
-pub length-kinds-in : (scratch : List ℕ) → length scratch ≡ 8200 → length (kindsIn scratch) ≡ 1025
-length-kinds-in scratch h = length-take-le 1025 (drop 7175 scratch) (kinds-there scratch h)
-
 -- A numbered clause by its number.
 pub stored-by-number :
     (inputs : ℕ) (clauses steps : Words) (offsets : List ℕ) (n : ℕ) → 1 ≤ n
