@@ -4,19 +4,18 @@ use Prim.Native.Nat.{ℕ, suc, _+_, _-_, _≤_, _<_}
 use mathlib.Core.Path.{_≡_, refl, ap, sym, _∙_}
 use mathlib.Core.Bool.{Bool, true, false, _&&_}
 use mathlib.Core.Option.{Option, none, some}
-use mathlib.Core.List.{List, [], _∷_, _++_}
+use mathlib.Core.List.{List, _++_}
 use native.Mathlib.Omega.{arith}
 use borrow.Author.Tests.{lt-ltb, le-ltb}
 use lib.Dec.{leb}
-use lib.ListN.{length, getD, take, drop, replicate, length-set, length-replicate, length-drop, take-append-drop}
-use lib.Seq.{take-at, drop-at, drop-drop, take-all, length-take-le}
+use lib.ListN.{length, getD, take, drop, length-replicate, take-append-drop}
+use lib.Seq.{take-at, drop-at, drop-drop, take-all}
 use lib.IntN.{ℤ, pos, negsuc, negℤ, natAbs}
 use Rattle.qbf.specs.Formula.{Formula, existential, universal}
 use Rattle.dependency.specs.Scratch.{scratchBound, own, RowMade}
 use Rattle.dependency.specs.Scratch.Laws.{own-part}
 use Rattle.formula.specs.Prefix.{prefixOf, quantifies}
 use Rattle.formula.specs.Bounds.{variableFit}
-use Rattle.formula.specs.Word.{wordOf}
 use Rattle.formula.specs.Tables.{Admitted}
 use Rattle.formula.specs.declared.literal.VariableFit.{VariableFit}
 use Rattle.formula.specs.declared.refusal.Reason.{Reason}
