@@ -1,13 +1,13 @@
 -- What the entry for a dependency row answers (01, "Order"): the order of its refusals, and both buffers at the end. Laws are
 -- in Answer/Laws.antt.
 pub mod Laws
-use Prim.Native.Nat.{ℕ, _-_}
+use Prim.Native.Nat.{ℕ, zero, suc, _-_}
 use mathlib.Core.Path.{_≡_}
 use mathlib.Core.Option.{Option, none, some}
 use mathlib.Core.Bool.{Bool, false, _&&_}
-use mathlib.Core.List.{List, _++_}
-use lib.ListN.{length, replicate}
-use lib.Dec.{leb}
+use mathlib.Core.List.{List, [], _∷_, _++_}
+use lib.ListN.{length, getD, replicate}
+use lib.Dec.{eqb, leb}
 use lib.IntN.{ℤ, pos, negsuc, natAbs}
 use Rattle.qbf.specs.Formula.{Formula, Prefix, universal}
 use Rattle.formula.specs.Refusal.{refusal, require}
@@ -21,7 +21,7 @@ use Rattle.formula.specs.declared.refusal.Refusal.{Refusal}
 use Rattle.formula.specs.declared.refusal.Reason.the-variants.{NoRoom, NotUniversal}
 use Rattle.dependency.specs.declared.answer.RowAnswer.{RowAnswer}
 use Rattle.dependency.specs.declared.answer.RowAnswer.the-variants.{Filled, Refused}
-use Rattle.dependency.specs.Row.{rowOf}
+use Rattle.dependency.specs.Row.{mark, rowOf}
 use Rattle.dependency.specs.Scratch.{scratchBound}
 
 -- A universal is asked for by its number; anything else asks for none.
@@ -56,6 +56,14 @@ pub record RowDone (prefix clauses : List ℤ) (variable : ℤ) (row scratch : L
       row′
       ≡ rowBuffer (rowRefusal scratchBound prefix clauses variable (length row) (length scratch)) (formulaOf prefix clauses) (natAbs variable) (length row)
   pub cleared : scratch′ ≡ replicate (length scratch) 0
+
+-- The bytes for the variable numbers below n, as a row answers.
+abbrev pub askedByte : List ℕ → ℕ → ℕ
+askedByte row e = mark (eqb (getD row e 0) 1)
+
+unfoldable pub askedBytes : List ℕ → ℕ → List ℕ
+askedBytes row zero = []
+askedBytes row (suc n) = askedBytes row n ++ (askedByte row n ∷ [])
 
 -- The buffers after a row is written.
 pub record RowFilled (F : Formula) (u : ℕ) (row scratch row′ scratch′ : List ℕ) : Type 0 where

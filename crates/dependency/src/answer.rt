@@ -10,9 +10,10 @@ ghost use Rattle.formula.specs.Word.{wordOf};
 ghost use Rattle.formula.specs.Prefix.{prefixOf, entryAt, entryCount, isQuantifier, quantifies, Entries};
 ghost use Rattle.formula.specs.Tables.{Admitted};
 ghost use Rattle.formula.specs.Decode.{formulaOf};
-ghost use Rattle.dependency.specs.Scratch.{scratchBound};
-ghost use Rattle.dependency.specs.Answer.{askedRefusal, roomRefusal, rowRefusal, answerRow, Asked, RowFilled, RowDone};
+ghost use Rattle.dependency.specs.Scratch.{scratchBound, rowIn};
+ghost use Rattle.dependency.specs.Answer.{askedByte, askedBytes, askedRefusal, roomRefusal, rowRefusal, answerRow, Asked, RowFilled, RowDone};
 use crate::row::SCRATCH;
+use crate::row::depends_in;
 use crate::row::make_row;
 use formula::clear::clear_bytes;
 use formula::literal::Variable;
@@ -123,14 +124,27 @@ fn asked_variable(word: i32) -> Variable
     }
 }
 
-// Copies bytes to the front of the row.
-fn copy_row(bytes: &[u8], row: &mut [u8])
-    requires { ⌜ length (now bytes) ≤ length (now row) ⌝ }
-    ensures { λ r. ⌜ now (row .exit) ≡ now (bytes .entry) ++ drop (length (now (bytes .entry))) (now (row .entry)) ⌝ }
+// The byte of a variable number, by the row that stands in scratch: 1 for a dependent, 0 elsewhere.
+fn asked_byte(scratch: &[u8], variable: usize) -> u8
+    requires { ⌜ scratchBound ≤ length (now scratch) ⌝ }
+    requires { ⌜ variable ≤ 1024 ⌝ }
+    ensures { λ r. ⌜ r ≡ askedByte (rowIn (now (scratch .entry))) variable ⌝ }
+{
+    if depends_in(scratch, variable) {
+        return 1;
+    }
+    0
+}
+
+// Writes the row that stands in scratch to the front of the row's buffer.
+fn copy_row(scratch: &[u8], row: &mut [u8])
+    requires { ⌜ scratchBound ≤ length (now scratch) ⌝ }
+    requires { ⌜ 1025 ≤ length (now row) ⌝ }
+    ensures { λ r. ⌜ now (row .exit) ≡ askedBytes (rowIn (now (scratch .entry))) 1025 ++ drop 1025 (now (row .entry)) ⌝ }
 {
     let mut i = 0;
-    while i < bytes.len() {
-        row[i] = bytes[i];
+    while i < 1_025 {
+        row[i] = asked_byte(scratch, i);
         i += 1;
     }
 }
@@ -150,7 +164,7 @@ fn write_row(
     ensures { λ r. ⌜ RowFilled (formulaOf (now (prefix .entry)) (now (clauses .entry))) (variable .0) (now (row .entry)) (now (scratch .entry)) (now (row .exit)) (now (scratch .exit)) ⌝ }
 {
     make_row(prefix, clauses, variable, scratch);
-    copy_row(&scratch[4_100..5_125], row);
+    copy_row(scratch, row);
     clear_bytes(row, 1_025);
     clear_bytes(scratch, 0);
 }

@@ -17,9 +17,10 @@ use crate::search::search;
 use formula::clear::clear_bytes;
 use formula::literal::Variable;
 
-// The bytes of scratch that the entries ask for, and where in it the caller's own part begins.
+// The bytes of scratch that the entries ask for.
 pub const SCRATCH: usize = 8_200;
 
+// Where in scratch the caller's own part begins.
 pub const OWN: usize = 5_125;
 
 // 1 where both bytes are 2: each says that a search reached a literal.
@@ -72,8 +73,8 @@ fn universal_row(prefix: &[i32], clauses: &[i32], variable: Variable, work: &mut
     clear_bytes(&mut work[..4_100], 0);
 }
 
-// Makes the row of a universal in scratch; the caller's own part is left as it is. Passes over the clauses, each in time of
-// their words, until one changes nothing: at most one for each literal of the prefix.
+// Makes the row of a universal in scratch; the caller's own part is left as it is. Two searches, each of passes over all
+// clauses until one changes nothing: at most as many as there are literals of existentials right of it.
 pub fn make_row(prefix: &[i32], clauses: &[i32], variable: Variable, scratch: &mut [u8])
     requires { ⌜ Admitted (now prefix) (now clauses) ⌝ }
     requires { ⌜ quantifies universal (prefixOf (now prefix)) (variable .0) ≡ true ⌝ }

@@ -1,13 +1,14 @@
 -- What an answer says of the refusals behind it, and what holds where a row is refused by none of them; which number asks for
 -- a universal; how the row comes into its buffer. Definitions: Answer. Assumes nothing.
-use Prim.Native.Nat.{ℕ, zero, suc, _-_, _≤_}
+use Prim.Native.Nat.{ℕ, zero, suc, _-_, _≤_, _<_}
 use mathlib.Core.Path.{_≡_, refl, ap, sym, _∙_}
 use mathlib.Core.Bool.{Bool, true, false, _&&_, false≢true}
 use mathlib.Core.Option.{Option, none, some}
 use mathlib.Core.List.{List, [], _∷_, _++_}
 use native.Mathlib.Omega.{arith}
 use borrow.Author.Tests.{leb-true, le-leb}
-use lib.ListN.{length, drop, replicate, length-drop}
+use lib.ListN.{length, getD, set, drop, replicate, length-append, length-drop}
+use lib.Seq.{drop-cons, set-at, append-snoc}
 use lib.Dec.{leb}
 use lib.IntN.{ℤ, pos, negsuc, natAbs}
 use Rattle.qbf.specs.Connectives.{and-both}
@@ -24,9 +25,11 @@ use Rattle.formula.specs.declared.literal.Word.the-variants.{Positive}
 use Rattle.formula.specs.declared.refusal.Refusal.{Refusal}
 use Rattle.formula.specs.declared.refusal.Reason.the-variants.{NoRoom, NotUniversal}
 use Rattle.dependency.specs.declared.answer.RowAnswer.the-variants.{Filled, Refused}
-use Rattle.dependency.specs.Row.{rowOf}
+use Rattle.dependency.specs.Row.{rowBelow, rowOf}
 use Rattle.dependency.specs.Row.Laws.{row-length}
-use Rattle.dependency.specs.Answer.{universalAsked, rowRefusal, answerRow}
+use Rattle.dependency.specs.Scratch.{rowIn, RowMade}
+use Rattle.dependency.specs.Scratch.Laws.{row-depends}
+use Rattle.dependency.specs.Answer.{universalAsked, rowRefusal, answerRow, askedByte, askedBytes}
 
 pub row-passed : (r : Option Refusal) → answerRow r ≡ Filled → r ≡ none
 row-passed none e = refl
@@ -100,16 +103,38 @@ unfolding clearFrom
 clear-append [] ys = refl
 clear-append (x ∷ xs) ys = ap {B = List ℕ} (λ l. x ∷ l) (clear-append xs ys)
 
-module _ (F : Formula) (u : ℕ) (row copied row′ : List ℕ) (bytes : List ℕ) (is : bytes ≡ rowOf F u) where
-  pub row-cleared :
-      copied ≡ bytes ++ drop (length bytes) row
-      → row′ ≡ clearFrom 0 1025 copied
-      → row′ ≡ rowOf F u ++ replicate (length row - 1025) 0
+module _ (F : Formula) (u : ℕ) (row copied row′ : List ℕ) where
+  pub row-cleared : copied ≡ rowOf F u ++ drop 1025 row → row′ ≡ clearFrom 0 1025 copied → row′ ≡ rowOf F u ++ replicate (length row - 1025) 0
   row-cleared e f =
-      let size : length bytes ≡ 1025 = ap length is ∙ row-length F u in
+      let size = row-length F u in
       let rest : length (drop 1025 row) ≡ length row - 1025 = length-drop 1025 row in
       f
-      ∙ ap (clearFrom 0 1025) (e ∙ (λ i. bytes ++ drop (size i) row))
-      ∙ sym (λ i. clearFrom 0 (size i) (bytes ++ drop 1025 row))
-      ∙ clear-append bytes (drop 1025 row)
-      ∙ (λ i. is i ++ replicate (rest i) 0)
+      ∙ ap (clearFrom 0 1025) e
+      ∙ sym (λ i. clearFrom 0 (size i) (rowOf F u ++ drop 1025 row))
+      ∙ clear-append (rowOf F u) (drop 1025 row)
+      ∙ (λ i. rowOf F u ++ replicate (rest i) 0)
+
+-- The bytes asked of a row: so many, one more, and those of a row that was made are the row.
+pub asked-length : (row : List ℕ) (n : ℕ) → length (askedBytes row n) ≡ n
+unfolding askedBytes
+asked-length row zero = refl
+asked-length row (suc n) = let k = asked-length row n in simp length-append (omega arith)
+
+pub asked-step :
+    (asked row : List ℕ) (i : ℕ) → i < length row
+    → set (askedBytes asked i ++ drop i row) i (askedByte asked i) ≡ askedBytes asked (suc i) ++ drop (suc i) row
+unfolding askedBytes
+asked-step asked row i h =
+    ap (λ (l : List ℕ). set (askedBytes asked i ++ l) i (askedByte asked i)) (drop-cons row i 0 h)
+    ∙ set-at (askedBytes asked i) (getD row i 0) (drop (suc i) row) (askedByte asked i) i (asked-length asked i)
+    ∙ sym (append-snoc (askedBytes asked i) (askedByte asked i) (drop (suc i) row))
+
+module _ (F : Formula) (u : ℕ) (scratch scratch′ : List ℕ) (made : RowMade F u scratch scratch′) where
+  asked-below : (n : ℕ) → n ≤ 1025 → askedBytes (rowIn scratch′) n ≡ rowBelow F u n
+  unfolding askedBytes rowBelow
+  asked-below zero h = refl
+  asked-below (suc n) h = rw (asked-below n (omega arith), row-depends F u scratch scratch′ made n (omega arith))
+
+  pub asked-row : askedBytes (rowIn scratch′) 1025 ≡ rowOf F u
+  unfolding rowOf
+  asked-row = asked-below 1025 (omega arith)

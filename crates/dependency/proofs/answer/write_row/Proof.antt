@@ -1,32 +1,28 @@
 -- `write_row` makes the row in scratch, copies it and clears what is left. Assumes nothing.
 use Prim.Native.Nat.{ℕ}
 use mathlib.Core.Path.{_≡_, ap, sym, _∙_}
+use mathlib.Core.List.{List, _++_}
 use borrow.Author.Needs.{needs}
-use lib.ListN.{length, replicate}
+use lib.ListN.{length, drop, replicate}
 use Rattle.formula.specs.Clear.{clearFrom}
 use Rattle.formula.specs.Decode.{formulaOf}
-use Rattle.dependency.specs.Scratch.{scratchBound, rowIn}
-use Rattle.dependency.specs.Answer.Laws.{row-cleared}
+use Rattle.dependency.specs.Answer.Laws.{row-cleared, asked-row}
 use Rattle.dependency.proofs.answer.write_row.Statement.{statement}
 use Rattle.dependency.proofs.answer.write_row.Tie as tie
 
-part-copy-row-end : tie.Need-part-copy-row-end
-unfolding scratchBound
-part-copy-row-end c = search needs
-
 returns : tie.Need-returns
-unfolding clearFrom rowIn
+unfolding clearFrom
 returns c =
-    let made = c .before .before .before .before .before .before .before .before .before .before .before .before .before .before .before .before in
-    let copied = c .before .before .before .before .before .before .before .before .before .before in
     let cleared = c .before .before .before .before .before .before in
+    let copied = cleared .before .before .before .before in
+    let made = copied .before .before .before .before .before in
     let a = made .before .before .before .before .args in
+    let F = formulaOf (a .prefix .now) (a .clauses .now) in
     let s : length (c .before .before .clear-bytes2 .last .0) ≡ length (a .scratch .now) = search needs in
     record {
       row-bytes =
-          row-cleared (formulaOf (a .prefix .now) (a .clauses .now)) (a .variable .0) (a .row .now) (copied .copy-row .last .1 .0) (cleared .clear-bytes .last .0) _
-          (made .make-row .ensures .row)
-          (copied .copy-row .ensures)
+          row-cleared F (a .variable .0) (a .row .now) (copied .copy-row .last .1 .0) (cleared .clear-bytes .last .0)
+          (copied .copy-row .ensures ∙ ap (λ (l : List ℕ). l ++ drop 1025 (a .row .now)) (asked-row F (a .variable .0) (a .scratch .now) _ (made .make-row .ensures)))
           (cleared .clear-bytes .ensures);
       scratch-bytes =
           c .before .before .clear-bytes2 .ensures
@@ -38,9 +34,6 @@ write-row-spec =
     tie.close
     (tie.spec
     (λ c κs. search needs)
-    (λ c. search needs)
-    (λ c. search needs)
-    part-copy-row-end
     (λ c κs. search needs)
     (λ c κs. search needs)
     (λ c κs. search needs)
