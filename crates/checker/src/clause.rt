@@ -16,6 +16,7 @@ pub fn end_of(words: &[i32], from: usize) -> usize
     clause_end(words, from)
 }
 
+// Whether the clause that begins at `from` holds a word. One pass over the clause.
 pub fn has_word(words: &[i32], from: usize, sought: i32) -> bool
     ensures { λ r. ⌜ r ≡ holds sought (firstClause (drop from (now (words .entry)))) ⌝ }
 {

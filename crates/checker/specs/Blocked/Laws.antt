@@ -1,17 +1,14 @@
--- The row of a universal touches a clause exactly when the clause is blocked. Assumes nothing.
+-- A row that was made touches a clause exactly when the clause is blocked by its universal. Assumes nothing.
 use Prim.Native.Nat.{ℕ, _<_, _≤_}
-use mathlib.Core.Path.{_≡_, refl, ap, ap₂, sym, _∙_}
-use mathlib.Core.Bool.{Bool, true, false, _||_}
+use mathlib.Core.Path.{_≡_, refl, ap₂}
+use mathlib.Core.Bool.{_||_}
 use mathlib.Core.List.{List, [], _∷_, List·Memᴰ·head, List·Memᴰ·tail}
 use native.Mathlib.Omega.{arith}
 use native.Mathlib.Decide.{decLt}
-use lib.Dec.{eqb}
 use lib.ListN.{length, getD, length-take, List·getD-eq-default}
 use lib.IntN.{ℤ, natAbs}
-use Rattle.qbf.specs.Dependency.{depends}
-use Rattle.dependency.specs.Row.{mark, rowOf}
-use Rattle.dependency.specs.Row.Laws.{row-byte}
-use Rattle.dependency.specs.Scratch.{rowIn}
+use Rattle.dependency.specs.Scratch.{rowIn, RowMade}
+use Rattle.dependency.specs.Scratch.Laws.{row-depends}
 use Rattle.formula.specs.Word.{wordOf, variableOf}
 use Rattle.formula.specs.Word.Laws.{variable-magnitude, variable-large}
 use Rattle.formula.specs.Decode.{formulaOf}
@@ -20,19 +17,15 @@ use Rattle.checker.specs.Steps.{blocked}
 use Rattle.checker.specs.Verdict.{scopeOf}
 use Rattle.checker.specs.Blocked.{touches}
 
-mark-one : (b : Bool) → eqb (mark b) 1 ≡ b
-mark-one true = refl
-mark-one false = refl
-
 pub row-blocked :
-    (prefix clauses : List ℤ) (u : ℕ) (C : Words) → AllInRange C
-    → touches (rowOf (formulaOf prefix clauses) u) C ≡ blocked (scopeOf prefix clauses) u C
+    (prefix clauses : List ℤ) (u : ℕ) (scratch scratch′ : List ℕ) → RowMade (formulaOf prefix clauses) u scratch scratch′ → (C : Words) → AllInRange C
+    → touches (rowIn scratch′) C ≡ blocked (scopeOf prefix clauses) u C
 unfolding touches blocked
-row-blocked prefix clauses u [] r = refl
-row-blocked prefix clauses u (x ∷ C) r =
+row-blocked prefix clauses u scratch scratch′ made [] r = refl
+row-blocked prefix clauses u scratch scratch′ made (x ∷ C) r =
     ap₂ _||_
-    (ap (λ (n : ℕ). eqb n 1) (row-byte (formulaOf prefix clauses) u (natAbs x) (r x (List·Memᴰ·head refl) .1)) ∙ mark-one (depends (formulaOf prefix clauses) u (natAbs x)))
-    (row-blocked prefix clauses u C (λ y k. r y (List·Memᴰ·tail k)))
+    (row-depends (formulaOf prefix clauses) u scratch scratch′ made (natAbs x) (r x (List·Memᴰ·head refl) .1))
+    (row-blocked prefix clauses u scratch scratch′ made C (λ y k. r y (List·Memᴰ·tail k)))
 
 -- A word's variable, where it is a number of the row, is its magnitude; a magnitude past the row has no byte there.
 pub variable-near : (w : ℤ) → variableOf (wordOf w) ≤ 1024 → variableOf (wordOf w) ≡ natAbs w

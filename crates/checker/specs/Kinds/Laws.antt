@@ -7,7 +7,7 @@ use mathlib.Core.List.{List, [], _∷_, List·Memᴰ, List·Memᴰ·head, List·
 use native.Mathlib.Omega.{arith}
 use borrow.Author.Tests.{le-leb, leb-true, leb-false, eq-eqb, ne-eqb}
 use lib.Dec.{leb, eqb}
-use lib.ListN.{length, getD, set, replicate, length-replicate, length-set}
+use lib.ListN.{length, getD, replicate, length-replicate, length-set}
 use lib.Seq.{getD-set-same, getD-set-other}
 use lib.IntN.{ℤ, pos, negsuc, natAbs}
 use Rattle.qbf.specs.Formula.{Quantifier, existential, universal, Entry, entry, Prefix, listed, Distinct}

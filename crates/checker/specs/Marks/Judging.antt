@@ -12,7 +12,7 @@ use borrow.Author.Tests.{eqb-true, eqb-false, ne-eqb, le-leb}
 use lib.Dec.{leb, eqb}
 use lib.ListN.{length, getD, set, replicate, length-replicate, length-set}
 use lib.Seq.{getD-set-same, getD-set-other, set-getD, set-set, set-comm}
-use lib.IntN.{ℤ, pos, negsuc, negℤ, natAbs}
+use lib.IntN.{ℤ, pos, negsuc, negℤ}
 use Rattle.formula.specs.Word.{wordOf, slotOf, positive, negative}
 use Rattle.checker.specs.Words.{Words, sameWord, holds, InRange, AllInRange}
 use Rattle.checker.specs.Words.Laws.{same-sound, same-apart, apart-same, holds-sound, holds-complete}

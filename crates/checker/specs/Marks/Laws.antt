@@ -78,10 +78,6 @@ or-none : (b : Bool) → b ≡ (b || false)
 or-none true = refl
 or-none false = refl
 
-and-all : (b : Bool) → b ≡ (b && true)
-and-all true = refl
-and-all false = refl
-
 module _ (m : List ℕ) (e x : ℤ) where
   pub mark-left-out : sameWord e x ≡ true → Marked m (without e (alone x)) false m
   unfolding without meets markAll

@@ -4,19 +4,18 @@ use Prim.Native.Nat.{ℕ, suc, _+_, _-_, _≤_, _<_}
 use mathlib.Core.Path.{_≡_, refl, ap, sym, _∙_}
 use mathlib.Core.Bool.{Bool, true, false, _&&_}
 use mathlib.Core.Option.{Option, none, some}
-use mathlib.Core.List.{List, [], _∷_, _++_}
+use mathlib.Core.List.{List, _++_}
 use native.Mathlib.Omega.{arith}
 use borrow.Author.Tests.{lt-ltb, le-ltb}
 use lib.Dec.{leb}
-use lib.ListN.{length, getD, take, drop, replicate, length-set, length-replicate, length-drop, take-append-drop}
-use lib.Seq.{take-at, drop-at, drop-drop, take-all, length-take-le}
+use lib.ListN.{length, getD, take, drop, length-replicate, take-append-drop}
+use lib.Seq.{take-at, drop-at, drop-drop, take-all}
 use lib.IntN.{ℤ, pos, negsuc, negℤ, natAbs}
 use Rattle.qbf.specs.Formula.{Formula, existential, universal}
 use Rattle.dependency.specs.Scratch.{scratchBound, own, RowMade}
 use Rattle.dependency.specs.Scratch.Laws.{own-part}
 use Rattle.formula.specs.Prefix.{prefixOf, quantifies}
 use Rattle.formula.specs.Bounds.{variableFit}
-use Rattle.formula.specs.Word.{wordOf}
 use Rattle.formula.specs.Tables.{Admitted}
 use Rattle.formula.specs.declared.literal.VariableFit.{VariableFit}
 use Rattle.formula.specs.declared.refusal.Reason.{Reason}
@@ -68,16 +67,6 @@ module _ (prefix : List ℤ) (scratch : List ℕ) (ready : Ready prefix scratch)
 
   pub ready-kept : (scratch′ : List ℕ) → length scratch′ ≡ length scratch → drop own scratch′ ≡ drop own scratch → Ready prefix scratch′
   ready-kept scratch′ l k = record { size = l ∙ ready .size; later = k ∙ ready .later }
-
--- Clean marks stay so while what follows the first part stays.
-pub clean-kept : (scratch scratch′ : List ℕ) → Clean scratch → length scratch′ ≡ length scratch → drop own scratch′ ≡ drop own scratch → Clean scratch′
-clean-kept scratch scratch′ c l k = record { size = l ∙ c .size; marks = ap (take 2050) k ∙ c .marks }
-
-kinds-there : (scratch : List ℕ) → length scratch ≡ 8200 → 1025 ≤ length (drop 7175 scratch)
-kinds-there scratch h = rw (length-drop 7175 scratch) (omega arith)
-
-pub length-kinds-in : (scratch : List ℕ) → length scratch ≡ 8200 → length (kindsIn scratch) ≡ 1025
-length-kinds-in scratch h = length-take-le 1025 (drop 7175 scratch) (kinds-there scratch h)
 
 -- A numbered clause by its number.
 pub stored-by-number :

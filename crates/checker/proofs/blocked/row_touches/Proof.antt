@@ -25,9 +25,6 @@ abbrev μ-loop : tie.MeasureT-loop
 loop-holds : tie.Need-loop-holds Inv-loop μ-loop
 loop-holds c = refl
 
-is-zero-requires : tie.Need-is-zero-requires Inv-loop μ-loop
-is-zero-requires c κs = tt
-
 returns : tie.Need-returns Inv-loop μ-loop
 unfolding touches
 returns c =
@@ -86,7 +83,7 @@ row-touches-spec =
     loop-holds
     (λ c. search needs)
     (λ c. search needs)
-    is-zero-requires
+    (λ c κs. tt)
     returns
     word-touches-requires
     returns-2

@@ -28,9 +28,6 @@ abbrev μ-loop : tie.MeasureT-loop
 loop-holds : tie.Need-loop-holds Inv-loop μ-loop
 loop-holds c = ((refl, refl), refl)
 
-is-zero-requires : tie.Need-is-zero-requires Inv-loop μ-loop
-is-zero-requires c κs = tt
-
 -- at a clause's end, the word left out being what was passed
 ends-at :
     (c : tie.At-loop Inv-loop μ-loop) → clauseAt (c .before .before .args .words .now) (c .loop .i) ≡ []
@@ -74,7 +71,7 @@ mark-spec =
     loop-holds
     (λ c. search needs)
     (λ c. search needs)
-    is-zero-requires
+    (λ c κs. tt)
     (λ c. search needs)
     returns
     mark-word-requires

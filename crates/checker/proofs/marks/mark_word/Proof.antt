@@ -16,9 +16,6 @@ own-at c = read-slot _ (c .before .before .before .before .before .before .fits 
 other-at : (c : tie.After-slice-known2) → c .before .opposite-slot .result ≡ slotAt (negℤ (c .before .before .before .before .before .before .args .word))
 other-at c = read-opposite _ (c .before .before .before .before .before .before .fits .word) (c .before .opposite-slot .ensures)
 
-same-requires : tie.Need-same-requires
-same-requires c κs = search needs
-
 returns : tie.Need-returns
 returns c =
     let start = c .before .before .before in
@@ -50,4 +47,4 @@ returns-2 c =
 pub mark-word-spec : {M : Type 1} → statement M
 mark-word-spec =
     tie.close
-    (tie.spec same-requires returns slot-requires opposite-slot-requires slice-read-opposite slice-write-marks same-length returns-2)
+    (tie.spec (λ c κs. search needs) returns slot-requires opposite-slot-requires slice-read-opposite slice-write-marks same-length returns-2)

@@ -25,9 +25,6 @@ abbrev μ-loop : tie.MeasureT-loop
 loop-holds : tie.Need-loop-holds Inv-loop μ-loop
 loop-holds c = ((refl, refl), refl)
 
-is-zero-requires : tie.Need-is-zero-requires Inv-loop μ-loop
-is-zero-requires c κs = tt
-
 ends-at :
     (c : tie.At-loop Inv-loop μ-loop) → clauseAt (c .before .before .args .words .now) (c .loop .i) ≡ []
     → Ticked (c .before .before .args .marks .now) (clauseAt (c .before .before .args .words .now) (c .before .before .args .from)) true (c .loop .marks)
@@ -92,7 +89,7 @@ tick-spec =
     loop-holds
     (λ c. search needs)
     (λ c. search needs)
-    is-zero-requires
+    (λ c κs. tt)
     (λ c. search needs)
     returns
     tick-word-requires

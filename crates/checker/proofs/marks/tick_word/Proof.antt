@@ -12,9 +12,6 @@ use Rattle.checker.proofs.marks.tick_word.Tie as tie
 own-at : (c : tie.After-slice-known2) → c .before .slot .result ≡ slotAt (c .before .before .before .args .word)
 own-at c = read-slot _ (c .before .before .before .fits .word) (c .before .slot .ensures)
 
-slot-requires : tie.Need-slot-requires
-slot-requires c κs = search needs
-
 slice-read-if1 : tie.Need-slice-read-if1
 slice-read-if1 c = omega (arith, own-at c, slot-at-bound (c .before .before .before .args .word), c .before .before .before .pre)
 
@@ -35,4 +32,4 @@ returns-2 c =
     tick-none (start .args .marks .now) (start .args .word) (rw (own-at (c .before)) at (c .if1 .left))
 
 pub tick-word-spec : {M : Type 1} → statement M
-tick-word-spec = tie.close (tie.spec slot-requires slice-read-if1 slice-write-marks same-length returns returns-2)
+tick-word-spec = tie.close (tie.spec (λ c κs. search needs) slice-read-if1 slice-write-marks same-length returns returns-2)

@@ -12,9 +12,6 @@ use Rattle.checker.proofs.marks.wipe_word.Tie as tie
 own-at : (c : tie.After-slice-known2) → c .before .slot .result ≡ slotAt (c .before .before .before .before .before .args .word)
 own-at c = read-slot _ (c .before .before .before .before .before .fits .word) (c .before .slot .ensures)
 
-same-requires : tie.Need-same-requires
-same-requires c κs = search needs
-
 returns : tie.Need-returns
 returns c =
     let start = c .before .before .before in
@@ -42,4 +39,4 @@ returns-2 c =
 
 pub wipe-word-spec : {M : Type 1} → statement M
 wipe-word-spec =
-    tie.close (tie.spec same-requires returns slot-requires slice-read-was slice-write-marks same-length returns-2)
+    tie.close (tie.spec (λ c κs. search needs) returns slot-requires slice-read-was slice-write-marks same-length returns-2)

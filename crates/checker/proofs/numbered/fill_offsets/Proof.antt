@@ -38,9 +38,6 @@ slice-write-offsets c = more-at c
 add-n : tie.Need-add-n Inv-loop μ-loop
 add-n c = let h = more-at c in let l = c .before .loop .inv .1 in let g = c .before .before .before .good .1 .0 .1 in omega arith
 
-end-of-requires : tie.Need-end-of-requires Inv-loop μ-loop
-end-of-requires c κs = tt
-
 -- the clause ends within the table
 end-at : (c : tie.After-end-of Inv-loop μ-loop) → c .end-of .result < length (c .before .before .before .before .args .clauses .now) + 1
 end-at c =
@@ -78,7 +75,7 @@ fill-offsets-spec =
     mul-offsets
     slice-write-offsets
     add-n
-    end-of-requires
+    (λ c κs. tt)
     add-from
     loop-less
     loop-again

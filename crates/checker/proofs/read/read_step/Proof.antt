@@ -5,7 +5,6 @@ use native.Mathlib.Omega.{arith}
 use borrow.Author.Needs.{needs}
 use lib.ListN.{length, getD, drop}
 use lib.IntN.{ℤ, pos}
-use Rattle.checker.specs.declared.read.Close.the-variants.{At}
 use Rattle.checker.specs.declared.read.Kind.the-variants.{Resolves, Reduces}
 use Rattle.checker.specs.Reading.{kindIs, closedAt}
 use Rattle.checker.specs.Reading.Laws.{statement-resolves, statement-reduces, close-within, resolution-read, reduction-read, resolution-broken, reduction-broken, kind-broken}

@@ -20,9 +20,10 @@ kept-at c =
 -- the row touches the clause exactly when the clause is blocked
 blocked-at : (c : tie.After-row-touches) → let s = c .before .before .before .before .before .before .before .args in c .row-touches .result ≡ blocked (scopeOf (s .prefix .now) (s .clauses .now)) (s .variable .0) (clauseAt (s .words .now) (s .from))
 blocked-at c =
-    let start = c .before .before .before .before .before .before .before in
-    (rw (c .before .before .before .before .make-row .ensures .row) at (c .row-touches .ensures))
-    ∙ row-blocked (start .args .prefix .now) (start .args .clauses .now) (start .args .variable .0) (clauseAt (start .args .words .now) (start .args .from)) (start .pre .1 .1 .1)
+    let made = c .before .before .before .before in
+    let start = made .before .before .before in
+    c .row-touches .ensures
+    ∙ row-blocked (start .args .prefix .now) (start .args .clauses .now) (start .args .variable .0) (start .args .scratch .now) (made .make-row .last .1 .1 .1 .0) (made .make-row .ensures) (clauseAt (start .args .words .now) (start .args .from)) (start .pre .1 .1 .1)
 
 make-row-requires : tie.Need-make-row-requires
 make-row-requires c κs =

@@ -8,9 +8,6 @@ use Rattle.checker.specs.Step.Laws.{stored-by-number}
 use Rattle.checker.proofs.resolve.resolve_numbered.Statement.{statement}
 use Rattle.checker.proofs.resolve.resolve_numbered.Tie as tie
 
-table-of-requires : tie.Need-table-of-requires
-table-of-requires c κs = search needs
-
 table-of-requires-2 : tie.Need-table-of-requires-2
 table-of-requires-2 c κs = search needs
 
@@ -49,4 +46,4 @@ returns c =
 pub resolve-numbered-spec : {M : Type 1} → statement M
 resolve-numbered-spec =
     tie.close
-    (tie.spec table-of-requires table-of-requires-2 place-of-requires place-of-requires-2 resolve-on-requires same-length returns)
+    (tie.spec (λ c κs. search needs) table-of-requires-2 place-of-requires place-of-requires-2 resolve-on-requires same-length returns)
