@@ -2,39 +2,43 @@
 -- prefix. That they answer the tests of a scope is in Kinds/Laws.antt.
 pub mod Laws
 use Prim.Native.Nat.{ℕ}
+use mathlib.Core.Bool.{_&&_}
 use mathlib.Core.List.{List, [], _∷_}
 use lib.ListN.{getD, set, replicate}
 use lib.Dec.{eqb}
 use lib.IntN.{ℤ}
-use Rattle.formula.specs.Word.{wordOf}
+use Rattle.qbf.specs.Formula.{Quantifier, existential, universal, Entry, Prefix}
 use Rattle.formula.specs.Bounds.{variableFit}
+use Rattle.formula.specs.Prefix.{prefixOf}
 use Rattle.formula.specs.declared.literal.Word.{Word}
 use Rattle.formula.specs.declared.literal.Word.the-variants.{Zero, TooLarge, Positive, Negative}
 use Rattle.formula.specs.declared.literal.VariableFit.{VariableFit}
 use Rattle.formula.specs.declared.literal.VariableFit.the-variants.{Outside}
 
-abbrev pub kindWord : List ℕ → Word → List ℕ
-kindWord kinds Zero = kinds
-kindWord kinds TooLarge = kinds
-kindWord kinds (Positive v) = set kinds (v .0) 1
-kindWord kinds (Negative v) = set kinds (v .0) 2
+abbrev pub kindByte : Quantifier → ℕ
+kindByte existential = 1
+kindByte universal = 2
 
-unfoldable pub kindsFrom : List ℕ → List ℤ → List ℕ
+abbrev pub kindEntry : List ℕ → Entry → List ℕ
+kindEntry kinds x = set kinds (x .variable) (kindByte (x .quantifier))
+
+unfoldable pub kindsFrom : List ℕ → Prefix → List ℕ
 kindsFrom kinds [] = kinds
-kindsFrom kinds (w ∷ ws) = kindsFrom (kindWord kinds (wordOf w)) ws
+kindsFrom kinds (x ∷ P) = kindsFrom (kindEntry kinds x) P
 
--- The kinds of a prefix.
+-- The kinds of a prefix table.
 unfoldable pub kindsOf : List ℤ → List ℕ
-kindsOf prefix = kindsFrom (replicate 1025 0) prefix
+kindsOf prefix = kindsFrom (replicate 1025 0) (prefixOf prefix)
+
+-- The variable of a word that is a literal of the kind: a positive one, or a universal one of either sign.
+abbrev pub fitOf : List ℕ → ℕ → Word → VariableFit
+fitOf kinds kind Zero = Outside
+fitOf kinds kind TooLarge = Outside
+fitOf kinds kind (Positive v) = variableFit (eqb (getD kinds (v .0) 0) kind) (v .0)
+fitOf kinds kind (Negative v) = variableFit (eqb kind 2 && eqb (getD kinds (v .0) 0) kind) (v .0)
 
 abbrev pub existentialOf : List ℕ → Word → VariableFit
-existentialOf kinds Zero = Outside
-existentialOf kinds TooLarge = Outside
-existentialOf kinds (Positive v) = variableFit (eqb (getD kinds (v .0) 0) 1) (v .0)
-existentialOf kinds (Negative v) = Outside
+existentialOf kinds w = fitOf kinds 1 w
 
 abbrev pub universalOf : List ℕ → Word → VariableFit
-universalOf kinds Zero = Outside
-universalOf kinds TooLarge = Outside
-universalOf kinds (Positive v) = variableFit (eqb (getD kinds (v .0) 0) 2) (v .0)
-universalOf kinds (Negative v) = variableFit (eqb (getD kinds (v .0) 0) 2) (v .0)
+universalOf kinds w = fitOf kinds 2 w

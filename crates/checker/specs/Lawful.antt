@@ -13,7 +13,7 @@ use lib.ListN.{getElem?}
 use lib.IntN.{ℤ, pos, negℤ, natAbs}
 use Rattle.qbf.specs.Formula.{Formula, Existential, Universal}
 use Rattle.qbf.specs.Dependency.{Depends}
-use Rattle.checker.specs.Words.{Words}
+use Rattle.checker.specs.Words.{Words, AllWords}
 use Rattle.checker.specs.Steps.{Step, resolution, reduction, statedBy}
 
 -- No literal stands twice.
@@ -85,10 +85,6 @@ numberedClauses known steps = known ++ map statedBy steps
 abbrev pub LawfulSteps : Formula → List Words → List Step → Type 0
 LawfulSteps F known [] = Unit {0}
 LawfulSteps F known (s ∷ steps) = Lawful F known s × LawfulSteps F (known ++ (statedBy s ∷ [])) steps
-
--- Each word of each clause is such.
-abbrev pub AllWords : (ℤ → Type 0) → List Words → Type 0
-AllWords P known = (C : Words) → List·Memᴰ C known → (x : ℤ) → List·Memᴰ x C → P x
 
 -- No clause holds the word 0.
 abbrev pub NoZeros : List Words → Type 0

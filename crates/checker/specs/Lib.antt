@@ -1,6 +1,6 @@
 -- The definitions that layer 3's contracts cite, and the theorems that say what they compute.
 -- What a reader must believe: ProofFile, Words, Rules, Steps, Verdict, Lawful, Refutation. As the code keeps and reads things: Marks, Kinds,
--- Blocking, Numbered, Reading, Judgements, Stepping, Running.
+-- Blocked, Numbered, Reading, Result, Step, Running.
 pub mod ProofFile
 pub mod Words
 pub mod Rules
@@ -11,9 +11,9 @@ pub mod Verdict
 pub mod Refutation
 pub mod Marks
 pub mod Kinds
-pub mod Blocking
+pub mod Blocked
 pub mod Numbered
 pub mod Reading
-pub mod Judgements
-pub mod Stepping
+pub mod Result
+pub mod Step
 pub mod Running

@@ -2,40 +2,36 @@
 -- does to the marks and tells. That this judges a statement is in Marks/Laws.antt.
 pub mod Laws
 pub mod Judging
-use Prim.Native.Nat.{ℕ, _+_, _*_}
+use Prim.Native.Nat.{ℕ}
 use mathlib.Core.Path.{_≡_}
 use mathlib.Core.Bool.{Bool, true, false, _&&_, _||_}
 use mathlib.Core.List.{List, [], _∷_}
-use lib.ListN.{getD, set}
+use lib.ListN.{getD, set, replicate}
 use lib.Dec.{eqb}
 use lib.IntN.{ℤ, negℤ}
-use Rattle.formula.specs.Word.{wordOf}
-use Rattle.formula.specs.declared.literal.Word.{Word}
-use Rattle.formula.specs.declared.literal.Word.the-variants.{Zero, TooLarge, Positive, Negative}
+use Rattle.formula.specs.Word.{wordOf, slotOf}
 use Rattle.checker.specs.Words.{Words}
 
 -- The list of one word.
 abbrev pub alone : ℤ → Words
 alone x = x ∷ []
 
-abbrev pub slotOf : Word → ℕ
-slotOf Zero = 0
-slotOf TooLarge = 0
-slotOf (Positive v) = 2 * v .0
-slotOf (Negative v) = 2 * v .0 + 1
+-- The byte of a word's literal: 2 to 2,049; 0 for any other word.
+unfoldable pub slotAt : ℤ → ℕ
+slotAt x = slotOf (wordOf x)
 
--- The byte of a literal: 2 to 2,049; 0 for any other word.
-unfoldable pub slot : ℤ → ℕ
-slot x = slotOf (wordOf x)
+-- No literal is marked.
+abbrev pub clean : List ℕ
+clean = replicate 2050 0
 
 -- Each word is marked 1; a word meets its opposite.
 unfoldable pub markAll : List ℕ → Words → List ℕ
 markAll marks [] = marks
-markAll marks (x ∷ C) = markAll (set marks (slot x) 1) C
+markAll marks (x ∷ C) = markAll (set marks (slotAt x) 1) C
 
 unfoldable pub meets : List ℕ → Words → Bool
 meets marks [] = false
-meets marks (x ∷ C) = eqb (getD marks (slot (negℤ x)) 0) 1 || meets (set marks (slot x) 1) C
+meets marks (x ∷ C) = eqb (getD marks (slotAt (negℤ x)) 0) 1 || meets (set marks (slotAt x) 1) C
 
 -- Words are ticked 2 up to the first that is not 1; there is none.
 abbrev pub tickIf : Bool → List ℕ → List ℕ → List ℕ
@@ -44,20 +40,20 @@ tickIf false marks later = marks
 
 unfoldable pub tickAll : List ℕ → Words → List ℕ
 tickAll marks [] = marks
-tickAll marks (x ∷ L) = tickIf (eqb (getD marks (slot x) 0) 1) marks (tickAll (set marks (slot x) 2) L)
+tickAll marks (x ∷ L) = tickIf (eqb (getD marks (slotAt x) 0) 1) marks (tickAll (set marks (slotAt x) 2) L)
 
 unfoldable pub ticks : List ℕ → Words → Bool
 ticks marks [] = true
-ticks marks (x ∷ L) = eqb (getD marks (slot x) 0) 1 && ticks (set marks (slot x) 2) L
+ticks marks (x ∷ L) = eqb (getD marks (slotAt x) 0) 1 && ticks (set marks (slotAt x) 2) L
 
 -- Each word is wiped to 0; one was 1.
 unfoldable pub wipeAll : List ℕ → Words → List ℕ
 wipeAll marks [] = marks
-wipeAll marks (x ∷ C) = wipeAll (set marks (slot x) 0) C
+wipeAll marks (x ∷ C) = wipeAll (set marks (slotAt x) 0) C
 
 unfoldable pub leaves : List ℕ → Words → Bool
 leaves marks [] = false
-leaves marks (x ∷ C) = eqb (getD marks (slot x) 0) 1 || leaves (set marks (slot x) 0) C
+leaves marks (x ∷ C) = eqb (getD marks (slotAt x) 0) 1 || leaves (set marks (slotAt x) 0) C
 
 pub record Marked (marks : List ℕ) (C : Words) (met : Bool) (exit : List ℕ) : Type 0 where
   pub told : met ≡ meets marks C

@@ -1,27 +1,27 @@
 -- What the run over the steps answers, and the search for the first empty clause.
 pub mod Laws
-use Prim.Native.Nat.{ℕ, zero, _≤_}
+use Prim.Native.Nat.{ℕ, zero, _≤_, _<_}
 use mathlib.Core.Path.{_≡_}
 use mathlib.Core.Bool.{Bool, true, false}
 use mathlib.Core.Option.{Option, none, some}
 use mathlib.Core.List.{List, [], _∷_}
-use lib.ListN.{length}
+use lib.ListN.{length, getD, drop}
 use lib.IntN.{ℤ}
 use Rattle.formula.specs.Decode.{clausesOf}
+use Rattle.checker.specs.Rules.{plainRules}
 use Rattle.checker.specs.declared.run.Run.{Run}
 use Rattle.checker.specs.declared.run.Run.the-variants.{Ended, Refused}
 use Rattle.checker.specs.declared.run.Found.{Found}
 use Rattle.checker.specs.declared.run.Found.the-variants.{Clause, Nothing}
-use Rattle.checker.specs.Rules.{plainRules}
 use Rattle.checker.specs.Words.{Words}
-use Rattle.checker.specs.Steps.{Outcome, ended, refused, run}
+use Rattle.checker.specs.Steps.{Step, statedBy, readStep, Outcome, ended, refused, run}
 use Rattle.checker.specs.Verdict.{scopeOf}
-use Rattle.checker.specs.Numbered.{stored}
+use Rattle.checker.specs.Numbered.{storedAt, stored}
 
--- The run's answer with the starts it leaves.
+-- The run's answer with the offsets it leaves.
 abbrev pub outcomeOf : ℕ → Words → Words → List ℕ → Run → Outcome
-outcomeOf inputs clauses steps starts (Ended n) = ended (stored inputs clauses steps starts n)
-outcomeOf inputs clauses steps starts (Refused r) = refused r
+outcomeOf inputs clauses steps offsets (Ended n) = ended (stored inputs clauses steps offsets n)
+outcomeOf inputs clauses steps offsets (Refused r) = refused r
 
 abbrev pub countOf : Run → ℕ
 countOf (Ended n) = n
@@ -32,10 +32,23 @@ abbrev pub Grown : ℕ → Run → Type 0
 Grown inputs (Ended n) = inputs ≤ n
 Grown inputs (Refused r) = Unit {0}
 
-pub record RunDone (prefix clauses steps : List ℤ) (inputs : ℕ) (r : Run) (starts : List ℕ) : Type 0 where
-  pub outcome : run plainRules (scopeOf prefix clauses) (length starts) (clausesOf clauses) zero steps ≡ outcomeOf inputs clauses steps starts r
-  pub counted : countOf r ≤ length starts
+-- A step whose first word stands at a place, and that states the clause.
+pub record StepStands (steps : Words) (at : ℕ) (C : Words) : Type 0 where
+  pub step : Step
+  pub was-read : readStep plainRules (drop at steps) ≡ some step
+  pub states : statedBy step ≡ C
+
+-- Where the words of the first `numbered` clauses stand: those of the input clauses in the clause table, as it has them; those of
+-- every later one in the step words, as the statement of the step whose first word stands at the clause's offset.
+pub record Placed (clauses steps : Words) (inputs : ℕ) (offsets : List ℕ) (numbered : ℕ) : Type 0 where
+  pub input-clauses : stored inputs clauses steps offsets inputs ≡ clausesOf clauses
+  pub derived : (k : ℕ) → inputs ≤ k → k < numbered → StepStands steps (getD offsets k 0) (storedAt inputs clauses steps offsets k)
+
+pub record RunDone (prefix clauses steps : List ℤ) (inputs : ℕ) (r : Run) (offsets : List ℕ) : Type 0 where
+  pub outcome : run plainRules (scopeOf prefix clauses) (length offsets) (clausesOf clauses) zero steps ≡ outcomeOf inputs clauses steps offsets r
+  pub counted : countOf r ≤ length offsets
   pub grown : Grown inputs r
+  pub placed : Placed clauses steps inputs offsets (countOf r)
 
 abbrev pub isEmpty : Words → Bool
 isEmpty [] = true

@@ -12,9 +12,10 @@ use mathlib.Core.Option.{Option, none, some}
 use mathlib.Core.List.{List, [], _∷_}
 use lib.ListN.{length, replicate}
 use lib.Dec.{leb}
-use lib.IntN.{ℤ, pos}
+use lib.IntN.{ℤ}
 use Rattle.qbf.specs.Dependency.{depends}
-use Rattle.dependency.specs.Row.{isUniversal}
+use Rattle.qbf.specs.Formula.{existential, universal}
+use Rattle.formula.specs.Prefix.{prefixOf, quantifies}
 use Rattle.formula.specs.Bounds.{proofBound}
 use Rattle.formula.specs.Decode.{formulaOf, clausesOf}
 use Rattle.formula.specs.Tables.{zeros, tablesRefusal}
@@ -26,15 +27,15 @@ use Rattle.formula.specs.declared.refusal.Reason.the-variants.{Oversized, NoRoo
 use Rattle.checker.specs.declared.verdict.Verdict.{Verdict}
 use Rattle.checker.specs.declared.verdict.Verdict.the-variants.{Accepted, Refused}
 use Rattle.checker.specs.Rules.{Rules, plainRules}
-use Rattle.checker.specs.Words.{Words, holds}
+use Rattle.checker.specs.Words.{Words}
 use Rattle.checker.specs.Steps.{Scope, Outcome, ended, refused, run}
 
--- The tests on the tables: +v in the prefix is existential, −v universal; dependencies come from the input formula.
+-- The tests on the tables: by the entries of the prefix; dependencies come from the input formula.
 abbrev pub scopeOf : List ℤ → List ℤ → Scope
 scopeOf prefix clauses =
     record {
-      existential = λ v. holds (pos v) prefix;
-      universal = isUniversal prefix;
+      existential = quantifies existential (prefixOf prefix);
+      universal = quantifies universal (prefixOf prefix);
       dependent = depends (formulaOf prefix clauses);
     }
 

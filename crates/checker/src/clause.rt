@@ -1,7 +1,7 @@
 // A clause by the place of its first word in a table: it ends before the first 0, or with the table. Its end is found by the
 // reader of clause words.
-use crate::word::is_zero;
 use crate::word::same;
+use formula::literal::Word;
 use formula::words::clause_end;
 ghost use mathlib.Core.Path.{_≡_};
 ghost use Prim.Native.Nat.{_+_};
@@ -16,13 +16,14 @@ pub fn end_of(words: &[i32], from: usize) -> usize
     clause_end(words, from)
 }
 
+// Whether the clause that begins at `from` holds a word. One pass over the clause.
 pub fn has_word(words: &[i32], from: usize, sought: i32) -> bool
     ensures { λ r. ⌜ r ≡ holds sought (firstClause (drop from (now (words .entry)))) ⌝ }
 {
     let mut i = from;
     while i < words.len() {
         let word = words[i];
-        if is_zero(word) {
+        if Word::is_zero(word) {
             return false;
         }
         if same(sought, word) {

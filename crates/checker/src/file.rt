@@ -11,7 +11,7 @@ ghost use Prim.Native.Nat.{_+_, _*_, _≤_};
 ghost use lib.ListN.{length, drop};
 ghost use mir.Syntax.{w32};
 ghost use mir.Val.{toZ};
-ghost use Rattle.checker.specs.ProofFile.{number4, numberAt, wordsOf, mark4, markAt, hasTrailer, stepCount, proofRefusal, lengthAnswer, ProofRead};
+ghost use Rattle.checker.specs.ProofFile.{number4, numberAt, wordsOf, markAt, hasTrailer, stepCount, proofRefusal, lengthAnswer, ProofRead};
 
 // How many step words were read, or the refusal.
 pub enum ProofAnswer {
@@ -22,6 +22,9 @@ pub enum ProofAnswer {
 // Bytes of the trailer.
 const TRAILER: usize = 12;
 
+// The mark: the bytes 51 44 52 31 as a number.
+const MARK: u32 = 0x3152_4451;
+
 // The unsigned number that four bytes write, the lowest first.
 fn number4(a: u8, b: u8, c: u8, d: u8) -> u32
     ensures { λ r. ⌜ r ≡ number4 a b c d ⌝ }
@@ -29,6 +32,7 @@ fn number4(a: u8, b: u8, c: u8, d: u8) -> u32
     a as u32 + 256 * (b as u32) + 65_536 * (c as u32) + 16_777_216 * (d as u32)
 }
 
+// The unsigned number that the four bytes at a place write.
 fn number_at(bytes: &[u8], at: usize) -> u32
     requires { ⌜ at + 4 ≤ length (now bytes) ⌝ }
     ensures { λ r. ⌜ r ≡ numberAt (now (bytes .entry)) at ⌝ }
@@ -47,18 +51,12 @@ fn signed(n: u32) -> i32
     }
 }
 
-// Whether four bytes are the mark of a trailer.
-fn mark4(a: u8, b: u8, c: u8, d: u8) -> bool
-    ensures { λ r. ⌜ r ≡ mark4 a b c d ⌝ }
-{
-    (a == 0x51) & (b == 0x44) & (c == 0x52) & (d == 0x31)
-}
-
+// Whether the four bytes at a place are the mark of a trailer.
 fn mark_at(bytes: &[u8], at: usize) -> bool
     requires { ⌜ at + 4 ≤ length (now bytes) ⌝ }
     ensures { λ r. ⌜ r ≡ markAt (now (bytes .entry)) at ⌝ }
 {
-    mark4(bytes[at], bytes[at + 1], bytes[at + 2], bytes[at + 3])
+    number_at(bytes, at) == MARK
 }
 
 // Whether a trailer ends the file: 11 if not.
@@ -88,30 +86,18 @@ fn check_trailer(file: &[u8], clause_count: u32, room: usize) -> ProofAnswer
         let start = file.len() - TRAILER;
         let words = (number_at(file, start) as usize) / 4;
         let ProofFit::Within(_) = ProofLength::new(words) else {
-            return ProofAnswer::Refused(Refusal {
-                reason: Reason::Oversized,
-                place: 0,
-            });
+            return ProofAnswer::Refused(Refusal::new(Reason::Oversized, 0));
         };
         let count = number_at(file, start + 4);
         if count != clause_count {
-            return ProofAnswer::Refused(Refusal {
-                reason: Reason::OtherFormula,
-                place: 0,
-            });
+            return ProofAnswer::Refused(Refusal::new(Reason::OtherFormula, 0));
         }
         if room < words {
-            return ProofAnswer::Refused(Refusal {
-                reason: Reason::NoRoom,
-                place: 0,
-            });
+            return ProofAnswer::Refused(Refusal::new(Reason::NoRoom, 0));
         }
         ProofAnswer::Read(words)
     } else {
-        ProofAnswer::Refused(Refusal {
-            reason: Reason::NoTrailer,
-            place: 0,
-        })
+        ProofAnswer::Refused(Refusal::new(Reason::NoTrailer, 0))
     }
 }
 

@@ -1,16 +1,17 @@
-// Layer 3: the proof file, the steps, the verdict.
+// Layer 3: the proof file, the steps, the verdict. Open to crates above besides the entries: how words, steps, numbered clauses
+// and marks are read, and the run.
 mod blocked;
-mod clause;
+pub mod clause;
 pub mod file;
-mod kinds;
-mod marks;
-mod numbered;
+pub mod kinds;
+pub mod marks;
+pub mod numbered;
 pub mod proof;
-mod read;
+pub mod read;
 mod reduce;
 mod resolve;
 mod result;
-mod run;
-mod step;
+pub mod run;
+pub mod step;
 pub mod verdict;
-mod word;
+pub mod word;

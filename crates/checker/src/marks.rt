@@ -1,14 +1,15 @@
 // A step's marks, one byte a literal: 0 for one that is not in the result, 1 for one that is, 2 for one that is stated. The
 // result is marked, its statement ticked, then the result wiped, which tells whether a literal was left unstated.
-use crate::word::is_zero;
-use crate::word::opposite_slot;
 use crate::word::same;
-use crate::word::slot_of;
+use formula::literal::Word;
 ghost use mathlib.Core.Path.{_≡_};
 ghost use lib.ListN.{length, drop};
 ghost use Rattle.formula.specs.Decode.{firstClause};
 ghost use Rattle.checker.specs.Words.{without};
 ghost use Rattle.checker.specs.Marks.{Marked, Ticked, Wiped, alone};
+
+// Where in scratch the marks end and the kinds of the variables begin: the 2,050 marks begin at `OWN`.
+pub const KINDS: usize = 7_175;
 
 // Marks a word, unless it is the one left out; tells whether its opposite is marked.
 fn mark_word(word: i32, except: i32, marks: &mut [u8]) -> bool
@@ -18,8 +19,8 @@ fn mark_word(word: i32, except: i32, marks: &mut [u8]) -> bool
     if same(except, word) {
         return false;
     }
-    let own = slot_of(word);
-    let other = opposite_slot(word);
+    let own = Word::slot(word);
+    let other = Word::opposite_slot(word);
     let opposite = marks[other];
     marks[own] = 1;
     opposite == 1
@@ -34,7 +35,7 @@ pub fn mark(words: &[i32], from: usize, except: i32, marks: &mut [u8]) -> bool
     let mut i = from;
     while i < words.len() {
         let word = words[i];
-        if is_zero(word) {
+        if Word::is_zero(word) {
             return clash;
         }
         let met = mark_word(word, except, marks);
@@ -49,7 +50,7 @@ fn tick_word(word: i32, marks: &mut [u8]) -> bool
     requires { ⌜ length (now marks) ≡ 2050 ⌝ }
     ensures { λ r. ⌜ Ticked (now (marks .entry)) (alone word) r (now (marks .exit)) ⌝ }
 {
-    let own = slot_of(word);
+    let own = Word::slot(word);
     if marks[own] == 1 {
         marks[own] = 2;
         return true;
@@ -65,7 +66,7 @@ pub fn tick(words: &[i32], from: usize, marks: &mut [u8]) -> bool
     let mut i = from;
     while i < words.len() {
         let word = words[i];
-        if is_zero(word) {
+        if Word::is_zero(word) {
             return true;
         }
         if tick_word(word, marks) {
@@ -85,7 +86,7 @@ fn wipe_word(word: i32, except: i32, marks: &mut [u8]) -> bool
     if same(except, word) {
         return false;
     }
-    let own = slot_of(word);
+    let own = Word::slot(word);
     let was = marks[own];
     marks[own] = 0;
     was == 1
@@ -100,7 +101,7 @@ pub fn wipe(words: &[i32], from: usize, except: i32, marks: &mut [u8]) -> bool
     let mut i = from;
     while i < words.len() {
         let word = words[i];
-        if is_zero(word) {
+        if Word::is_zero(word) {
             return left;
         }
         let unticked = wipe_word(word, except, marks);

@@ -1,6 +1,7 @@
-// Numbered clauses by the starts table: for an input clause the place of its first word in the clause table, for a step the
-// place of its statement's first word in the step words.
+// Numbered clauses by the clause offsets (the table that 01 calls starts): for an input clause the place of its first word in
+// the clause table, for a step the place of the step's first word, its kind, in the step words. Only this file knows that.
 use crate::clause::end_of;
+use crate::read::statement_of;
 use formula::literal::ClauseNumber;
 use formula::literal::NumberFit;
 ghost use mathlib.Core.Path.{_≡_};
@@ -8,7 +9,7 @@ ghost use Prim.Native.Nat.{_≤_, _+_, _-_};
 ghost use lib.ListN.{length, getD};
 ghost use lib.Dec.{leb};
 ghost use Rattle.formula.specs.Decode.{clausesOf};
-ghost use Rattle.checker.specs.Numbered.{numberOf, tableOf, StartsFilled};
+ghost use Rattle.checker.specs.Numbered.{numberOf, tableOf, placeOf, OffsetsFilled};
 
 // The number that a word is, from 1 to the last.
 pub fn antecedent_of(word: i32, last: usize) -> NumberFit
@@ -36,25 +37,29 @@ pub fn table_of<'a>(
     steps
 }
 
-// The place of a numbered clause's first word in its table.
-pub fn start_of(starts: &[u32], number: ClauseNumber) -> usize
-    requires { ⌜ 1 ≤ number .0 ⌝ ∗ ⌜ number .0 ≤ length (now starts) ⌝ }
-    ensures { λ r. ⌜ r ≡ getD (now (starts .entry)) (number .0 - 1) 0 ⌝ }
+// The place of a numbered clause's first word in its table: an input clause's offset; for a step where its statement begins.
+pub fn place_of(steps: &[i32], offsets: &[u32], inputs: usize, number: ClauseNumber) -> usize
+    requires { ⌜ 1 ≤ number .0 ⌝ ∗ ⌜ number .0 ≤ length (now offsets) ⌝ }
+    ensures { λ r. ⌜ r ≡ placeOf (leb (number .0) inputs) (now (steps .entry)) (getD (now (offsets .entry)) (number .0 - 1) 0) ⌝ }
 {
     let n = number.0;
     let k = n - 1;
-    starts[k] as usize
+    let offset = offsets[k] as usize;
+    if n <= inputs {
+        return offset;
+    }
+    statement_of(steps, offset)
 }
 
-// The starts of the input clauses.
-pub fn fill_starts(clauses: &[i32], starts: &mut [u32])
-    requires { ⌜ length (now clauses) ≤ 65536 ⌝ ∗ ⌜ length (clausesOf (now clauses)) ≤ length (now starts) ⌝ }
-    ensures { λ r. ⌜ StartsFilled (now (clauses .entry)) (now (starts .exit)) ⌝ }
+// The offsets of the input clauses. One pass over the clause words.
+pub fn fill_offsets(clauses: &[i32], offsets: &mut [u32])
+    requires { ⌜ length (now clauses) ≤ 65536 ⌝ ∗ ⌜ length (clausesOf (now clauses)) ≤ length (now offsets) ⌝ }
+    ensures { λ r. ⌜ OffsetsFilled (now (clauses .entry)) (now (offsets .exit)) ⌝ }
 {
     let mut n = 0;
     let mut from = 0;
     while from < clauses.len() {
-        starts[n] = from as u32;
+        offsets[n] = from as u32;
         n += 1;
         from = end_of(clauses, from) + 1;
     }

@@ -1,11 +1,13 @@
 // The check of a proof, on tables and step words: the entry of this layer.
 use crate::kinds::fill_kinds;
-use crate::numbered::fill_starts;
+use crate::marks::KINDS;
+use crate::numbered::fill_offsets;
 use crate::run::Found;
 use crate::run::Run;
 use crate::run::first_empty;
 use crate::run::run_steps;
 use crate::verdict::Verdict;
+use dependency::row::SCRATCH;
 use formula::bounds::ProofFit;
 use formula::bounds::ProofLength;
 use formula::clear::clear_bytes;
@@ -16,7 +18,7 @@ use formula::tables::TablesAnswer;
 use formula::tables::check_tables;
 ghost use mathlib.Core.Path.{_≡_};
 ghost use Prim.Native.Nat.{_≤_, zero};
-ghost use lib.ListN.{length};
+ghost use lib.ListN.{length, replicate};
 ghost use Rattle.formula.specs.Decode.{clausesOf};
 ghost use Rattle.formula.specs.Tables.{Admitted, zeros};
 ghost use Rattle.checker.specs.Rules.{plainRules};
@@ -24,54 +26,59 @@ ghost use Rattle.checker.specs.Steps.{run};
 ghost use Rattle.checker.specs.Numbered.{stored};
 ghost use Rattle.checker.specs.Verdict.{scopeOf, firstEmpty, concluded, conclude, sizedVerdict, verdictOf, Checked};
 
+// What was lent, wholly 0: before the steps, and as every check leaves it.
+fn clear_lent(scratch: &mut [u8], offsets: &mut [u32])
+    ensures { λ r. ⌜ (now (scratch .exit) ≡ replicate (length (now (scratch .entry))) 0) × (now (offsets .exit) ≡ replicate (length (now (offsets .entry))) 0) ⌝ }
+{
+    clear_bytes(scratch, 0);
+    clear_numbers(offsets, 0);
+}
+
 // All steps are right: the first empty clause decides.
 fn conclude_run<'a>(
     clauses: &'a [i32],
     steps: &'a [i32],
-    starts: &[u32],
+    offsets: &[u32],
     inputs: usize,
-    known: usize,
+    numbered: usize,
 ) -> Verdict
-    requires { ⌜ known ≤ length (now starts) ⌝ ∗ ⌜ inputs ≤ known ⌝ }
-    ensures { λ r. ⌜ r ≡ concluded inputs (stored inputs (now (clauses .entry)) (now (steps .entry)) (now (starts .entry)) known) (firstEmpty 1 (stored inputs (now (clauses .entry)) (now (steps .entry)) (now (starts .entry)) known)) ⌝ }
+    requires { ⌜ numbered ≤ length (now offsets) ⌝ ∗ ⌜ inputs ≤ numbered ⌝ }
+    ensures { λ r. ⌜ r ≡ concluded inputs (stored inputs (now (clauses .entry)) (now (steps .entry)) (now (offsets .entry)) numbered) (firstEmpty 1 (stored inputs (now (clauses .entry)) (now (steps .entry)) (now (offsets .entry)) numbered)) ⌝ }
 {
-    match first_empty(clauses, steps, starts, inputs, known) {
+    match first_empty(clauses, steps, offsets, inputs, numbered) {
         Found::Clause(number) => Verdict::Accepted {
             empty: number,
-            steps: known - inputs,
+            steps: numbered - inputs,
         },
-        Found::Nothing => Verdict::Refused(Refusal {
-            reason: Reason::NoConclusion,
-            place: known,
-        }),
+        Found::Nothing => Verdict::Refused(Refusal::new(Reason::NoConclusion, numbered)),
     }
 }
 
-// The steps, there being room: kinds and starts are filled first.
+// The steps, there being room: kinds and the offsets of the input clauses are filled first.
 fn judge_steps<'a>(
     prefix: &[i32],
     clauses: &'a [i32],
     steps: &'a [i32],
     inputs: usize,
     scratch: &mut [u8],
-    starts: &mut [u32],
+    offsets: &mut [u32],
 ) -> Verdict
-    requires { ⌜ Admitted (now prefix) (now clauses) ⌝ ∗ ⌜ inputs ≡ zeros (now clauses) ⌝ ∗ ⌜ length (now steps) ≤ 1048576 ⌝ ∗ ⌜ 8200 ≤ length (now scratch) ⌝ ∗ ⌜ inputs ≤ length (now starts) ⌝ }
-    ensures { λ r. ⌜ r ≡ conclude inputs (run plainRules (scopeOf (now (prefix .entry)) (now (clauses .entry))) (length (now (starts .entry))) (clausesOf (now (clauses .entry))) zero (now (steps .entry))) ⌝ }
+    requires { ⌜ Admitted (now prefix) (now clauses) ⌝ ∗ ⌜ inputs ≡ zeros (now clauses) ⌝ ∗ ⌜ length (now steps) ≤ 1048576 ⌝ ∗ ⌜ 8200 ≤ length (now scratch) ⌝ ∗ ⌜ inputs ≤ length (now offsets) ⌝ }
+    ensures { λ r. ⌜ r ≡ conclude inputs (run plainRules (scopeOf (now (prefix .entry)) (now (clauses .entry))) (length (now (offsets .entry))) (clausesOf (now (clauses .entry))) zero (now (steps .entry))) ⌝ }
 {
-    clear_bytes(scratch, 0);
-    fill_kinds(prefix, &mut scratch[7_175..8_200]);
-    fill_starts(clauses, starts);
+    clear_lent(scratch, offsets);
+    fill_kinds(prefix, &mut scratch[KINDS..SCRATCH]);
+    fill_offsets(clauses, offsets);
     match run_steps(
         prefix,
         clauses,
         steps,
         inputs,
-        &mut scratch[..8_200],
-        starts,
+        &mut scratch[..SCRATCH],
+        offsets,
     ) {
         Run::Refused(refusal) => Verdict::Refused(refusal),
-        Run::Ended(known) => conclude_run(clauses, steps, starts, inputs, known),
+        Run::Ended(numbered) => conclude_run(clauses, steps, offsets, inputs, numbered),
     }
 }
 
@@ -82,64 +89,55 @@ fn judge_sized<'a>(
     steps: &'a [i32],
     inputs: usize,
     scratch: &mut [u8],
-    starts: &mut [u32],
+    offsets: &mut [u32],
 ) -> Verdict
     requires { ⌜ Admitted (now prefix) (now clauses) ⌝ ∗ ⌜ inputs ≡ zeros (now clauses) ⌝ }
-    ensures { λ r. ⌜ r ≡ sizedVerdict plainRules (now (prefix .entry)) (now (clauses .entry)) (now (steps .entry)) (length (now (scratch .entry))) (length (now (starts .entry))) ⌝ }
+    ensures { λ r. ⌜ r ≡ sizedVerdict plainRules (now (prefix .entry)) (now (clauses .entry)) (now (steps .entry)) (length (now (scratch .entry))) (length (now (offsets .entry))) ⌝ }
 {
     match ProofLength::new(steps.len()) {
-        ProofFit::Oversized => Verdict::Refused(Refusal {
-            reason: Reason::Oversized,
-            place: 0,
-        }),
+        ProofFit::Oversized => Verdict::Refused(Refusal::new(Reason::Oversized, 0)),
         ProofFit::Within(_) => {
-            if scratch.len() < 8_200 {
-                return Verdict::Refused(Refusal {
-                    reason: Reason::NoRoom,
-                    place: 0,
-                });
+            if scratch.len() < SCRATCH {
+                return Verdict::Refused(Refusal::new(Reason::NoRoom, 0));
             }
-            if starts.len() < inputs {
-                return Verdict::Refused(Refusal {
-                    reason: Reason::NoRoom,
-                    place: starts.len() + 1,
-                });
+            if offsets.len() < inputs {
+                return Verdict::Refused(Refusal::new(Reason::NoRoom, offsets.len() + 1));
             }
-            judge_steps(prefix, clauses, steps, inputs, scratch, starts)
+            judge_steps(prefix, clauses, steps, inputs, scratch, offsets)
         }
     }
 }
 
+// The verdict; what was lent is left filled.
 fn judge_proof<'a>(
     prefix: &[i32],
     clauses: &'a [i32],
     steps: &'a [i32],
     scratch: &mut [u8],
-    starts: &mut [u32],
+    offsets: &mut [u32],
 ) -> Verdict
-    ensures { λ r. ⌜ r ≡ verdictOf plainRules (now (prefix .entry)) (now (clauses .entry)) (now (steps .entry)) (length (now (scratch .entry))) (length (now (starts .entry))) ⌝ }
+    ensures { λ r. ⌜ r ≡ verdictOf plainRules (now (prefix .entry)) (now (clauses .entry)) (now (steps .entry)) (length (now (scratch .entry))) (length (now (offsets .entry))) ⌝ }
 {
     match check_tables(prefix, clauses) {
         TablesAnswer::Refused(refusal) => Verdict::Refused(refusal),
         TablesAnswer::Admitted {
             variables: _,
             clauses: inputs,
-        } => judge_sized(prefix, clauses, steps, inputs, scratch, starts),
+        } => judge_sized(prefix, clauses, steps, inputs, scratch, offsets),
     }
 }
 
-// The check of a proof. Scratch and starts end as 0.
+// The check of a proof. Scratch and offsets (01: starts) end as 0.
 pub fn check_proof<'a>(
     prefix: &[i32],
     clauses: &'a [i32],
     steps: &'a [i32],
     scratch: &mut [u8],
-    starts: &mut [u32],
+    offsets: &mut [u32],
 ) -> Verdict
-    ensures { λ r. ⌜ Checked (now (prefix .entry)) (now (clauses .entry)) (now (steps .entry)) (now (scratch .entry)) (now (starts .entry)) r (now (scratch .exit)) (now (starts .exit)) ⌝ }
+    ensures { λ r. ⌜ Checked (now (prefix .entry)) (now (clauses .entry)) (now (steps .entry)) (now (scratch .entry)) (now (offsets .entry)) r (now (scratch .exit)) (now (offsets .exit)) ⌝ }
 {
-    let verdict = judge_proof(prefix, clauses, steps, scratch, starts);
-    clear_bytes(scratch, 0);
-    clear_numbers(starts, 0);
+    let verdict = judge_proof(prefix, clauses, steps, scratch, offsets);
+    clear_lent(scratch, offsets);
     verdict
 }

@@ -11,10 +11,10 @@ ghost use Prim.Native.Nat.{_≤_};
 ghost use lib.ListN.{length};
 ghost use lib.IntN.{pos};
 ghost use Rattle.checker.specs.Steps.{resolvent};
-ghost use Rattle.checker.specs.Words.Places.{clauseAt};
-ghost use Rattle.checker.specs.Marks.{Marked, Wiped};
-ghost use Rattle.checker.specs.Marks.Judging.{AllInRange, clean};
-ghost use Rattle.checker.specs.Judgements.{decided, JudgedClean, resultReason, statementReason};
+ghost use Rattle.formula.specs.Decode.{clauseAt};
+ghost use Rattle.checker.specs.Marks.{Marked, Wiped, clean};
+ghost use Rattle.checker.specs.Words.{AllInRange};
+ghost use Rattle.checker.specs.Result.{decided, JudgedClean, resultReason, statementReason};
 
 // Nothing is wrong, or why the step is refused.
 pub enum Judgement {
@@ -81,7 +81,7 @@ fn wipe_both(
     first | second
 }
 
-// The result of a resolution against the statement at `list`.
+// The result of a resolution against the statement at `statement`.
 pub fn judge_resolvent(
     left: &[i32],
     from: usize,
@@ -89,33 +89,33 @@ pub fn judge_resolvent(
     start: usize,
     pivot: Variable,
     steps: &[i32],
-    list: usize,
+    statement: usize,
     marks: &mut [u8],
 ) -> Judgement
     requires { ⌜ now marks ≡ clean ⌝ ∗ ⌜ pivot .0 ≤ 1024 ⌝ ∗ ⌜ AllInRange (clauseAt (now left) from) ⌝ ∗ ⌜ AllInRange (clauseAt (now right) start) ⌝ }
-    ensures { λ r. ⌜ JudgedClean (resultReason (resolvent (pos (pivot .0)) (clauseAt (now (left .entry)) from) (clauseAt (now (right .entry)) start)) (clauseAt (now (steps .entry)) list)) r (now (marks .exit)) ⌝ }
+    ensures { λ r. ⌜ JudgedClean (resultReason (resolvent (pos (pivot .0)) (clauseAt (now (left .entry)) from) (clauseAt (now (right .entry)) start)) (clauseAt (now (steps .entry)) statement)) r (now (marks .exit)) ⌝ }
 {
     let opposed = mark_both(left, from, right, start, pivot, marks);
-    let ticked = tick(steps, list, marks);
+    let ticked = tick(steps, statement, marks);
     let unstated = wipe_both(left, from, right, start, pivot, marks);
     decide(opposed, ticked, unstated)
 }
 
-// The result of a reduction against the statement at `list`.
+// The result of a reduction against the statement at `statement`.
 pub fn judge_reduct(
     words: &[i32],
     from: usize,
     literal: Literal,
     steps: &[i32],
-    list: usize,
+    statement: usize,
     marks: &mut [u8],
 ) -> Judgement
     requires { ⌜ now marks ≡ clean ⌝ ∗ ⌜ AllInRange (clauseAt (now words) from) ⌝ }
-    ensures { λ r. ⌜ JudgedClean (statementReason (literal .0) (clauseAt (now (words .entry)) from) (clauseAt (now (steps .entry)) list)) r (now (marks .exit)) ⌝ }
+    ensures { λ r. ⌜ JudgedClean (statementReason (literal .0) (clauseAt (now (words .entry)) from) (clauseAt (now (steps .entry)) statement)) r (now (marks .exit)) ⌝ }
 {
     let a = literal.0;
     mark(words, from, a, marks);
-    let ticked = tick(steps, list, marks);
+    let ticked = tick(steps, statement, marks);
     let unstated = wipe(words, from, a, marks);
     decide(false, ticked, unstated)
 }

@@ -1,20 +1,19 @@
 // The run over all steps, and the first empty clause after it. The run costs no more than its words, and a row a reduction.
-use crate::numbered::start_of;
+use crate::numbered::place_of;
 use crate::numbered::table_of;
 use crate::step::StepAnswer;
 use crate::step::check_step;
-use crate::word::is_zero;
 use formula::literal::ClauseNumber;
+use formula::literal::Word;
 use formula::refusal::Refusal;
 ghost use mathlib.Core.Path.{_≡_};
 ghost use Prim.Native.Nat.{_≤_, _<_, _+_};
 ghost use lib.ListN.{length};
-ghost use Rattle.formula.specs.Decode.{clausesOf};
+ghost use Rattle.formula.specs.Decode.{clausesOf, clauseAt};
 ghost use Rattle.formula.specs.Tables.{Admitted};
-ghost use Rattle.checker.specs.Words.Places.{clauseAt};
 ghost use Rattle.checker.specs.Verdict.{firstEmpty};
 ghost use Rattle.checker.specs.Numbered.{storedAt, stored};
-ghost use Rattle.checker.specs.Stepping.{Ready};
+ghost use Rattle.checker.specs.Step.{Ready};
 ghost use Rattle.checker.specs.Running.{RunDone, isEmpty, foundOf};
 
 // How many numbered clauses there are at the end, or the refusal.
@@ -23,62 +22,71 @@ pub enum Run {
     Refused(Refusal),
 }
 
-// Every step in turn; the starts of right steps are kept.
+// Every step in turn. The offsets are left filled: the input clauses' as they came, and that of each right step. Costs no more
+// than the words and the antecedents of the steps, and a row a reduction.
 pub fn run_steps<'a>(
     prefix: &[i32],
     clauses: &'a [i32],
     steps: &'a [i32],
     inputs: usize,
     scratch: &mut [u8],
-    starts: &mut [u32],
+    offsets: &mut [u32],
 ) -> Run
     requires { ⌜ Ready (now prefix) (now scratch) ⌝ ∗ ⌜ Admitted (now prefix) (now clauses) ⌝ ∗ ⌜ length (now steps) ≤ 1048576 ⌝ }
-    requires { ⌜ inputs ≤ length (now starts) ⌝ ∗ ⌜ stored inputs (now clauses) (now steps) (now starts) inputs ≡ clausesOf (now clauses) ⌝ }
-    ensures { λ r. ⌜ RunDone (now (prefix .entry)) (now (clauses .entry)) (now (steps .entry)) inputs r (now (starts .exit)) ⌝ }
+    requires { ⌜ inputs ≤ length (now offsets) ⌝ ∗ ⌜ stored inputs (now clauses) (now steps) (now offsets) inputs ≡ clausesOf (now clauses) ⌝ }
+    ensures { λ r. ⌜ RunDone (now (prefix .entry)) (now (clauses .entry)) (now (steps .entry)) inputs r (now (offsets .exit)) ⌝ }
 {
-    let mut known = inputs;
+    let mut numbered = inputs;
     let mut at = 0;
     while at < steps.len() {
-        match check_step(prefix, clauses, steps, starts, inputs, known, at, scratch) {
+        match check_step(
+            prefix,
+            clauses,
+            steps,
+            offsets,
+            inputs,
+            numbered,
+            at,
+            scratch,
+        ) {
             StepAnswer::Wrong(reason) => {
-                return Run::Refused(Refusal {
-                    reason,
-                    place: known + 1,
-                });
+                return Run::Refused(Refusal::new(reason, numbered + 1));
             }
-            StepAnswer::Right { list, next } => {
-                starts[known] = list as u32;
-                known += 1;
+            StepAnswer::Right(next) => {
+                offsets[numbered] = at as u32;
+                numbered += 1;
                 at = next;
             }
         }
     }
-    Run::Ended(known)
+    Run::Ended(numbered)
 }
 
+// Whether the clause that begins at a place is empty: a 0 stands there, or no word.
 fn clause_is_empty(words: &[i32], from: usize) -> bool
     ensures { λ r. ⌜ r ≡ isEmpty (clauseAt (now (words .entry)) from) ⌝ }
 {
     if from < words.len() {
         let word = words[from];
-        return is_zero(word);
+        return Word::is_zero(word);
     }
     true
 }
 
+// Whether the numbered clause at a place, counted from 0, is empty.
 fn number_is_empty<'a>(
     clauses: &'a [i32],
     steps: &'a [i32],
-    starts: &[u32],
+    offsets: &[u32],
     inputs: usize,
     place: usize,
 ) -> bool
-    requires { ⌜ place < length (now starts) ⌝ }
-    ensures { λ r. ⌜ r ≡ isEmpty (storedAt inputs (now (clauses .entry)) (now (steps .entry)) (now (starts .entry)) place) ⌝ }
+    requires { ⌜ place < length (now offsets) ⌝ }
+    ensures { λ r. ⌜ r ≡ isEmpty (storedAt inputs (now (clauses .entry)) (now (steps .entry)) (now (offsets .entry)) place) ⌝ }
 {
     let number = ClauseNumber::at(place);
     let words = table_of(clauses, steps, inputs, number);
-    let from = start_of(starts, number);
+    let from = place_of(steps, offsets, inputs, number);
     clause_is_empty(words, from)
 }
 
@@ -88,19 +96,20 @@ pub enum Found {
     Nothing,
 }
 
+// The first empty one of the numbered clauses. It looks at one word of each.
 pub fn first_empty<'a>(
     clauses: &'a [i32],
     steps: &'a [i32],
-    starts: &[u32],
+    offsets: &[u32],
     inputs: usize,
-    known: usize,
+    numbered: usize,
 ) -> Found
-    requires { ⌜ known ≤ length (now starts) ⌝ }
-    ensures { λ r. ⌜ r ≡ foundOf (firstEmpty 1 (stored inputs (now (clauses .entry)) (now (steps .entry)) (now (starts .entry)) known)) ⌝ }
+    requires { ⌜ numbered ≤ length (now offsets) ⌝ }
+    ensures { λ r. ⌜ r ≡ foundOf (firstEmpty 1 (stored inputs (now (clauses .entry)) (now (steps .entry)) (now (offsets .entry)) numbered)) ⌝ }
 {
     let mut k = 0;
-    while k < known {
-        if number_is_empty(clauses, steps, starts, inputs, k) {
+    while k < numbered {
+        if number_is_empty(clauses, steps, offsets, inputs, k) {
             return Found::Clause(ClauseNumber::at(k));
         }
         k += 1;

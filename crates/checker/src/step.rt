@@ -1,5 +1,7 @@
-// The check of one step.
-use crate::read::Shape;
+// The check of one step: it is read, has room, and is judged by its kind.
+use crate::read::Reading;
+use crate::read::StepKind;
+use crate::read::StepRead;
 use crate::read::read_step;
 use crate::reduce::check_reduction;
 use crate::resolve::check_resolution;
@@ -7,53 +9,90 @@ use crate::result::Judgement;
 use formula::refusal::Reason;
 ghost use Prim.Native.Nat.{_≤_, _<_};
 ghost use lib.ListN.{length, drop};
+ghost use Rattle.formula.specs.Decode.{clauseAt};
 ghost use Rattle.formula.specs.Tables.{Admitted};
 ghost use Rattle.checker.specs.Rules.{plainRules};
-ghost use Rattle.checker.specs.Steps.{judgeFirst};
-ghost use Rattle.checker.specs.Lawful.{AllWords};
+ghost use Rattle.checker.specs.Steps.{judge, judgeFirst};
+ghost use Rattle.checker.specs.Words.{AllWords, InRange};
 ghost use Rattle.checker.specs.Verdict.{scopeOf};
 ghost use Rattle.checker.specs.Numbered.{stored};
-ghost use Rattle.checker.specs.Marks.Judging.{InRange};
-ghost use Rattle.checker.specs.Stepping.{Ready, StepChecked};
+ghost use Rattle.checker.specs.Reading.{stepOf};
+ghost use Rattle.checker.specs.Step.{Ready, Answers, StepChecked};
 
-// Right: where the step's statement begins, and where the next step does.
+// A step that was read, by its kind.
+fn judge_step<'a>(
+    prefix: &[i32],
+    clauses: &'a [i32],
+    steps: &'a [i32],
+    offsets: &[u32],
+    inputs: usize,
+    numbered: usize,
+    step: StepRead,
+    scratch: &mut [u8],
+) -> Judgement
+    requires { ⌜ Ready (now prefix) (now scratch) ⌝ ∗ ⌜ Admitted (now prefix) (now clauses) ⌝ }
+    requires { ⌜ numbered ≤ length (now offsets) ⌝ ∗ ⌜ AllWords InRange (stored inputs (now clauses) (now steps) (now offsets) numbered) ⌝ }
+    ensures { λ r. ⌜ Answers (judge (scopeOf (now (prefix .entry)) (now (clauses .entry))) (stored inputs (now (clauses .entry)) (now (steps .entry)) (now (offsets .entry)) numbered) (stepOf step (clauseAt (now (steps .entry)) (step .statement)))) r (now (scratch .entry)) (now (scratch .exit)) ⌝ }
+{
+    let kind = step.kind;
+    match kind {
+        StepKind::Resolution => {
+            check_resolution(clauses, steps, offsets, inputs, numbered, step, scratch)
+        }
+        StepKind::Reduction => {
+            check_reduction(
+                prefix,
+                clauses,
+                steps,
+                offsets,
+                inputs,
+                numbered,
+                step,
+                scratch,
+            )
+        }
+    }
+}
+
+// Right: where the next step begins.
 pub enum StepAnswer {
-    Right { list: usize, next: usize },
+    Right(usize),
     Wrong(Reason),
 }
 
-// The step whose first word stands at `at`, after `known` numbered clauses, the first `inputs` of which are the input's.
+// The step whose first word stands at `at`, after `numbered` numbered clauses, the first `inputs` of which are the input's.
 pub fn check_step<'a>(
     prefix: &[i32],
     clauses: &'a [i32],
     steps: &'a [i32],
-    starts: &[u32],
+    offsets: &[u32],
     inputs: usize,
-    known: usize,
+    numbered: usize,
     at: usize,
     scratch: &mut [u8],
 ) -> StepAnswer
     requires { ⌜ Ready (now prefix) (now scratch) ⌝ ∗ ⌜ Admitted (now prefix) (now clauses) ⌝ ∗ ⌜ at < length (now steps) ⌝ }
-    requires { ⌜ known ≤ length (now starts) ⌝ ∗ ⌜ AllWords InRange (stored inputs (now clauses) (now steps) (now starts) known) ⌝ }
-    ensures { λ r. ⌜ StepChecked at (judgeFirst plainRules (scopeOf (now (prefix .entry)) (now (clauses .entry))) (length (now (starts .entry))) (stored inputs (now (clauses .entry)) (now (steps .entry)) (now (starts .entry)) known) (drop at (now (steps .entry)))) r (now (scratch .entry)) (now (scratch .exit)) ⌝ }
+    requires { ⌜ numbered ≤ length (now offsets) ⌝ ∗ ⌜ AllWords InRange (stored inputs (now clauses) (now steps) (now offsets) numbered) ⌝ }
+    ensures { λ r. ⌜ StepChecked at (judgeFirst plainRules (scopeOf (now (prefix .entry)) (now (clauses .entry))) (length (now (offsets .entry))) (stored inputs (now (clauses .entry)) (now (steps .entry)) (now (offsets .entry)) numbered) (drop at (now (steps .entry)))) r (now (scratch .entry)) (now (scratch .exit)) ⌝ }
 {
     match read_step(steps, at) {
-        Shape::Broken => StepAnswer::Wrong(Reason::BrokenStep),
-        Shape::Resolution(next) => {
-            if starts.len() <= known {
+        Reading::Broken => StepAnswer::Wrong(Reason::BrokenStep),
+        Reading::Step(step) => {
+            if offsets.len() <= numbered {
                 return StepAnswer::Wrong(Reason::NoRoom);
             }
-            match check_resolution(clauses, steps, starts, inputs, known, at, scratch) {
-                Judgement::Right => StepAnswer::Right { list: at + 4, next },
-                Judgement::Wrong(reason) => StepAnswer::Wrong(reason),
-            }
-        }
-        Shape::Reduction(next) => {
-            if starts.len() <= known {
-                return StepAnswer::Wrong(Reason::NoRoom);
-            }
-            match check_reduction(prefix, clauses, steps, starts, inputs, known, at, scratch) {
-                Judgement::Right => StepAnswer::Right { list: at + 3, next },
+            let next = step.next;
+            match judge_step(
+                prefix,
+                clauses,
+                steps,
+                offsets,
+                inputs,
+                numbered,
+                step,
+                scratch,
+            ) {
+                Judgement::Right => StepAnswer::Right(next),
                 Judgement::Wrong(reason) => StepAnswer::Wrong(reason),
             }
         }

@@ -1,154 +1,143 @@
 -- The kinds of the variables answer the tests of a scope, on tables that pass the check. Assumes nothing.
 use Prim.Native.Nat.{ℕ, zero, suc, _≤_}
 use mathlib.Core.Path.{_≡_, refl, ap, sym, _∙_}
-use mathlib.Core.Logic.{_⊎_, inl, inr, _≢_}
+use mathlib.Core.Logic.{_⊎_, inl, inr}
 use mathlib.Core.Bool.{Bool, true, false, false≢true}
-use mathlib.Core.List.{List, [], _∷_, map, List·Memᴰ, List·Memᴰ·head, List·Memᴰ·tail, List·Memᴰ·not-nil, List·Memᴰ·cases-cons, Memᴰ·cast, Memᴰ·of-map}
+use mathlib.Core.List.{List, [], _∷_, List·Memᴰ, List·Memᴰ·head, List·Memᴰ·tail, List·Memᴰ·not-nil, List·Memᴰ·cases-cons, Memᴰ·cast}
 use native.Mathlib.Omega.{arith}
 use borrow.Author.Tests.{le-leb, leb-true, leb-false, eq-eqb, ne-eqb}
 use lib.Dec.{leb, eqb}
-use lib.ListN.{length, getD, set, replicate, length-replicate, length-set}
+use lib.ListN.{length, getD, replicate, length-replicate, length-set}
 use lib.Seq.{getD-set-same, getD-set-other}
 use lib.IntN.{ℤ, pos, negsuc, natAbs}
-use Rattle.qbf.specs.Formula.{Distinct}
-use Rattle.dependency.specs.Row.{isUniversal}
-use Rattle.dependency.specs.Row.Universal.{universal-range}
+use Rattle.qbf.specs.Formula.{Quantifier, existential, universal, Entry, entry, Prefix, listed, Distinct}
 use Rattle.formula.specs.Bounds.{variableFit, inRange}
+use Rattle.formula.specs.Prefix.{prefixOf, quantifies}
+use Rattle.formula.specs.Prefix.Laws.{prefix-variables, quantifies-sound, quantifies-complete}
 use Rattle.formula.specs.Word.{wordOf, positive, negative}
 use Rattle.formula.specs.Tables.{isIn, Admitted}
-use Rattle.formula.specs.Tables.Laws.{is-in-sound, absent-is-in, admitted-prefix-word, admitted-prefix-distinct}
+use Rattle.formula.specs.Tables.Laws.{is-in-sound, absent-is-in, admitted-entries, admitted-prefix-distinct}
 use Rattle.formula.specs.declared.literal.Variable.{Variable}
 use Rattle.formula.specs.declared.literal.VariableFit.{VariableFit}
 use Rattle.formula.specs.declared.literal.VariableFit.the-variants.{Within, Outside}
-use Rattle.checker.specs.Words.{holds}
-use Rattle.checker.specs.Words.Laws.{not-true-false, holds-sound, holds-absent, absent-holds}
+use Rattle.checker.specs.Words.Laws.{not-true-false}
 use Rattle.checker.specs.Steps.{positiveExistential}
 use Rattle.checker.specs.Verdict.{scopeOf}
-use Rattle.checker.specs.Verdict.TableScope.{is-universal-word, word-is-universal}
-use Rattle.checker.specs.Marks.Judging.{InRange, AllInRange}
-use Rattle.checker.specs.Kinds.{kindWord, kindsFrom, kindsOf, existentialOf, universalOf}
+use Rattle.checker.specs.Kinds.{kindByte, kindEntry, kindsFrom, kindsOf, existentialOf, universalOf}
 
--- The byte that a word stores.
-abbrev kindByte : ℤ → ℕ
-kindByte (pos n) = 1
-kindByte (negsuc n) = 2
-
-stores : (kinds : List ℕ) (w : ℤ) → InRange w → kindWord kinds (wordOf w) ≡ set kinds (natAbs w) (kindByte w)
-unfolding wordOf
-stores kinds (pos zero) r = absurd (omega (arith, r .0))
-stores kinds (pos (suc n)) r = rw (le-leb (suc n) 1024 (r .1))
-stores kinds (negsuc n) r = rw (le-leb (suc n) 1024 (r .1))
-
--- What a variable's byte holds: its word's byte, or what was there.
-byte-kept : (kinds : List ℕ) (ws : List ℤ) (n : ℕ) → AllInRange ws → (List·Memᴰ n (map natAbs ws) → ⊥) → getD (kindsFrom kinds ws) n 0 ≡ getD kinds n 0
+-- A byte for each number from 0 to 1,024.
+length-kinds-from : (kinds : List ℕ) (P : Prefix) → length (kindsFrom kinds P) ≡ length kinds
 unfolding kindsFrom
-byte-kept kinds [] n r h = refl
-byte-kept kinds (w ∷ ws) n r h =
-    byte-kept (kindWord kinds (wordOf w)) ws n (λ x k. r x (List·Memᴰ·tail k)) (λ k. h (List·Memᴰ·tail k))
-    ∙ rw (stores kinds w (r w (List·Memᴰ·head refl))) (getD-set-other kinds (natAbs w) n (kindByte w) 0 (λ e. h (List·Memᴰ·head e)))
+length-kinds-from kinds [] = refl
+length-kinds-from kinds (x ∷ P) = length-kinds-from (kindEntry kinds x) P ∙ length-set kinds (x .variable) (kindByte (x .quantifier))
+
+pub length-kinds : (prefix : List ℤ) → length (kindsOf prefix) ≡ 1025
+unfolding kindsOf
+length-kinds prefix = length-kinds-from (replicate 1025 0) (prefixOf prefix) ∙ length-replicate {A = ℕ} 1025 0
+
+-- What a variable's byte holds: its entry's byte, or what was there.
+byte-kept : (kinds : List ℕ) (P : Prefix) (n : ℕ) → (List·Memᴰ n (listed P) → ⊥) → getD (kindsFrom kinds P) n 0 ≡ getD kinds n 0
+unfolding kindsFrom
+byte-kept kinds [] n h = refl
+byte-kept kinds (x ∷ P) n h =
+    byte-kept (kindEntry kinds x) P n (λ k. h (List·Memᴰ·tail k))
+    ∙ getD-set-other kinds (x .variable) n (kindByte (x .quantifier)) 0 (λ e. h (List·Memᴰ·head e))
 
 byte-stored :
-    (kinds : List ℕ) (ws : List ℤ) (w : ℤ) → length kinds ≡ 1025 → AllInRange ws → Distinct (map natAbs ws) → List·Memᴰ w ws
-    → getD (kindsFrom kinds ws) (natAbs w) 0 ≡ kindByte w
+    (kinds : List ℕ) (P : Prefix) (x : Entry) → x .variable ≤ 1024 → length kinds ≡ 1025 → Distinct (listed P) → List·Memᴰ x P
+    → getD (kindsFrom kinds P) (x .variable) 0 ≡ kindByte (x .quantifier)
 unfolding kindsFrom
-byte-stored kinds [] w size r d m = absurd (List·Memᴰ·not-nil m)
-byte-stored kinds (v ∷ ws) w size r d m =
-    go (List·Memᴰ·cases-cons m) (λ k. byte-stored (kindWord kinds (wordOf v)) ws w (rw (stores kinds v (r v (List·Memᴰ·head refl))) (length-set kinds (natAbs v) (kindByte v) ∙ size)) (λ x i. r x (List·Memᴰ·tail i)) (d .1) k)
+byte-stored kinds [] x r size d m = absurd (List·Memᴰ·not-nil m)
+byte-stored kinds (y ∷ P) x r size d m =
+    go (List·Memᴰ·cases-cons m) (λ k. byte-stored (kindEntry kinds y) P x r (length-set kinds (y .variable) (kindByte (y .quantifier)) ∙ size) (d .1) k)
   where
-    own : InRange v
-    own = r v (List·Memᴰ·head refl)
-
-    go :
-        (w ≡ v) ⊎ List·Memᴰ w ws
-        → (List·Memᴰ w ws → getD (kindsFrom (kindWord kinds (wordOf v)) ws) (natAbs w) 0 ≡ kindByte w)
-        → getD (kindsFrom (kindWord kinds (wordOf v)) ws) (natAbs w) 0 ≡ kindByte w
+    go : (x ≡ y) ⊎ List·Memᴰ x P → (List·Memᴰ x P → getD (kindsFrom (kindEntry kinds y) P) (x .variable) 0 ≡ kindByte (x .quantifier)) → getD (kindsFrom (kindEntry kinds y) P) (x .variable) 0 ≡ kindByte (x .quantifier)
     go (inl e) later =
-        rw e
-        (byte-kept (kindWord kinds (wordOf v)) ws (natAbs v) (λ x i. r x (List·Memᴰ·tail i)) (d .0)
-        ∙ rw (stores kinds v own) (getD-set-same kinds (natAbs v) (kindByte v) 0 (omega (arith, own .1, size))))
+        let b : y .variable ≤ 1024 = rw (← e) r in
+        rw e (byte-kept (kindEntry kinds y) P (y .variable) (d .0) ∙ getD-set-same kinds (y .variable) (kindByte (y .quantifier)) 0 (omega (arith, b, size)))
     go (inr k) later = later k
 
+-- A number that is listed has its entry.
+listed-member : (P : Prefix) (n : ℕ) → List·Memᴰ n (listed P) → (x : Entry) × List·Memᴰ x P × (x .variable ≡ n)
+listed-member [] n m = absurd (List·Memᴰ·not-nil m)
+listed-member (y ∷ P) n m = go (List·Memᴰ·cases-cons m) (λ k. listed-member P n k)
+  where
+    go : (n ≡ y .variable) ⊎ List·Memᴰ n (listed P) → (List·Memᴰ n (listed P) → (x : Entry) × List·Memᴰ x P × (x .variable ≡ n)) → (x : Entry) × List·Memᴰ x (y ∷ P) × (x .variable ≡ n)
+    go (inl e) later = (y, List·Memᴰ·head refl, sym e)
+    go (inr k) later = let t = later k in (t .0, List·Memᴰ·tail (t .1), t .2)
+
+-- The bytes of the two quantifiers differ, and none is 0.
+same-kind : (q r : Quantifier) → kindByte q ≡ kindByte r → q ≡ r
+same-kind existential existential e = refl
+same-kind existential universal e = let z : _≡_ {A = ℕ} 1 2 = e in absurd (omega arith)
+same-kind universal existential e = let z : _≡_ {A = ℕ} 2 1 = e in absurd (omega arith)
+same-kind universal universal e = refl
+
+no-kind : (q : Quantifier) → 0 ≡ kindByte q → ⊥
+no-kind existential e = let z : _≡_ {A = ℕ} 0 1 = e in omega arith
+no-kind universal e = let z : _≡_ {A = ℕ} 0 2 = e in omega arith
+
+blank : (n i : ℕ) → _≡_ {A = ℕ} (getD (replicate {A = ℕ} n 0) i 0) 0
+blank zero i = refl
+blank (suc n) zero = refl
+blank (suc n) (suc i) = blank n i
+
 module _ (prefix clauses : List ℤ) (a : Admitted prefix clauses) where
-  in-range : AllInRange prefix
-  in-range = admitted-prefix-word prefix clauses a
-
-  byte-found : (w : ℤ) → List·Memᴰ w prefix → getD (kindsOf prefix) (natAbs w) 0 ≡ kindByte w
+  byte-found : (x : Entry) → List·Memᴰ x (prefixOf prefix) → getD (kindsOf prefix) (x .variable) 0 ≡ kindByte (x .quantifier)
   unfolding kindsOf
-  byte-found w m = byte-stored (replicate 1025 0) prefix w (length-replicate {A = ℕ} 1025 0) in-range (admitted-prefix-distinct prefix clauses a) m
+  byte-found x m =
+      byte-stored (replicate 1025 0) (prefixOf prefix) x (admitted-entries prefix clauses a .ranged x m .1) (length-replicate {A = ℕ} 1025 0) (admitted-prefix-distinct prefix clauses a) m
 
-  blank : (n i : ℕ) → _≡_ {A = ℕ} (getD (replicate {A = ℕ} n 0) i 0) 0
-  blank zero i = refl
-  blank (suc n) zero = refl
-  blank (suc n) (suc i) = blank n i
-
-  -- A byte that is not 0 has its word.
-  byte-word : (n : ℕ) → getD (kindsOf prefix) n 0 ≢ 0 → (w : ℤ) × List·Memᴰ w prefix × (natAbs w ≡ n)
+  -- A variable's byte is a quantifier's exactly when the variable is listed with it.
+  kind-byte : (q : Quantifier) (n : ℕ) → eqb (getD (kindsOf prefix) n 0) (kindByte q) ≡ quantifies q (prefixOf prefix) n
   unfolding kindsOf
-  byte-word n h = go (isIn n (map natAbs prefix)) refl
+  kind-byte q n = go (quantifies q (prefixOf prefix) n) refl
     where
-      go : (b : Bool) → isIn n (map natAbs prefix) ≡ b → (w : ℤ) × List·Memᴰ w prefix × (natAbs w ≡ n)
-      go true e = Memᴰ·of-map natAbs prefix (is-in-sound n (map natAbs prefix) e)
-      go false e = absurd (h (byte-kept (replicate 1025 0) prefix n in-range (absent-is-in n (map natAbs prefix) e) ∙ blank 1025 n))
+      go : (b : Bool) → quantifies q (prefixOf prefix) n ≡ b → eqb (getD (kindsOf prefix) n 0) (kindByte q) ≡ b
+      go true e = eq-eqb (getD (kindsOf prefix) n 0) (kindByte q) (byte-found (entry n q) (quantifies-sound q (prefixOf prefix) n e))
+      go false e = ne-eqb (getD (kindsOf prefix) n 0) (kindByte q) (λ h. none (isIn n (listed (prefixOf prefix))) refl h)
+        where
+          none : (b : Bool) → isIn n (listed (prefixOf prefix)) ≡ b → getD (kindsOf prefix) n 0 ≡ kindByte q → ⊥
+          none true i h =
+              let t = listed-member (prefixOf prefix) n (is-in-sound n (listed (prefixOf prefix)) i) in
+              let f = rw (t .2) at (byte-found (t .0) (t .1)) in
+              let k : t .0 .quantifier ≡ q = same-kind (t .0 .quantifier) q (sym f ∙ h) in
+              let x : t .0 ≡ entry n q = λ i. entry (t .2 i) (k i) in
+              false≢true (sym e ∙ quantifies-complete q (prefixOf prefix) n (Memᴰ·cast (sym x) (t .1)))
+          none false i h = no-kind q (sym (byte-kept (replicate 1025 0) (prefixOf prefix) n (absent-is-in n (listed (prefixOf prefix)) i) ∙ blank 1025 n) ∙ h)
 
-  existential-byte : (n : ℕ) → eqb (getD (kindsOf prefix) n 0) 1 ≡ holds (pos n) prefix
-  existential-byte n = go (holds (pos n) prefix) refl
-    where
-      none : (w : ℤ) → List·Memᴰ w prefix → natAbs w ≡ n → holds (pos n) prefix ≡ false → getD (kindsOf prefix) n 0 ≡ 1 → ⊥
-      none (pos m) k e h q = holds-absent (pos n) prefix h (Memᴰ·cast (ap pos (sym e)) k)
-      none (negsuc m) k e h q = let z : _≡_ {A = ℕ} 2 1 = sym (rw e at (byte-found (negsuc m) k)) ∙ q in omega arith
-
-      go : (b : Bool) → holds (pos n) prefix ≡ b → eqb (getD (kindsOf prefix) n 0) 1 ≡ b
-      go true e = eq-eqb (getD (kindsOf prefix) n 0) 1 (byte-found (pos n) (holds-sound (pos n) prefix e))
-      go false e =
-          ne-eqb (getD (kindsOf prefix) n 0) 1
-          (λ q. let t = byte-word n (λ z. let y : _≡_ {A = ℕ} 0 1 = sym z ∙ q in omega arith) in none (t .0) (t .1) (t .2) e q)
-
-  universal-byte : (n : ℕ) → eqb (getD (kindsOf prefix) n 0) 2 ≡ isUniversal prefix n
-  universal-byte n = go (isUniversal prefix n) refl
-    where
-      none : (w : ℤ) → List·Memᴰ w prefix → natAbs w ≡ n → isUniversal prefix n ≡ false → getD (kindsOf prefix) n 0 ≡ 2 → ⊥
-      none (pos m) k e h q = let z : _≡_ {A = ℕ} 1 2 = sym (rw e at (byte-found (pos m) k)) ∙ q in omega arith
-      none (negsuc m) k e h q = false≢true (sym h ∙ word-is-universal prefix n m k e)
-
-      go : (b : Bool) → isUniversal prefix n ≡ b → eqb (getD (kindsOf prefix) n 0) 2 ≡ b
-      go true e =
-          let t = is-universal-word prefix n e in
-          eq-eqb (getD (kindsOf prefix) n 0) 2 (rw (t .2) at (byte-found (negsuc (t .0)) (t .1)))
-      go false e =
-          ne-eqb (getD (kindsOf prefix) n 0) 2
-          (λ q. let t = byte-word n (λ z. let y : _≡_ {A = ℕ} 0 2 = sym z ∙ q in omega arith) in none (t .0) (t .1) (t .2) e q)
+  -- A number out of range is not listed.
+  not-listed : (q : Quantifier) (n : ℕ) → (1 ≤ n → n ≤ 1024 → ⊥) → quantifies q (prefixOf prefix) n ≡ false
+  not-listed q n h = not-true-false (quantifies q (prefixOf prefix) n) (λ e. let r = admitted-entries prefix clauses a .ranged (entry n q) (quantifies-sound q (prefixOf prefix) n e) in h (r .0) (r .1))
 
   -- The tests of the scope.
   pub existential-fit : (e : ℤ) → existentialOf (kindsOf prefix) (wordOf e) ≡ variableFit (positiveExistential (scopeOf prefix clauses) e) (natAbs e)
   unfolding wordOf
-  existential-fit (pos zero) = rw (absent-holds (pos 0) prefix (λ m. let r = in-range (pos 0) m in omega (arith, r .0)))
+  existential-fit (pos zero) = rw (not-listed existential 0 (λ l u. omega arith))
   existential-fit (pos (suc n)) = go (leb (suc n) 1024) refl
     where
-      go : (b : Bool) → leb (suc n) 1024 ≡ b → existentialOf (kindsOf prefix) (positive b (suc n)) ≡ variableFit (holds (pos (suc n)) prefix) (suc n)
-      go true e = rw (existential-byte (suc n))
-      go false e = rw (absent-holds (pos (suc n)) prefix (λ m. let r = in-range (pos (suc n)) m in omega (arith, r .1, leb-false (suc n) 1024 e)))
+      go : (b : Bool) → leb (suc n) 1024 ≡ b → existentialOf (kindsOf prefix) (positive b (suc n)) ≡ variableFit (quantifies existential (prefixOf prefix) (suc n)) (suc n)
+      go true e = rw (kind-byte existential (suc n))
+      go false e = rw (not-listed existential (suc n) (λ l u. let h = leb-false (suc n) 1024 e in omega arith))
   existential-fit (negsuc n) = go (leb (suc n) 1024)
     where
       go : (b : Bool) → existentialOf (kindsOf prefix) (negative b (suc n)) ≡ Outside
       go true = refl
       go false = refl
 
-  not-universal : (n : ℕ) → (1 ≤ n → n ≤ 1024 → ⊥) → isUniversal prefix n ≡ false
-  not-universal n h = not-true-false (isUniversal prefix n) (λ e. let r = universal-range prefix clauses a n e in h (r .0) (r .1))
-
-  pub universal-fit : (e : ℤ) → universalOf (kindsOf prefix) (wordOf e) ≡ variableFit (isUniversal prefix (natAbs e)) (natAbs e)
+  pub universal-fit : (e : ℤ) → universalOf (kindsOf prefix) (wordOf e) ≡ variableFit (quantifies universal (prefixOf prefix) (natAbs e)) (natAbs e)
   unfolding wordOf
-  universal-fit (pos zero) = rw (not-universal 0 (λ l u. omega arith))
+  universal-fit (pos zero) = rw (not-listed universal 0 (λ l u. omega arith))
   universal-fit (pos (suc n)) = go (leb (suc n) 1024) refl
     where
-      go : (b : Bool) → leb (suc n) 1024 ≡ b → universalOf (kindsOf prefix) (positive b (suc n)) ≡ variableFit (isUniversal prefix (suc n)) (suc n)
-      go true e = rw (universal-byte (suc n))
-      go false e = rw (not-universal (suc n) (λ l u. let h = leb-false (suc n) 1024 e in omega arith))
+      go : (b : Bool) → leb (suc n) 1024 ≡ b → universalOf (kindsOf prefix) (positive b (suc n)) ≡ variableFit (quantifies universal (prefixOf prefix) (suc n)) (suc n)
+      go true e = rw (kind-byte universal (suc n))
+      go false e = rw (not-listed universal (suc n) (λ l u. let h = leb-false (suc n) 1024 e in omega arith))
   universal-fit (negsuc n) = go (leb (suc n) 1024) refl
     where
-      go : (b : Bool) → leb (suc n) 1024 ≡ b → universalOf (kindsOf prefix) (negative b (suc n)) ≡ variableFit (isUniversal prefix (suc n)) (suc n)
-      go true e = rw (universal-byte (suc n))
-      go false e = rw (not-universal (suc n) (λ l u. let h = leb-false (suc n) 1024 e in omega arith))
+      go : (b : Bool) → leb (suc n) 1024 ≡ b → universalOf (kindsOf prefix) (negative b (suc n)) ≡ variableFit (quantifies universal (prefixOf prefix) (suc n)) (suc n)
+      go true e = rw (kind-byte universal (suc n))
+      go false e = rw (not-listed universal (suc n) (λ l u. let h = leb-false (suc n) 1024 e in omega arith))
 
 -- A word out of range is no universal literal.
 pub universal-outside : (kinds : List ℕ) (w : ℤ) → inRange (natAbs w) 1024 ≡ false → universalOf kinds (wordOf w) ≡ Outside
@@ -185,10 +174,10 @@ existential-bound kinds (negsuc n) v e = go (leb (suc n) 1024) e
 pub universal-found :
     (prefix clauses : List ℤ) → Admitted prefix clauses → (w : ℤ) (v : Variable)
     → Within v ≡ universalOf (kindsOf prefix) (wordOf w)
-    → isUniversal prefix (v .0) ≡ true
+    → quantifies universal (prefixOf prefix) (v .0) ≡ true
 unfolding first
-universal-found prefix clauses a w v e = go (isUniversal prefix (natAbs w)) refl (e ∙ universal-fit prefix clauses a w)
+universal-found prefix clauses a w v e = go (quantifies universal (prefixOf prefix) (natAbs w)) refl (e ∙ universal-fit prefix clauses a w)
   where
-    go : (b : Bool) → isUniversal prefix (natAbs w) ≡ b → Within v ≡ variableFit b (natAbs w) → isUniversal prefix (v .0) ≡ true
-    go true q h = ap (isUniversal prefix) (ap first h) ∙ q
+    go : (b : Bool) → quantifies universal (prefixOf prefix) (natAbs w) ≡ b → Within v ≡ variableFit b (natAbs w) → quantifies universal (prefixOf prefix) (v .0) ≡ true
+    go true q h = ap (quantifies universal (prefixOf prefix)) (ap first h) ∙ q
     go false q h = let z : _≡_ {A = ℕ} 0 1 = cc in absurd (omega arith)

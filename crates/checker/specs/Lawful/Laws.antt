@@ -9,9 +9,9 @@ use native.Mathlib.Omega.{arith}
 use lib.ListN.{length, getElem?, length-append, length-map}
 use lib.IntN.{ℤ, pos, negsuc}
 use Rattle.qbf.specs.Formula.{Formula}
-use Rattle.checker.specs.Words.{Words}
+use Rattle.checker.specs.Words.{Words, AllWords}
 use Rattle.checker.specs.Steps.{Step, resolution, reduction, statedBy, antecedent}
-use Rattle.checker.specs.Lawful.{Numbered, Resolvent, Lawful, numberedClauses, AllWords}
+use Rattle.checker.specs.Lawful.{Numbered, Resolvent, Lawful, numberedClauses}
 
 -- A clause found by its place is one of them.
 pub found-member : (known : List Words) (n : ℕ) (C : Words) → getElem? known n ≡ some C → List·Memᴰ C known

@@ -12,33 +12,26 @@ use borrow.Author.Tests.{eqb-true, eqb-false, ne-eqb, le-leb}
 use lib.Dec.{leb, eqb}
 use lib.ListN.{length, getD, set, replicate, length-replicate, length-set}
 use lib.Seq.{getD-set-same, getD-set-other, set-getD, set-set, set-comm}
-use lib.IntN.{ℤ, pos, negsuc, negℤ, natAbs}
-use Rattle.formula.specs.Word.{wordOf, positive, negative}
-use Rattle.checker.specs.Words.{Words, sameWord, holds}
+use lib.IntN.{ℤ, pos, negsuc, negℤ}
+use Rattle.formula.specs.Word.{wordOf, slotOf, positive, negative}
+use Rattle.checker.specs.Words.{Words, sameWord, holds, InRange, AllInRange}
 use Rattle.checker.specs.Words.Laws.{same-sound, same-apart, apart-same, holds-sound, holds-complete}
 use Rattle.checker.specs.Steps.{opposed, lists, covers, states}
 use Rattle.checker.specs.Steps.Tests.{covers-sound}
-use Rattle.checker.specs.Marks.{slotOf, slot, markAll, meets, tickIf, tickAll, ticks, wipeAll, leaves}
-use Rattle.checker.specs.Marks.Laws.{slot-bound, length-mark, length-tick}
-
--- A literal's variable is within its bound.
-abbrev pub InRange : ℤ → Type 0
-InRange x = (1 ≤ natAbs x) × (natAbs x ≤ 1024)
-
-abbrev pub AllInRange : Words → Type 0
-AllInRange C = (x : ℤ) → List·Memᴰ x C → InRange x
+use Rattle.checker.specs.Marks.{slotAt, clean, markAll, meets, tickIf, tickAll, ticks, wipeAll, leaves}
+use Rattle.checker.specs.Marks.Laws.{slot-at-bound, length-mark, length-tick}
 
 -- The byte of a word in range, and of any word.
-slot-positive : (n : ℕ) → suc n ≤ 1024 → slot (pos (suc n)) ≡ 2 * suc n
-unfolding slot wordOf
+slot-positive : (n : ℕ) → suc n ≤ 1024 → slotAt (pos (suc n)) ≡ 2 * suc n
+unfolding slotAt wordOf
 slot-positive n h = rw (le-leb (suc n) 1024 h)
 
-slot-negative : (n : ℕ) → suc n ≤ 1024 → slot (negsuc n) ≡ 2 * suc n + 1
-unfolding slot wordOf
+slot-negative : (n : ℕ) → suc n ≤ 1024 → slotAt (negsuc n) ≡ 2 * suc n + 1
+unfolding slotAt wordOf
 slot-negative n h = rw (le-leb (suc n) 1024 h)
 
-slot-parity : (x : ℤ) → (slot x ≡ 0) ⊎ ((n : ℕ) × (x ≡ pos (suc n)) × (slot x ≡ 2 * suc n)) ⊎ ((n : ℕ) × (x ≡ negsuc n) × (slot x ≡ 2 * suc n + 1))
-unfolding slot wordOf
+slot-parity : (x : ℤ) → (slotAt x ≡ 0) ⊎ ((n : ℕ) × (x ≡ pos (suc n)) × (slotAt x ≡ 2 * suc n)) ⊎ ((n : ℕ) × (x ≡ negsuc n) × (slotAt x ≡ 2 * suc n + 1))
+unfolding slotAt wordOf
 slot-parity (pos zero) = inl refl
 slot-parity (pos (suc n)) = go (leb (suc n) 1024)
   where
@@ -52,23 +45,23 @@ slot-parity (negsuc n) = go (leb (suc n) 1024)
     go false = inl refl
 
 -- No other word has the byte of a word in range.
-pub slot-injective : (x y : ℤ) → InRange x → slot y ≡ slot x → y ≡ x
+pub slot-injective : (x y : ℤ) → InRange x → slotAt y ≡ slotAt x → y ≡ x
 slot-injective (pos zero) y h e = absurd (omega (arith, h .0))
 slot-injective (pos (suc n)) y h e = go (slot-parity y)
   where
-    own : slot (pos (suc n)) ≡ 2 * suc n
+    own : slotAt (pos (suc n)) ≡ 2 * suc n
     own = slot-positive n (h .1)
 
-    go : (slot y ≡ 0) ⊎ ((m : ℕ) × (y ≡ pos (suc m)) × (slot y ≡ 2 * suc m)) ⊎ ((m : ℕ) × (y ≡ negsuc m) × (slot y ≡ 2 * suc m + 1)) → y ≡ pos (suc n)
+    go : (slotAt y ≡ 0) ⊎ ((m : ℕ) × (y ≡ pos (suc m)) × (slotAt y ≡ 2 * suc m)) ⊎ ((m : ℕ) × (y ≡ negsuc m) × (slotAt y ≡ 2 * suc m + 1)) → y ≡ pos (suc n)
     go (inl z) = absurd (omega (arith, own, e, z))
     go (inr (inl t)) = let s = t .2 in let q : t .0 ≡ n = omega (arith, own, e, s) in t .1 ∙ ap (λ (k : ℕ). pos (suc k)) q
     go (inr (inr t)) = let s = t .2 in absurd (omega (arith, own, e, s))
 slot-injective (negsuc n) y h e = go (slot-parity y)
   where
-    own : slot (negsuc n) ≡ 2 * suc n + 1
+    own : slotAt (negsuc n) ≡ 2 * suc n + 1
     own = slot-negative n (h .1)
 
-    go : (slot y ≡ 0) ⊎ ((m : ℕ) × (y ≡ pos (suc m)) × (slot y ≡ 2 * suc m)) ⊎ ((m : ℕ) × (y ≡ negsuc m) × (slot y ≡ 2 * suc m + 1)) → y ≡ negsuc n
+    go : (slotAt y ≡ 0) ⊎ ((m : ℕ) × (y ≡ pos (suc m)) × (slotAt y ≡ 2 * suc m)) ⊎ ((m : ℕ) × (y ≡ negsuc m) × (slotAt y ≡ 2 * suc m + 1)) → y ≡ negsuc n
     go (inl z) = absurd (omega (arith, own, e, z))
     go (inr (inl t)) = let s = t .2 in absurd (omega (arith, own, e, s))
     go (inr (inr t)) = let s = t .2 in let q : t .0 ≡ n = omega (arith, own, e, s) in t .1 ∙ ap negsuc q
@@ -79,15 +72,15 @@ pick true a b = a
 pick false a b = b
 
 module _ (m : List ℕ) (size : length m ≡ 2050) (x : ℤ) (r : InRange x) (v : ℕ) where
-  store-seen : (y : ℤ) → getD (set m (slot x) v) (slot y) 0 ≡ pick (sameWord y x) v (getD m (slot y) 0)
+  store-seen : (y : ℤ) → getD (set m (slotAt x) v) (slotAt y) 0 ≡ pick (sameWord y x) v (getD m (slotAt y) 0)
   store-seen y = go (sameWord y x) refl
     where
-      go : (b : Bool) → sameWord y x ≡ b → getD (set m (slot x) v) (slot y) 0 ≡ pick b v (getD m (slot y) 0)
-      go true e = rw (same-sound y x e) (getD-set-same m (slot x) v 0 (omega (arith, slot-bound x, size)))
-      go false e = getD-set-other m (slot x) (slot y) v 0 (λ q. same-apart y x e (slot-injective x y r q))
+      go : (b : Bool) → sameWord y x ≡ b → getD (set m (slotAt x) v) (slotAt y) 0 ≡ pick b v (getD m (slotAt y) 0)
+      go true e = rw (same-sound y x e) (getD-set-same m (slotAt x) v 0 (omega (arith, slot-at-bound x, size)))
+      go false e = getD-set-other m (slotAt x) (slotAt y) v 0 (λ q. same-apart y x e (slot-injective x y r q))
 
-  store-size : length (set m (slot x) v) ≡ 2050
-  store-size = length-set m (slot x) v ∙ size
+  store-size : length (set m (slotAt x) v) ≡ 2050
+  store-size = length-set m (slotAt x) v ∙ size
 
 tail-in-range : (x : ℤ) (C : Words) → AllInRange (x ∷ C) → AllInRange C
 tail-in-range x C h y k = h y (List·Memᴰ·tail k)
@@ -99,31 +92,31 @@ holds-cons y x C = refl
 -- Opposite signs.
 pub meets-opposed :
     (m : List ℕ) → length m ≡ 2050 → (seen R : Words) → AllInRange R
-    → ((y : ℤ) → eqb (getD m (slot y) 0) 1 ≡ holds y seen)
+    → ((y : ℤ) → eqb (getD m (slotAt y) 0) 1 ≡ holds y seen)
     → meets m R ≡ opposed seen R
 unfolding meets opposed
 meets-opposed m size seen [] r h = refl
 meets-opposed m size seen (x ∷ R) r h =
     rw (h (negℤ x))
     (ap (λ (b : Bool). holds (negℤ x) seen || b)
-    (meets-opposed (set m (slot x) 1) (store-size m size x (r x (List·Memᴰ·head refl)) 1) (x ∷ seen) R (tail-in-range x R r) marked))
+    (meets-opposed (set m (slotAt x) 1) (store-size m size x (r x (List·Memᴰ·head refl)) 1) (x ∷ seen) R (tail-in-range x R r) marked))
   where
-    seen-at : (y : ℤ) (b : Bool) → sameWord y x ≡ b → eqb (pick b 1 (getD m (slot y) 0)) 1 ≡ (b || holds y seen)
+    seen-at : (y : ℤ) (b : Bool) → sameWord y x ≡ b → eqb (pick b 1 (getD m (slotAt y) 0)) 1 ≡ (b || holds y seen)
     seen-at y true e = refl
     seen-at y false e = h y
 
-    marked : (y : ℤ) → eqb (getD (set m (slot x) 1) (slot y) 0) 1 ≡ holds y (x ∷ seen)
+    marked : (y : ℤ) → eqb (getD (set m (slotAt x) 1) (slotAt y) 0) 1 ≡ holds y (x ∷ seen)
     marked y = rw (store-seen m size x (r x (List·Memᴰ·head refl)) 1 y, holds-cons y x seen) (seen-at y (sameWord y x) refl)
 
 -- What the marks show after marking, and after ticking.
-pub mark-shows : (m : List ℕ) → length m ≡ 2050 → (C : Words) → AllInRange C → (y : ℤ) → getD (markAll m C) (slot y) 0 ≡ pick (holds y C) 1 (getD m (slot y) 0)
+pub mark-shows : (m : List ℕ) → length m ≡ 2050 → (C : Words) → AllInRange C → (y : ℤ) → getD (markAll m C) (slotAt y) 0 ≡ pick (holds y C) 1 (getD m (slotAt y) 0)
 unfolding markAll holds
 mark-shows m size [] r y = refl
 mark-shows m size (x ∷ C) r y =
-    mark-shows (set m (slot x) 1) (store-size m size x (r x (List·Memᴰ·head refl)) 1) C (tail-in-range x C r) y
+    mark-shows (set m (slotAt x) 1) (store-size m size x (r x (List·Memᴰ·head refl)) 1) C (tail-in-range x C r) y
     ∙ rw (store-seen m size x (r x (List·Memᴰ·head refl)) 1 y) (joined (holds y C) (sameWord y x))
   where
-    joined : (a b : Bool) → pick a 1 (pick b 1 (getD m (slot y) 0)) ≡ pick (b || a) 1 (getD m (slot y) 0)
+    joined : (a b : Bool) → pick a 1 (pick b 1 (getD m (slotAt y) 0)) ≡ pick (b || a) 1 (getD m (slotAt y) 0)
     joined true true = refl
     joined true false = refl
     joined false true = refl
@@ -131,7 +124,7 @@ mark-shows m size (x ∷ C) r y =
 
 -- The statement, `seen` being ticked already.
 abbrev Shows : List ℕ → Words → Words → Type 0
-Shows m R seen = (y : ℤ) → getD m (slot y) 0 ≡ pick (holds y seen) 2 (pick (holds y R) 1 0)
+Shows m R seen = (y : ℤ) → getD m (slotAt y) 0 ≡ pick (holds y seen) 2 (pick (holds y R) 1 0)
 
 marked-once : (a b : Bool) → eqb (pick a 2 (pick b 1 0)) 1 ≡ (b && not a)
 marked-once true true = refl
@@ -146,11 +139,11 @@ and-not-true a false h = h
 module _ (R : Words) (range : AllInRange R) where
   -- One more word ticked.
   ticked-shows :
-      (m : List ℕ) → length m ≡ 2050 → (seen : Words) (x : ℤ) → InRange x → Shows m R seen → Shows (set m (slot x) 2) R (x ∷ seen)
+      (m : List ℕ) → length m ≡ 2050 → (seen : Words) (x : ℤ) → InRange x → Shows m R seen → Shows (set m (slotAt x) 2) R (x ∷ seen)
   unfolding holds
   ticked-shows m size seen x r h y = store-seen m size x r 2 y ∙ go (sameWord y x)
     where
-      go : (b : Bool) → pick b 2 (getD m (slot y) 0) ≡ pick (b || holds y seen) 2 (pick (holds y R) 1 0)
+      go : (b : Bool) → pick b 2 (getD m (slotAt y) 0) ≡ pick (b || holds y seen) 2 (pick (holds y R) 1 0)
       go true = refl
       go false = h y
 
@@ -159,66 +152,66 @@ module _ (R : Words) (range : AllInRange R) where
   ticks-lists m size seen [] h = refl
   ticks-lists m size seen (x ∷ L) h =
       rw (h x, marked-once (holds x seen) (holds x R))
-      (go (holds x R && not (holds x seen)) refl (λ r. ticks-lists (set m (slot x) 2) (store-size m size x r 2) (x ∷ seen) L (ticked-shows m size seen x r h)))
+      (go (holds x R && not (holds x seen)) refl (λ r. ticks-lists (set m (slotAt x) 2) (store-size m size x r 2) (x ∷ seen) L (ticked-shows m size seen x r h)))
     where
       go :
           (b : Bool) → (holds x R && not (holds x seen)) ≡ b
-          → (InRange x → ticks (set m (slot x) 2) L ≡ lists R (x ∷ seen) L)
-          → (b && ticks (set m (slot x) 2) L) ≡ (b && lists R (x ∷ seen) L)
+          → (InRange x → ticks (set m (slotAt x) 2) L ≡ lists R (x ∷ seen) L)
+          → (b && ticks (set m (slotAt x) 2) L) ≡ (b && lists R (x ∷ seen) L)
       go true e later = later (range x (holds-sound x R (and-not-true (holds x seen) (holds x R) e)))
       go false e later = refl
 
-  pub tick-shows : (m : List ℕ) → length m ≡ 2050 → (seen L : Words) → Shows m R seen → ticks m L ≡ true → (y : ℤ) → getD (tickAll m L) (slot y) 0 ≡ pick (holds y L) 2 (getD m (slot y) 0)
+  pub tick-shows : (m : List ℕ) → length m ≡ 2050 → (seen L : Words) → Shows m R seen → ticks m L ≡ true → (y : ℤ) → getD (tickAll m L) (slotAt y) 0 ≡ pick (holds y L) 2 (getD m (slotAt y) 0)
   unfolding ticks tickAll holds
   tick-shows m size seen [] h t y = refl
   tick-shows m size seen (x ∷ L) h t y =
-      go (eqb (getD m (slot x) 0) 1) refl (λ r k. tick-shows (set m (slot x) 2) (store-size m size x r 2) (x ∷ seen) L (ticked-shows m size seen x r h) k y)
+      go (eqb (getD m (slotAt x) 0) 1) refl (λ r k. tick-shows (set m (slotAt x) 2) (store-size m size x r 2) (x ∷ seen) L (ticked-shows m size seen x r h) k y)
     where
-      joined : (a b : Bool) → pick a 2 (pick b 2 (getD m (slot y) 0)) ≡ pick (b || a) 2 (getD m (slot y) 0)
+      joined : (a b : Bool) → pick a 2 (pick b 2 (getD m (slotAt y) 0)) ≡ pick (b || a) 2 (getD m (slotAt y) 0)
       joined true true = refl
       joined true false = refl
       joined false true = refl
       joined false false = refl
 
-      in-range : eqb (getD m (slot x) 0) 1 ≡ true → InRange x
+      in-range : eqb (getD m (slotAt x) 0) 1 ≡ true → InRange x
       in-range e = range x (holds-sound x R (and-not-true (holds x seen) (holds x R) (sym (marked-once (holds x seen) (holds x R)) ∙ ap (λ (n : ℕ). eqb n 1) (sym (h x)) ∙ e)))
 
       go :
-          (b : Bool) → eqb (getD m (slot x) 0) 1 ≡ b
-          → (InRange x → ticks (set m (slot x) 2) L ≡ true → getD (tickAll (set m (slot x) 2) L) (slot y) 0 ≡ pick (holds y L) 2 (getD (set m (slot x) 2) (slot y) 0))
-          → getD (tickIf b m (tickAll (set m (slot x) 2) L)) (slot y) 0 ≡ pick (sameWord y x || holds y L) 2 (getD m (slot y) 0)
+          (b : Bool) → eqb (getD m (slotAt x) 0) 1 ≡ b
+          → (InRange x → ticks (set m (slotAt x) 2) L ≡ true → getD (tickAll (set m (slotAt x) 2) L) (slotAt y) 0 ≡ pick (holds y L) 2 (getD (set m (slotAt x) 2) (slotAt y) 0))
+          → getD (tickIf b m (tickAll (set m (slotAt x) 2) L)) (slotAt y) 0 ≡ pick (sameWord y x || holds y L) 2 (getD m (slotAt y) 0)
       go true e later = later (in-range e) (rw e at t) ∙ rw (store-seen m size x (in-range e) 2 y) (joined (holds y L) (sameWord y x))
       go false e later = absurd (false≢true (rw e at t))
 
 -- What wiping tells: no word left at 1, or one that was.
-none-left : (m : List ℕ) → length m ≡ 2050 → (C : Words) → AllInRange C → ((y : ℤ) → List·Memᴰ y C → getD m (slot y) 0 ≢ 1) → leaves m C ≡ false
+none-left : (m : List ℕ) → length m ≡ 2050 → (C : Words) → AllInRange C → ((y : ℤ) → List·Memᴰ y C → getD m (slotAt y) 0 ≢ 1) → leaves m C ≡ false
 unfolding leaves
 none-left m size [] r h = refl
 none-left m size (x ∷ C) r h =
-    rw (ne-eqb (getD m (slot x) 0) 1 (h x (List·Memᴰ·head refl)))
-    (none-left (set m (slot x) 0) (store-size m size x (r x (List·Memᴰ·head refl)) 0) C (tail-in-range x C r) later)
+    rw (ne-eqb (getD m (slotAt x) 0) 1 (h x (List·Memᴰ·head refl)))
+    (none-left (set m (slotAt x) 0) (store-size m size x (r x (List·Memᴰ·head refl)) 0) C (tail-in-range x C r) later)
   where
-    later : (y : ℤ) → List·Memᴰ y C → getD (set m (slot x) 0) (slot y) 0 ≢ 1
+    later : (y : ℤ) → List·Memᴰ y C → getD (set m (slotAt x) 0) (slotAt y) 0 ≢ 1
     later y k e = go (sameWord y x) (sym (store-seen m size x (r x (List·Memᴰ·head refl)) 0 y) ∙ e)
       where
-        go : (b : Bool) → pick b 0 (getD m (slot y) 0) ≡ 1 → ⊥
+        go : (b : Bool) → pick b 0 (getD m (slotAt y) 0) ≡ 1 → ⊥
         go true q = let z : _≡_ {A = ℕ} 0 1 = q in omega arith
         go false q = h y (List·Memᴰ·tail k) q
 
-one-left : (m : List ℕ) → length m ≡ 2050 → (C : Words) → AllInRange C → (y : ℤ) → List·Memᴰ y C → getD m (slot y) 0 ≡ 1 → leaves m C ≡ true
+one-left : (m : List ℕ) → length m ≡ 2050 → (C : Words) → AllInRange C → (y : ℤ) → List·Memᴰ y C → getD m (slotAt y) 0 ≡ 1 → leaves m C ≡ true
 unfolding leaves
 one-left m size [] r y k e = absurd (List·Memᴰ·not-nil k)
 one-left m size (x ∷ C) r y k e =
-    go (eqb (getD m (slot x) 0) 1) refl (List·Memᴰ·cases-cons k) (λ i q. one-left (set m (slot x) 0) (store-size m size x (r x (List·Memᴰ·head refl)) 0) C (tail-in-range x C r) y i q)
+    go (eqb (getD m (slotAt x) 0) 1) refl (List·Memᴰ·cases-cons k) (λ i q. one-left (set m (slotAt x) 0) (store-size m size x (r x (List·Memᴰ·head refl)) 0) C (tail-in-range x C r) y i q)
   where
-    later : eqb (getD m (slot x) 0) 1 ≡ false → sameWord y x ≡ false
-    later q = apart-same y x (λ s. eqb-false (getD m (slot x) 0) 1 q (ap (λ (w : ℤ). getD m (slot w) 0) (sym s) ∙ e))
+    later : eqb (getD m (slotAt x) 0) 1 ≡ false → sameWord y x ≡ false
+    later q = apart-same y x (λ s. eqb-false (getD m (slotAt x) 0) 1 q (ap (λ (w : ℤ). getD m (slotAt w) 0) (sym s) ∙ e))
 
     go :
-        (b : Bool) → eqb (getD m (slot x) 0) 1 ≡ b
+        (b : Bool) → eqb (getD m (slotAt x) 0) 1 ≡ b
         → (y ≡ x) ⊎ List·Memᴰ y C
-        → (List·Memᴰ y C → getD (set m (slot x) 0) (slot y) 0 ≡ 1 → leaves (set m (slot x) 0) C ≡ true)
-        → (b || leaves (set m (slot x) 0) C) ≡ true
+        → (List·Memᴰ y C → getD (set m (slotAt x) 0) (slotAt y) 0 ≡ 1 → leaves (set m (slotAt x) 0) C ≡ true)
+        → (b || leaves (set m (slotAt x) 0) C) ≡ true
     go true q i ih = refl
     go false q (inl s) ih = absurd (same-apart y x (later q) s)
     go false q (inr i) ih = ih i (store-seen m size x (r x (List·Memᴰ·head refl)) 0 y ∙ rw (later q) e)
@@ -233,42 +226,42 @@ uncovered L (x ∷ R) h = go (holds x L) refl (uncovered L R)
     go false e ih = (x, List·Memᴰ·head refl, e)
 
 -- Wiping forgets what was stored at the byte of a word of the list.
-wipe-store : (m : List ℕ) (C : Words) (x : ℤ) (v : ℕ) → List·Memᴰ x C → wipeAll (set m (slot x) v) C ≡ wipeAll m C
+wipe-store : (m : List ℕ) (C : Words) (x : ℤ) (v : ℕ) → List·Memᴰ x C → wipeAll (set m (slotAt x) v) C ≡ wipeAll m C
 unfolding wipeAll
 wipe-store m [] x v k = absurd (List·Memᴰ·not-nil k)
-wipe-store m (y ∷ C) x v k = go (ℕ-discrete (slot x) (slot y)) (List·Memᴰ·cases-cons k) (λ i. wipe-store (set m (slot y) 0) C x v i)
+wipe-store m (y ∷ C) x v k = go (ℕ-discrete (slotAt x) (slotAt y)) (List·Memᴰ·cases-cons k) (λ i. wipe-store (set m (slotAt y) 0) C x v i)
   where
     go :
-        Dec (slot x ≡ slot y) → (x ≡ y) ⊎ List·Memᴰ x C
-        → (List·Memᴰ x C → wipeAll (set (set m (slot y) 0) (slot x) v) C ≡ wipeAll (set m (slot y) 0) C)
-        → wipeAll (set (set m (slot x) v) (slot y) 0) C ≡ wipeAll (set m (slot y) 0) C
-    go (yes e) i ih = ap (λ (n : List ℕ). wipeAll n C) (rw e (set-set m (slot y) v 0))
-    go (no n) (inl e) ih = absurd (n (ap slot e))
-    go (no n) (inr i) ih = ap (λ (l : List ℕ). wipeAll l C) (set-comm m (slot x) (slot y) v 0 n) ∙ ih i
+        Dec (slotAt x ≡ slotAt y) → (x ≡ y) ⊎ List·Memᴰ x C
+        → (List·Memᴰ x C → wipeAll (set (set m (slotAt y) 0) (slotAt x) v) C ≡ wipeAll (set m (slotAt y) 0) C)
+        → wipeAll (set (set m (slotAt x) v) (slotAt y) 0) C ≡ wipeAll (set m (slotAt y) 0) C
+    go (yes e) i ih = ap (λ (n : List ℕ). wipeAll n C) (rw e (set-set m (slotAt y) v 0))
+    go (no n) (inl e) ih = absurd (n (ap slotAt e))
+    go (no n) (inr i) ih = ap (λ (l : List ℕ). wipeAll l C) (set-comm m (slotAt x) (slotAt y) v 0 n) ∙ ih i
 
 wipe-marked : (m : List ℕ) (C D : Words) → ((x : ℤ) → List·Memᴰ x D → List·Memᴰ x C) → wipeAll (markAll m D) C ≡ wipeAll m C
 unfolding markAll
 wipe-marked m C [] h = refl
-wipe-marked m C (x ∷ D) h = wipe-marked (set m (slot x) 1) C D (λ y k. h y (List·Memᴰ·tail k)) ∙ wipe-store m C x 1 (h x (List·Memᴰ·head refl))
+wipe-marked m C (x ∷ D) h = wipe-marked (set m (slotAt x) 1) C D (λ y k. h y (List·Memᴰ·tail k)) ∙ wipe-store m C x 1 (h x (List·Memᴰ·head refl))
 
-wipe-ticked : (m : List ℕ) → length m ≡ 2050 → (C L : Words) → AllInRange C → ((y : ℤ) → getD m (slot y) 0 ≡ 1 → List·Memᴰ y C) → wipeAll (tickAll m L) C ≡ wipeAll m C
+wipe-ticked : (m : List ℕ) → length m ≡ 2050 → (C L : Words) → AllInRange C → ((y : ℤ) → getD m (slotAt y) 0 ≡ 1 → List·Memᴰ y C) → wipeAll (tickAll m L) C ≡ wipeAll m C
 unfolding tickAll
 wipe-ticked m size C [] r h = refl
-wipe-ticked m size C (x ∷ L) r h = go (eqb (getD m (slot x) 0) 1) refl (λ i k. wipe-ticked (set m (slot x) 2) (store-size m size x i 2) C L r k)
+wipe-ticked m size C (x ∷ L) r h = go (eqb (getD m (slotAt x) 0) 1) refl (λ i k. wipe-ticked (set m (slotAt x) 2) (store-size m size x i 2) C L r k)
   where
-    later : InRange x → (y : ℤ) → getD (set m (slot x) 2) (slot y) 0 ≡ 1 → List·Memᴰ y C
+    later : InRange x → (y : ℤ) → getD (set m (slotAt x) 2) (slotAt y) 0 ≡ 1 → List·Memᴰ y C
     later i y e = side (sameWord y x) (sym (store-seen m size x i 2 y) ∙ e)
       where
-        side : (b : Bool) → pick b 2 (getD m (slot y) 0) ≡ 1 → List·Memᴰ y C
+        side : (b : Bool) → pick b 2 (getD m (slotAt y) 0) ≡ 1 → List·Memᴰ y C
         side true q = let z : _≡_ {A = ℕ} 2 1 = q in absurd (omega arith)
         side false q = h y q
 
     go :
-        (b : Bool) → eqb (getD m (slot x) 0) 1 ≡ b
-        → (InRange x → ((y : ℤ) → getD (set m (slot x) 2) (slot y) 0 ≡ 1 → List·Memᴰ y C) → wipeAll (tickAll (set m (slot x) 2) L) C ≡ wipeAll (set m (slot x) 2) C)
-        → wipeAll (tickIf b m (tickAll (set m (slot x) 2) L)) C ≡ wipeAll m C
+        (b : Bool) → eqb (getD m (slotAt x) 0) 1 ≡ b
+        → (InRange x → ((y : ℤ) → getD (set m (slotAt x) 2) (slotAt y) 0 ≡ 1 → List·Memᴰ y C) → wipeAll (tickAll (set m (slotAt x) 2) L) C ≡ wipeAll (set m (slotAt x) 2) C)
+        → wipeAll (tickIf b m (tickAll (set m (slotAt x) 2) L)) C ≡ wipeAll m C
     go true e ih =
-        let k = h x (eqb-true (getD m (slot x) 0) 1 e) in
+        let k = h x (eqb-true (getD m (slotAt x) 0) 1 e) in
         ih (r x k) (later (r x k)) ∙ wipe-store m C x 2 k
     go false e ih = refl
 
@@ -282,13 +275,10 @@ unfolding wipeAll
 wipe-zeros n [] = refl
 wipe-zeros n (x ∷ C) =
     let z : List ℕ = replicate n 0 in
-    let e : set z (slot x) 0 ≡ z = ap (set z (slot x)) (sym (zeros-at n (slot x))) ∙ set-getD z (slot x) 0 in
+    let e : set z (slotAt x) 0 ≡ z = ap (set z (slotAt x)) (sym (zeros-at n (slotAt x))) ∙ set-getD z (slotAt x) 0 in
     ap (λ (l : List ℕ). wipeAll l C) e ∙ wipe-zeros n C
 
 -- The whole of it, from clean marks.
-abbrev pub clean : List ℕ
-clean = replicate 2050 0
-
 module _ (R L : Words) (range : AllInRange R) where
   clean-size : length clean ≡ 2050
   clean-size = length-replicate {A = ℕ} 2050 0
@@ -296,10 +286,10 @@ module _ (R L : Words) (range : AllInRange R) where
   marked-size : length (markAll clean R) ≡ 2050
   marked-size = length-mark clean R ∙ clean-size
 
-  marked-shows : (y : ℤ) → getD (markAll clean R) (slot y) 0 ≡ pick (holds y R) 1 0
-  marked-shows y = mark-shows clean clean-size R range y ∙ ap (pick (holds y R) 1) (zeros-at 2050 (slot y))
+  marked-shows : (y : ℤ) → getD (markAll clean R) (slotAt y) 0 ≡ pick (holds y R) 1 0
+  marked-shows y = mark-shows clean clean-size R range y ∙ ap (pick (holds y R) 1) (zeros-at 2050 (slotAt y))
 
-  marked-in : (y : ℤ) → getD (markAll clean R) (slot y) 0 ≡ 1 → List·Memᴰ y R
+  marked-in : (y : ℤ) → getD (markAll clean R) (slotAt y) 0 ≡ 1 → List·Memᴰ y R
   marked-in y e = go (holds y R) refl (sym (marked-shows y) ∙ e)
     where
       go : (b : Bool) → holds y R ≡ b → pick b 1 0 ≡ 1 → List·Memᴰ y R
@@ -313,9 +303,9 @@ module _ (R L : Words) (range : AllInRange R) where
   -- Marking tells whether the result holds both signs of a variable.
   pub clean-meets : meets clean R ≡ opposed [] R
   unfolding holds
-  clean-meets = meets-opposed clean clean-size [] R range (λ y. ap (λ (n : ℕ). eqb n 1) (zeros-at 2050 (slot y)))
+  clean-meets = meets-opposed clean clean-size [] R range (λ y. ap (λ (n : ℕ). eqb n 1) (zeros-at 2050 (slotAt y)))
 
-  left-shows : ticks (markAll clean R) L ≡ true → (y : ℤ) → getD (tickAll (markAll clean R) L) (slot y) 0 ≡ pick (holds y L) 2 (pick (holds y R) 1 0)
+  left-shows : ticks (markAll clean R) L ≡ true → (y : ℤ) → getD (tickAll (markAll clean R) L) (slotAt y) 0 ≡ pick (holds y L) 2 (pick (holds y R) 1 0)
   left-shows t y = tick-shows R range (markAll clean R) marked-size [] L nothing-seen t y ∙ ap (pick (holds y L) 2) (marked-shows y)
 
   left-size : length (tickAll (markAll clean R) L) ≡ 2050
@@ -325,7 +315,7 @@ module _ (R L : Words) (range : AllInRange R) where
   left-covers : ticks (markAll clean R) L ≡ true → leaves (tickAll (markAll clean R) L) R ≡ not (covers L R)
   left-covers t = go (covers L R) refl
     where
-      stated : covers L R ≡ true → (y : ℤ) → List·Memᴰ y R → getD (tickAll (markAll clean R) L) (slot y) 0 ≢ 1
+      stated : covers L R ≡ true → (y : ℤ) → List·Memᴰ y R → getD (tickAll (markAll clean R) L) (slotAt y) 0 ≢ 1
       stated e y k q =
           let h : holds y L ≡ true = holds-complete y L (covers-sound L R e y k) in
           let z : _≡_ {A = ℕ} 2 1 = sym (left-shows t y ∙ rw h) ∙ q in

@@ -20,10 +20,11 @@ use Rattle.formula.specs.declared.literal.ClauseNumber.{ClauseNumber}
 use Rattle.formula.specs.declared.literal.NumberFit.{NumberFit}
 use Rattle.formula.specs.declared.literal.NumberFit.the-variants.{Within, Outside}
 use Rattle.checker.specs.Words.{Words}
-use Rattle.formula.specs.Decode.{clausesOf}
-use Rattle.checker.specs.Words.Places.{clauseAt, clauses-place}
+use Rattle.formula.specs.Decode.{clausesOf, clauseAt}
+use Rattle.formula.specs.Decode.Places.{clauses-place}
 use Rattle.checker.specs.Steps.{antecedent}
-use Rattle.checker.specs.Numbered.{numberOf, tableOf, storedAt, stored, StartsFilled}
+use Rattle.checker.specs.Reading.{statementOf}
+use Rattle.checker.specs.Numbered.{numberOf, tableOf, placeOf, storedAt, stored, OffsetsFilled}
 
 -- An element by its place.
 get-append-left : {A : Type 0} (xs ys : List A) (k : ℕ) → k < length xs → getElem? (xs ++ ys) k ≡ getElem? xs k
@@ -42,28 +43,28 @@ get-past [] k h = refl
 get-past (x ∷ xs) zero h = absurd (not-suc-le-zero h)
 get-past (x ∷ xs) (suc k) h = get-past xs k (le-of-suc-le-suc h)
 
-module _ (inputs : ℕ) (clauses steps : Words) (starts : List ℕ) where
-  pub stored-length : (n : ℕ) → length (stored inputs clauses steps starts n) ≡ n
+module _ (inputs : ℕ) (clauses steps : Words) (offsets : List ℕ) where
+  pub stored-length : (n : ℕ) → length (stored inputs clauses steps offsets n) ≡ n
   unfolding stored
   stored-length zero = refl
   stored-length (suc n) =
-      length-append (stored inputs clauses steps starts n) (storedAt inputs clauses steps starts n ∷ [])
-      ∙ (let e = stored-length n in let q : length (stored inputs clauses steps starts n) + 1 ≡ suc n = omega arith in q)
+      length-append (stored inputs clauses steps offsets n) (storedAt inputs clauses steps offsets n ∷ [])
+      ∙ (let e = stored-length n in let q : length (stored inputs clauses steps offsets n) + 1 ≡ suc n = omega arith in q)
 
-  pub stored-get : (n k : ℕ) → k < n → getElem? (stored inputs clauses steps starts n) k ≡ some (storedAt inputs clauses steps starts k)
+  pub stored-get : (n k : ℕ) → k < n → getElem? (stored inputs clauses steps offsets n) k ≡ some (storedAt inputs clauses steps offsets k)
   unfolding stored
   stored-get zero k h = absurd (not-suc-le-zero h)
   stored-get (suc n) k h = go (decLt k n) (stored-get n k)
     where
       go :
-          Dec (k < n) → (k < n → getElem? (stored inputs clauses steps starts n) k ≡ some (storedAt inputs clauses steps starts k))
-          → getElem? (stored inputs clauses steps starts n ++ (storedAt inputs clauses steps starts n ∷ [])) k ≡ some (storedAt inputs clauses steps starts k)
+          Dec (k < n) → (k < n → getElem? (stored inputs clauses steps offsets n) k ≡ some (storedAt inputs clauses steps offsets k))
+          → getElem? (stored inputs clauses steps offsets n ++ (storedAt inputs clauses steps offsets n ∷ [])) k ≡ some (storedAt inputs clauses steps offsets k)
       go (yes l) later =
-          get-append-left (stored inputs clauses steps starts n) (storedAt inputs clauses steps starts n ∷ []) k (rw (stored-length n) l) ∙ later l
+          get-append-left (stored inputs clauses steps offsets n) (storedAt inputs clauses steps offsets n ∷ []) k (rw (stored-length n) l) ∙ later l
       go (no m) later =
           let e : k ≡ n = last k n h m in
-          get-append-last (stored inputs clauses steps starts n) (storedAt inputs clauses steps starts n) k (e ∙ sym (stored-length n))
-          ∙ ap {B = Option Words} some (ap (storedAt inputs clauses steps starts) (sym e))
+          get-append-last (stored inputs clauses steps offsets n) (storedAt inputs clauses steps offsets n) k (e ∙ sym (stored-length n))
+          ∙ ap {B = Option Words} some (ap (storedAt inputs clauses steps offsets) (sym e))
         where
           last : (k n : ℕ) → k < suc n → (k < n → ⊥) → k ≡ n
           last k n l m = go′ (decLt k n)
@@ -100,93 +101,104 @@ number-outside known (pos (suc k)) last l e = go (leb (suc k) last) refl e
         absurd-within p = cc
     go false q h = get-past known k (let g = leb-false (suc k) last q in omega arith)
 
-module _ (inputs : ℕ) (clauses steps : Words) (starts : List ℕ) (last : ℕ) where
+module _ (inputs : ℕ) (clauses steps : Words) (offsets : List ℕ) (last : ℕ) where
   -- The antecedent that a number names.
   pub number-antecedent :
       (w : ℤ) (n : ClauseNumber) → Within n ≡ numberOf w last
-      → antecedent (stored inputs clauses steps starts last) w ≡ some (storedAt inputs clauses steps starts (n .0 - 1))
+      → antecedent (stored inputs clauses steps offsets last) w ≡ some (storedAt inputs clauses steps offsets (n .0 - 1))
   number-antecedent w n e =
       let t = number-within w last n e in
       let k : n .0 - 1 ≡ t .0 = let q = t .1 in omega arith in
-      rw (t .3, k) (stored-get inputs clauses steps starts last (t .0) (t .2))
+      rw (t .3, k) (stored-get inputs clauses steps offsets last (t .0) (t .2))
 
-  pub number-no-antecedent : (w : ℤ) → Outside ≡ numberOf w last → antecedent (stored inputs clauses steps starts last) w ≡ none
-  number-no-antecedent w e = number-outside (stored inputs clauses steps starts last) w last (stored-length inputs clauses steps starts last) e
+  pub number-no-antecedent : (w : ℤ) → Outside ≡ numberOf w last → antecedent (stored inputs clauses steps offsets last) w ≡ none
+  number-no-antecedent w e = number-outside (stored inputs clauses steps offsets last) w last (stored-length inputs clauses steps offsets last) e
 
--- A start stored past the numbered clauses changes none of them.
+-- An offset stored past a numbered clause does not change it; that of a step past the input clauses makes its statement the clause.
+module _ (inputs : ℕ) (clauses steps : Words) (offsets : List ℕ) where
+  pub stored-at-later : (k i v : ℕ) → k < i → storedAt inputs clauses steps (set offsets i v) k ≡ storedAt inputs clauses steps offsets k
+  unfolding storedAt
+  stored-at-later k i v h =
+      ap (λ (s : ℕ). clauseAt (tableOf (ltb k inputs) clauses steps) (placeOf (ltb k inputs) steps s)) (getD-set-other offsets i k v 0 (λ e. omega arith))
+
+  pub stored-at-step : (n v : ℕ) → inputs ≤ n → n < length offsets → storedAt inputs clauses steps (set offsets n v) n ≡ clauseAt steps (statementOf steps v)
+  unfolding storedAt
+  stored-at-step n v h k = rw (lt-leb (suc n) inputs (omega arith), getD-set-same offsets n v 0 k)
+
 pub stored-set-later :
-    (inputs : ℕ) (clauses steps : Words) (starts : List ℕ) (n i v : ℕ) → n ≤ i
-    → stored inputs clauses steps (set starts i v) n ≡ stored inputs clauses steps starts n
-unfolding stored storedAt
-stored-set-later inputs clauses steps starts zero i v h = refl
-stored-set-later inputs clauses steps starts (suc n) i v h =
-    ap₂ (λ (xs : List Words) (s : ℕ). xs ++ (clauseAt (tableOf (ltb n inputs) clauses steps) s ∷ []))
-    (stored-set-later inputs clauses steps starts n i v (omega arith))
-    (getD-set-other starts i n v 0 (λ e. omega arith))
+    (inputs : ℕ) (clauses steps : Words) (offsets : List ℕ) (n i v : ℕ) → n ≤ i
+    → stored inputs clauses steps (set offsets i v) n ≡ stored inputs clauses steps offsets n
+unfolding stored
+stored-set-later inputs clauses steps offsets zero i v h = refl
+stored-set-later inputs clauses steps offsets (suc n) i v h =
+    ap₂ (λ (xs : List Words) (C : Words). xs ++ (C ∷ []))
+    (stored-set-later inputs clauses steps offsets n i v (omega arith))
+    (stored-at-later inputs clauses steps offsets n i v h)
 
 -- One more clause: a step's, past the input clauses.
 pub stored-step :
-    (inputs : ℕ) (clauses steps : Words) (starts : List ℕ) (n v : ℕ) → inputs ≤ n → n < length starts
-    → stored inputs clauses steps (set starts n v) (suc n) ≡ stored inputs clauses steps starts n ++ (clauseAt steps v ∷ [])
-unfolding stored storedAt
-stored-step inputs clauses steps starts n v h k =
-    rw (lt-leb (suc n) inputs (omega arith), getD-set-same starts n v 0 k)
-    (ap (λ (xs : List Words). xs ++ (clauseAt steps v ∷ [])) (stored-set-later inputs clauses steps starts n n v (omega arith)))
+    (inputs : ℕ) (clauses steps : Words) (offsets : List ℕ) (n v : ℕ) → inputs ≤ n → n < length offsets
+    → stored inputs clauses steps (set offsets n v) (suc n) ≡ stored inputs clauses steps offsets n ++ (clauseAt steps (statementOf steps v) ∷ [])
+unfolding stored
+stored-step inputs clauses steps offsets n v h k =
+    ap₂ (λ (xs : List Words) (C : Words). xs ++ (C ∷ []))
+    (stored-set-later inputs clauses steps offsets n n v (omega arith))
+    (stored-at-step inputs clauses steps offsets n v h k)
 
 -- One more input clause.
 pub stored-input :
-    (inputs : ℕ) (clauses steps : Words) (starts : List ℕ) (n v : ℕ) → n < inputs → n < length starts
-    → stored inputs clauses steps (set starts n v) (suc n) ≡ stored inputs clauses steps starts n ++ (clauseAt clauses v ∷ [])
+    (inputs : ℕ) (clauses steps : Words) (offsets : List ℕ) (n v : ℕ) → n < inputs → n < length offsets
+    → stored inputs clauses steps (set offsets n v) (suc n) ≡ stored inputs clauses steps offsets n ++ (clauseAt clauses v ∷ [])
 unfolding stored storedAt
-stored-input inputs clauses steps starts n v h k =
-    rw (le-leb (suc n) inputs h, getD-set-same starts n v 0 k)
-    (ap (λ (xs : List Words). xs ++ (clauseAt clauses v ∷ [])) (stored-set-later inputs clauses steps starts n n v (omega arith)))
+stored-input inputs clauses steps offsets n v h k =
+    rw (le-leb (suc n) inputs h, getD-set-same offsets n v 0 k)
+    (ap (λ (xs : List Words). xs ++ (clauseAt clauses v ∷ [])) (stored-set-later inputs clauses steps offsets n n v (omega arith)))
 
--- Filling the starts of the input clauses: the first n are stored, the others stand from the place `from` on.
+-- Filling the offsets of the input clauses: the first n are stored, the others stand from the place `from` on.
 abbrev pub Filling : Words → List ℕ → ℕ → ℕ → Type 0
-Filling clauses starts n from = (steps : Words) → stored (length (clausesOf clauses)) clauses steps starts n ++ clausesOf (drop from clauses) ≡ clausesOf clauses
+Filling clauses offsets n from = (steps : Words) → stored (length (clausesOf clauses)) clauses steps offsets n ++ clausesOf (drop from clauses) ≡ clausesOf clauses
 
-pub filling-begins : (clauses : Words) (starts : List ℕ) → Filling clauses starts 0 0
+pub filling-begins : (clauses : Words) (offsets : List ℕ) → Filling clauses offsets 0 0
 unfolding stored
-filling-begins clauses starts steps = refl
+filling-begins clauses offsets steps = refl
 
-filling-count : (clauses : Words) (starts : List ℕ) (n from : ℕ) → Filling clauses starts n from → n + length (clausesOf (drop from clauses)) ≡ length (clausesOf clauses)
-filling-count clauses starts n from h =
-    ap (λ (k : ℕ). k + length (clausesOf (drop from clauses))) (sym (stored-length (length (clausesOf clauses)) clauses [] starts n))
-    ∙ sym (length-append (stored (length (clausesOf clauses)) clauses [] starts n) (clausesOf (drop from clauses)))
+filling-count : (clauses : Words) (offsets : List ℕ) (n from : ℕ) → Filling clauses offsets n from → n + length (clausesOf (drop from clauses)) ≡ length (clausesOf clauses)
+filling-count clauses offsets n from h =
+    ap (λ (k : ℕ). k + length (clausesOf (drop from clauses))) (sym (stored-length (length (clausesOf clauses)) clauses [] offsets n))
+    ∙ sym (length-append (stored (length (clausesOf clauses)) clauses [] offsets n) (clausesOf (drop from clauses)))
     ∙ ap length (h [])
 
 -- There is one more clause to store.
-pub filling-more : (clauses : Words) (starts : List ℕ) (n from : ℕ) → Filling clauses starts n from → from < length clauses → n < length (clausesOf clauses)
-filling-more clauses starts n from h l =
-    let c = filling-count clauses starts n from h in
+pub filling-more : (clauses : Words) (offsets : List ℕ) (n from : ℕ) → Filling clauses offsets n from → from < length clauses → n < length (clausesOf clauses)
+filling-more clauses offsets n from h l =
+    let c = filling-count clauses offsets n from h in
     let e = ap length (clauses-place clauses from l) in
     omega arith
 
 pub filling-turns :
-    (clauses : Words) (starts : List ℕ) (n from : ℕ) → Filling clauses starts n from → from < length clauses → n < length starts
-    → Filling clauses (set starts n from) (n + 1) (from + length (clauseAt clauses from) + 1)
-filling-turns clauses starts n from h l k steps =
-    let more = filling-more clauses starts n from h l in
-    rw (add-one n, stored-input (length (clausesOf clauses)) clauses steps starts n from more k)
-    (append-assoc (stored (length (clausesOf clauses)) clauses steps starts n) (clauseAt clauses from ∷ []) (clausesOf (drop (from + length (clauseAt clauses from) + 1) clauses))
-    ∙ ap (λ (Cs : List Words). stored (length (clausesOf clauses)) clauses steps starts n ++ Cs) (sym (clauses-place clauses from l))
+    (clauses : Words) (offsets : List ℕ) (n from : ℕ) → Filling clauses offsets n from → from < length clauses → n < length offsets
+    → Filling clauses (set offsets n from) (n + 1) (from + length (clauseAt clauses from) + 1)
+filling-turns clauses offsets n from h l k steps =
+    let more = filling-more clauses offsets n from h l in
+    rw (add-one n, stored-input (length (clausesOf clauses)) clauses steps offsets n from more k)
+    (append-assoc (stored (length (clausesOf clauses)) clauses steps offsets n) (clauseAt clauses from ∷ []) (clausesOf (drop (from + length (clauseAt clauses from) + 1) clauses))
+    ∙ ap (λ (Cs : List Words). stored (length (clausesOf clauses)) clauses steps offsets n ++ Cs) (sym (clauses-place clauses from l))
     ∙ h steps)
 
-pub filling-ends : (clauses : Words) (starts : List ℕ) (n from : ℕ) → Filling clauses starts n from → length clauses ≤ from → StartsFilled clauses starts
+pub filling-ends : (clauses : Words) (offsets : List ℕ) (n from : ℕ) → Filling clauses offsets n from → length clauses ≤ from → OffsetsFilled clauses offsets
 unfolding clausesOf
-filling-ends clauses starts n from h l =
+filling-ends clauses offsets n from h l =
     let nothing : drop from clauses ≡ [] = drop-of-length-le clauses l in
-    let count : n ≡ length (clausesOf clauses) = let c = filling-count clauses starts n from h in last (rw nothing at c) in
+    let count : n ≡ length (clausesOf clauses) = let c = filling-count clauses offsets n from h in last (rw nothing at c) in
     record { input-clauses = λ steps. (rw count at (whole steps)) }
   where
     last : n + 0 ≡ length (clausesOf clauses) → n ≡ length (clausesOf clauses)
     last e = omega arith
 
-    whole : (steps : Words) → stored (length (clausesOf clauses)) clauses steps starts n ≡ clausesOf clauses
+    whole : (steps : Words) → stored (length (clausesOf clauses)) clauses steps offsets n ≡ clausesOf clauses
     whole steps =
         let nothing : drop from clauses ≡ [] = drop-of-length-le clauses l in
-        sym (append-nil (stored (length (clausesOf clauses)) clauses steps starts n)) ∙ (rw nothing at (h steps))
+        sym (append-nil (stored (length (clausesOf clauses)) clauses steps offsets n)) ∙ (rw nothing at (h steps))
 
 -- A number that was found is in range.
 pub number-range : (w : ℤ) (last : ℕ) (n : ClauseNumber) → Within n ≡ numberOf w last → (1 ≤ n .0) × (n .0 ≤ last)

@@ -2,12 +2,12 @@
 -- by one, and what the table of steps holds at the end. Assumes nothing.
 use Prim.Native.Nat.{ℕ, zero, suc, _+_, _-_, _*_, _/_, _%_, _≤_, _<_}
 use mathlib.Core.Path.{_≡_, refl, ap, sym, _∙_}
-use mathlib.Core.Bool.{Bool, true, false}
+use mathlib.Core.Bool.{Bool, true, false, _&&_}
 use mathlib.Core.Option.{Option, none, some}
 use mathlib.Core.List.{List, [], _∷_, _++_, append-assoc, append-nil}
 use native.Mathlib.Omega.{arith}
 use native.Mathlib.Numerals.{add-one, add-two, add-three, add-four}
-use borrow.Author.Tests.{leb-true, eqb-true, le-leb, lt-leb, eq-eqb, ne-eqb}
+use borrow.Author.Tests.{leb-true, eqb-true, eqb-false, le-leb, lt-leb, eq-eqb, ne-eqb}
 use lib.Dec.{leb, eqb}
 use lib.IntN.{ℤ, pos}
 use lib.ListN.{length, getD, take, drop, set, replicate, length-take, length-drop, take-append-drop, drop-of-length-le}
@@ -28,6 +28,7 @@ use Rattle.checker.specs.ProofFile.{
   word4,
   numberAt,
   wordsOf,
+  mark4,
   markAt,
   trailerStart,
   distance,
@@ -284,3 +285,32 @@ words-fit (a ∷ b ∷ c ∷ d ∷ bytes) h (suc i) = words-fit bytes (λ j. h (
 pub read-fits : (file : List ℕ) (count room : ℕ) (words : List ℤ) → Bytes file → proofReading file count room ≡ read words → (i : ℕ) → SFits w32 (getD words i (pos 0))
 read-fits file count room words h e i =
     rw (read-of file count room words e .are) (words-fit (stepBytes file) (bytes-part (trailerStart file - distance file) (distance file) file h) i)
+
+-- The mark as one number.
+pub mark-number : (bytes : List ℕ) (at : ℕ) → ((i : ℕ) → getD bytes i 0 < 256) → eqb (numberAt bytes at) 827475025 ≡ markAt bytes at
+unfolding numberAt markAt number4 mark4
+mark-number bytes at h = four (getD bytes at 0) (getD bytes (at + 1) 0) (getD bytes (at + 2) 0) (getD bytes (at + 3) 0) (h at) (h (at + 1)) (h (at + 2)) (h (at + 3))
+  where
+    four :
+        (a b c d : ℕ) → a < 256 → b < 256 → c < 256 → d < 256
+        → eqb (a + 256 * b + 65536 * c + 16777216 * d) 827475025 ≡ (eqb a 0x51 && eqb b 0x44 && eqb c 0x52 && eqb d 0x31)
+    four a b c d ha hb hc hd = go (eqb (a + 256 * b + 65536 * c + 16777216 * d) 827475025) refl
+      where
+        go : (t : Bool) → eqb (a + 256 * b + 65536 * c + 16777216 * d) 827475025 ≡ t → t ≡ (eqb a 0x51 && eqb b 0x44 && eqb c 0x52 && eqb d 0x31)
+        go true e =
+            let n = eqb-true (a + 256 * b + 65536 * c + 16777216 * d) 827475025 e in
+            let ed : d ≡ 0x31 = omega arith in
+            let ec : c ≡ 0x52 = omega arith in
+            let eb : b ≡ 0x44 = omega arith in
+            let ea : a ≡ 0x51 = omega arith in
+            rw (eq-eqb a 0x51 ea, eq-eqb b 0x44 eb, eq-eqb c 0x52 ec, eq-eqb d 0x31 ed)
+        go false e = other (eqb a 0x51 && eqb b 0x44 && eqb c 0x52 && eqb d 0x31) refl
+          where
+            other : (t : Bool) → (eqb a 0x51 && eqb b 0x44 && eqb c 0x52 && eqb d 0x31) ≡ t → false ≡ t
+            other false q = refl
+            other true q =
+                let n = eqb-false (a + 256 * b + 65536 * c + 16777216 * d) 827475025 e in
+                let k = and-both (eqb a 0x51 && eqb b 0x44 && eqb c 0x52) (eqb d 0x31) q in
+                let l = and-both (eqb a 0x51 && eqb b 0x44) (eqb c 0x52) (k .0) in
+                let m = and-both (eqb a 0x51) (eqb b 0x44) (l .0) in
+                absurd (n (omega (arith, eqb-true a 0x51 (m .0), eqb-true b 0x44 (m .1), eqb-true c 0x52 (l .1), eqb-true d 0x31 (k .1))))

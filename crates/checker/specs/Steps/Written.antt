@@ -11,7 +11,8 @@ use lib.IntN.{ℤ, pos}
 use Rattle.formula.specs.Decode.{firstClause}
 use Rattle.checker.specs.Rules.{Rules, PlainKinds}
 use Rattle.checker.specs.Words.{Words, sameWord, isZero, holds, closes}
-use Rattle.checker.specs.Words.Laws.{holds-sound, same-sound, apart-same, literal-first, zero-ends}
+use Rattle.formula.specs.Word.Laws.{zero-sound, apart-zero}
+use Rattle.checker.specs.Words.Laws.{holds-sound, literal-first, zero-ends}
 use Rattle.checker.specs.Steps.{Step, resolution, reduction, sizeOf, statedBy, resolves, reduces, kindBy, ifClosed, readFields, readStep, less-one}
 use Rattle.checker.specs.Lawful.{wordsOf, stepWords}
 
@@ -55,14 +56,14 @@ first-clause-split (w ∷ ws) h = go (isZero w) refl (λ k. first-clause-split w
         (b : Bool) → isZero w ≡ b
         → (closes ws ≡ true → ws ≡ firstClause ws ++ pos 0 ∷ drop (suc (length (firstClause ws))) ws)
         → w ∷ ws ≡ firstClause (w ∷ ws) ++ pos 0 ∷ drop (suc (length (firstClause (w ∷ ws)))) (w ∷ ws)
-    go true e later = rw (zero-ends w ws e) (ap (λ (x : ℤ). x ∷ ws) (same-sound w (pos 0) e))
+    go true e later = rw (zero-ends w ws e) (ap (λ (x : ℤ). x ∷ ws) (zero-sound w e))
     go false e later = rw (literal-first w ws e) (ap {B = Words} (λ r. w ∷ r) (later (rw e at h)))
 
 pub first-clause-written : (L rest : Words) → ((x : ℤ) → List·Memᴰ x L → x ≢ pos 0) → (firstClause (L ++ pos 0 ∷ rest) ≡ L) × (closes (L ++ pos 0 ∷ rest) ≡ true)
-unfolding firstClause closes sameWord
+unfolding firstClause closes isZero
 first-clause-written [] rest h = (refl, refl)
 first-clause-written (x ∷ L) rest h =
-    let e : isZero x ≡ false = apart-same x (pos 0) (h x (List·Memᴰ·head refl)) in
+    let e : isZero x ≡ false = apart-zero x (h x (List·Memᴰ·head refl)) in
     let later = first-clause-written L rest (λ y m. h y (List·Memᴰ·tail m)) in
     (literal-first x (L ++ pos 0 ∷ rest) e ∙ ap {B = Words} (λ r. x ∷ r) (later .0), or-true (isZero x) (later .1))
   where

@@ -7,7 +7,7 @@ use Rattle.qbf.specs.Literal.{same}
 use Rattle.qbf.specs.Formula.{after, existentials}
 use Rattle.qbf.specs.Path.{holds as holdsLiteral, together, joined, literals, reach}
 use Rattle.qbf.specs.Dependency.{member, pair, depends}
-use Rattle.dependency.specs.Row.{isUniversal}
+use Rattle.formula.specs.Prefix.{prefixOf, quantifies}
 use Rattle.formula.specs.Word.{wordOf}
 use Rattle.formula.specs.Decode.{firstClause, clausesOf}
 use Rattle.formula.specs.Tables.{isIn, zeros, prefixRefusal, clausesRefusal, tablesRefusal}
@@ -15,7 +15,7 @@ use Rattle.formula.specs.Refusal.{refusal}
 use Rattle.formula.specs.declared.refusal.Reason.the-variants.{NoRoom, WrongPivot, Tautology, Blocked, Misstated, NoConclusion}
 use Rattle.checker.specs.declared.verdict.Verdict.the-variants.{Accepted, Refused}
 use Rattle.checker.specs.Rules.{plainRules}
-use Rattle.checker.specs.Words.{sameWord, holds, without, closes}
+use Rattle.checker.specs.Words.{sameWord, isZero, holds, without, closes}
 use Rattle.checker.specs.Steps.{readStep, opposed, lists, covers, states, blocked, judgeResolution, judgeReduction, judgeFirst, run}
 use Rattle.checker.specs.Verdict.{firstEmpty, sizedVerdict, verdictOf}
 
@@ -83,5 +83,5 @@ pub positions :
     × (verdictOf plainRules examplePrefix exampleClauses (exampleSteps (pos 4)) 8199 9 ≡ Refused (refusal NoRoom 0))
     × (verdictOf plainRules examplePrefix exampleClauses (exampleSteps (pos 4)) 8200 3 ≡ Refused (refusal NoRoom 4))
     × (verdictOf plainRules examplePrefix exampleClauses (exampleSteps (pos 4)) 8200 8 ≡ Refused (refusal NoRoom 9))
-unfolding sameWord holds without firstClause closes readStep opposed lists covers states blocked judgeResolution judgeReduction judgeFirst run firstEmpty sizedVerdict verdictOf wordOf clausesOf isIn zeros prefixRefusal clausesRefusal tablesRefusal same after existentials holdsLiteral together joined literals reach member pair depends ℕ-discrete isUniversal
+unfolding prefixOf sameWord isZero holds without firstClause closes readStep opposed lists covers states blocked judgeResolution judgeReduction judgeFirst run firstEmpty sizedVerdict verdictOf wordOf clausesOf isIn zeros prefixRefusal clausesRefusal tablesRefusal same after existentials holdsLiteral together joined literals reach member pair depends ℕ-discrete quantifies
 positions = (refl, refl, refl, refl, refl, refl, refl, refl, refl, refl, refl, refl)

@@ -9,6 +9,7 @@ use lib.ListN.{length, take, drop, replicate, length-replicate, length-append, r
 use lib.Seq.{take-at, drop-at}
 use lib.IntN.{ℤ}
 use Rattle.formula.specs.Clear.{clearFrom}
+use Rattle.formula.specs.Prefix.{prefixOf}
 use Rattle.formula.specs.Refusal.{refusal}
 use Rattle.formula.specs.declared.literal.ClauseNumber.{ClauseNumber}
 use Rattle.formula.specs.declared.refusal.Reason.the-variants.{NoConclusion}
@@ -16,8 +17,8 @@ use Rattle.checker.specs.declared.run.Found.the-variants.{Clause, Nothin
 use Rattle.checker.specs.declared.verdict.Verdict.the-variants.{Accepted, Refused}
 use Rattle.checker.specs.Words.{Words}
 use Rattle.checker.specs.Kinds.{kindsFrom, kindsOf}
-use Rattle.checker.specs.Stepping.{Ready}
-use Rattle.checker.specs.Stepping.Laws.{length-kinds}
+use Rattle.checker.specs.Step.{Ready}
+use Rattle.checker.specs.Kinds.Laws.{length-kinds}
 use Rattle.checker.specs.Running.{foundOf}
 use Rattle.checker.specs.Verdict.{concluded}
 
@@ -38,32 +39,32 @@ module _ (a b k n : ℕ) (prefix : List ℤ) (enough : a + b + k ≤ n) where
   blank = replicate n 0
 
   abbrev filled : List ℕ
-  filled = take (a + b) blank ++ (kindsFrom (take k (drop (a + b) blank)) prefix ++ drop k (drop (a + b) blank))
+  filled = take (a + b) blank ++ (kindsFrom (take k (drop (a + b) blank)) (prefixOf prefix) ++ drop k (drop (a + b) blank))
 
-  filled-is : filled ≡ (replicate (a + b) 0 ++ kindsFrom (replicate k 0) prefix) ++ drop k (drop (a + b) blank)
+  filled-is : filled ≡ (replicate (a + b) 0 ++ kindsFrom (replicate k 0) (prefixOf prefix)) ++ drop k (drop (a + b) blank)
   filled-is =
-      ap (λ (xs : List ℕ). xs ++ (kindsFrom (take k (drop (a + b) blank)) prefix ++ drop k (drop (a + b) blank))) (take-cleared (a + b) n (omega arith))
-      ∙ ap (λ (xs : List ℕ). replicate (a + b) 0 ++ (kindsFrom xs prefix ++ drop k (drop (a + b) blank))) (ap (take k) (drop-cleared (a + b) n) ∙ take-cleared k (n - (a + b)) (omega arith))
-      ∙ sym (append-assoc (replicate (a + b) 0) (kindsFrom (replicate k 0) prefix) (drop k (drop (a + b) blank)))
+      ap (λ (xs : List ℕ). xs ++ (kindsFrom (take k (drop (a + b) blank)) (prefixOf prefix) ++ drop k (drop (a + b) blank))) (take-cleared (a + b) n (omega arith))
+      ∙ ap (λ (xs : List ℕ). replicate (a + b) 0 ++ (kindsFrom xs (prefixOf prefix) ++ drop k (drop (a + b) blank))) (ap (take k) (drop-cleared (a + b) n) ∙ take-cleared k (n - (a + b)) (omega arith))
+      ∙ sym (append-assoc (replicate (a + b) 0) (kindsFrom (replicate k 0) (prefixOf prefix)) (drop k (drop (a + b) blank)))
 
-  module _ (size : length (kindsFrom (replicate k 0) prefix) ≡ k) where
-    front-length : length (replicate (a + b) 0 ++ kindsFrom (replicate k 0) prefix) ≡ a + b + k
+  module _ (size : length (kindsFrom (replicate k 0) (prefixOf prefix)) ≡ k) where
+    front-length : length (replicate (a + b) 0 ++ kindsFrom (replicate k 0) (prefixOf prefix)) ≡ a + b + k
     front-length =
-        length-append (replicate (a + b) 0) (kindsFrom (replicate k 0) prefix)
-        ∙ (let e = length-replicate {A = ℕ} (a + b) 0 in let q : length (replicate {A = ℕ} (a + b) 0) + length (kindsFrom (replicate k 0) prefix) ≡ a + b + k = omega arith in q)
+        length-append (replicate (a + b) 0) (kindsFrom (replicate k 0) (prefixOf prefix))
+        ∙ (let e = length-replicate {A = ℕ} (a + b) 0 in let q : length (replicate {A = ℕ} (a + b) 0) + length (kindsFrom (replicate k 0) (prefixOf prefix)) ≡ a + b + k = omega arith in q)
 
-    front-is : take (a + b + k) filled ≡ replicate (a + b) 0 ++ kindsFrom (replicate k 0) prefix
-    front-is = ap (take (a + b + k)) filled-is ∙ take-at (replicate (a + b) 0 ++ kindsFrom (replicate k 0) prefix) (drop k (drop (a + b) blank)) (a + b + k) front-length
+    front-is : take (a + b + k) filled ≡ replicate (a + b) 0 ++ kindsFrom (replicate k 0) (prefixOf prefix)
+    front-is = ap (take (a + b + k)) filled-is ∙ take-at (replicate (a + b) 0 ++ kindsFrom (replicate k 0) (prefixOf prefix)) (drop k (drop (a + b) blank)) (a + b + k) front-length
 
     filled-front : length (take (a + b + k) filled) ≡ a + b + k
     filled-front = ap length front-is ∙ front-length
 
-    filled-later : drop a (take (a + b + k) filled) ≡ replicate b 0 ++ kindsFrom (replicate k 0) prefix
+    filled-later : drop a (take (a + b + k) filled) ≡ replicate b 0 ++ kindsFrom (replicate k 0) (prefixOf prefix)
     filled-later =
         ap (drop a) front-is
-        ∙ ap (λ (xs : List ℕ). drop a (xs ++ kindsFrom (replicate k 0) prefix)) (sym (replicate-append-replicate {A = ℕ} a b 0))
-        ∙ ap (drop a) (append-assoc (replicate a 0) (replicate b 0) (kindsFrom (replicate k 0) prefix))
-        ∙ drop-at (replicate a 0) (replicate b 0 ++ kindsFrom (replicate k 0) prefix) a (length-replicate {A = ℕ} a 0)
+        ∙ ap (λ (xs : List ℕ). drop a (xs ++ kindsFrom (replicate k 0) (prefixOf prefix))) (sym (replicate-append-replicate {A = ℕ} a b 0))
+        ∙ ap (drop a) (append-assoc (replicate a 0) (replicate b 0) (kindsFrom (replicate k 0) (prefixOf prefix)))
+        ∙ drop-at (replicate a 0) (replicate b 0 ++ kindsFrom (replicate k 0) (prefixOf prefix)) a (length-replicate {A = ℕ} a 0)
 
 pub cleared-whole : (l : List ℕ) → clearFrom 0 0 l ≡ replicate (length l) 0
 unfolding clearFrom
@@ -72,7 +73,7 @@ cleared-whole l = refl
 pub made-ready :
     (prefix : List ℤ) (scratch cleared kinds : List ℕ) → 8200 ≤ length scratch
     → cleared ≡ replicate (length scratch) 0
-    → kinds ≡ kindsFrom (take 1025 (drop 7175 cleared)) prefix
+    → kinds ≡ kindsFrom (take 1025 (drop 7175 cleared)) (prefixOf prefix)
     → Ready prefix (take 8200 (take 7175 cleared ++ (kinds ++ drop 1025 (drop 7175 cleared))))
 unfolding kindsOf
 made-ready prefix scratch cleared kinds h e k =

@@ -1,5 +1,4 @@
 -- What the tests of Words.antt say, both ways, and the words of a first clause one by one. Assumes nothing.
-use Prim.Native.Nat.{zero, suc}
 use mathlib.Core.Path.{_≡_, refl, ap, sym, _∙_}
 use mathlib.Core.Logic.{_⊎_, inl, inr, _≢_}
 use mathlib.Core.Bool.{Bool, true, false, _||_, false≢true}
@@ -8,6 +7,8 @@ use borrow.Author.Tests.{eqb-true, eq-eqb}
 use lib.IntN.{ℤ, pos, negsuc}
 use Rattle.qbf.specs.Connectives.{or-either, or-left, or-right}
 use Rattle.formula.specs.Decode.{firstClause}
+use Rattle.formula.specs.Decode.Laws.{first-clause-cons}
+use Rattle.formula.specs.Word.Laws.{zero-sound, zero-apart}
 use Rattle.checker.specs.Words.{Words, sameWord, isZero, holds, keep, without}
 
 -- A Bool that is not the one is the other.
@@ -103,10 +104,7 @@ member-without x y (z ∷ C) m n = go (sameWord y z) refl (λ k. member-without 
 -- A first clause word by word.
 pub zero-ends : (w : ℤ) (ws : Words) → isZero w ≡ true → firstClause (w ∷ ws) ≡ []
 unfolding firstClause
-zero-ends w ws h = rw (same-sound w (pos 0) h)
+zero-ends w ws h = rw (zero-sound w h)
 
 pub literal-first : (w : ℤ) (ws : Words) → isZero w ≡ false → firstClause (w ∷ ws) ≡ w ∷ firstClause ws
-unfolding firstClause sameWord
-literal-first (pos zero) ws h = absurd (false≢true (sym h))
-literal-first (pos (suc n)) ws h = refl
-literal-first (negsuc n) ws h = refl
+literal-first w ws h = first-clause-cons w ws (zero-apart w h)

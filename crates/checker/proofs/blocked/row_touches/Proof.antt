@@ -8,23 +8,22 @@ use lib.ListN.{length, getD}
 use lib.IntN.{pos, natAbs}
 use mir.Syntax.{w32}
 use mir.Val.{toZ, ofZ}
-use Rattle.checker.specs.Words.Places.{clauseAt, clause-past, clause-zero, clause-literal}
-use Rattle.checker.specs.Blocking.{touches}
+use Rattle.formula.specs.Decode.{clauseAt}
+use Rattle.formula.specs.Decode.Places.{clause-past, clause-zero, clause-literal}
+use Rattle.dependency.specs.Scratch.{rowIn}
+use Rattle.checker.specs.Blocked.{touches}
 use Rattle.checker.proofs.Signed.{read-zero, read-back}
 use Rattle.checker.proofs.blocked.row_touches.Statement.{statement}
 use Rattle.checker.proofs.blocked.row_touches.Tie as tie
 
 abbrev Inv-loop : tie.InvT-loop
-Inv-loop words from row i₀ i = touches row (clauseAt words from) ≡ touches row (clauseAt words i)
+Inv-loop words from scratch i₀ i = touches (rowIn scratch) (clauseAt words from) ≡ touches (rowIn scratch) (clauseAt words i)
 
 abbrev μ-loop : tie.MeasureT-loop
-μ-loop words from row i₀ i = length words - i
+μ-loop words from scratch i₀ i = length words - i
 
 loop-holds : tie.Need-loop-holds Inv-loop μ-loop
 loop-holds c = refl
-
-is-zero-requires : tie.Need-is-zero-requires Inv-loop μ-loop
-is-zero-requires c κs = tt
 
 returns : tie.Need-returns Inv-loop μ-loop
 unfolding touches
@@ -33,7 +32,7 @@ returns c =
     let start = at .before .before in
     let words = start .args .words .now in
     let z = read-zero (getD words (at .loop .i) (pos 0)) (c .before .before .word .given) (c .before .is-zero .ensures) (c .if1 .taken) in
-    sym (at .loop .inv ∙ ap (touches (start .args .row .now)) (clause-zero words (at .loop .i) (search needs) z))
+    sym (at .loop .inv ∙ ap (touches (rowIn (start .args .scratch .now))) (clause-zero words (at .loop .i) (search needs) z))
 
 word-touches-requires : tie.Need-word-touches-requires Inv-loop μ-loop
 word-touches-requires c κs = c .before .before .before .before .before .before .pre
@@ -49,7 +48,7 @@ literal-at c =
 
 byte-at :
     (c : tie.After-word-touches Inv-loop μ-loop)
-    → c .word-touches .result ≡ eqb (getD (c .before .before .before .before .before .before .before .args .row .now) (natAbs (getD (c .before .before .before .before .before .before .before .args .words .now) (c .before .before .before .before .before .loop .i) (pos 0))) 0) 1
+    → c .word-touches .result ≡ eqb (getD (rowIn (c .before .before .before .before .before .before .before .args .scratch .now)) (natAbs (getD (c .before .before .before .before .before .before .before .args .words .now) (c .before .before .before .before .before .loop .i) (pos 0))) 0) 1
 byte-at c =
     let at = c .before .before .before .before .before in
     let word = getD (at .before .before .args .words .now) (at .loop .i) (pos 0) in
@@ -73,7 +72,7 @@ unfolding touches
 returns-3 c =
     let at = c .before in
     let start = at .before .before in
-    sym (at .loop .inv ∙ ap (touches (start .args .row .now)) (clause-past (start .args .words .now) (at .loop .i) (search needs)))
+    sym (at .loop .inv ∙ ap (touches (rowIn (start .args .scratch .now))) (clause-past (start .args .words .now) (at .loop .i) (search needs)))
 
 pub row-touches-spec : {M : Type 1} → statement M
 row-touches-spec =
@@ -84,7 +83,7 @@ row-touches-spec =
     loop-holds
     (λ c. search needs)
     (λ c. search needs)
-    is-zero-requires
+    (λ c κs. tt)
     returns
     word-touches-requires
     returns-2

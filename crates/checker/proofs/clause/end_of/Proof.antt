@@ -1,15 +1,12 @@
 -- `end_of` is where the reader of clause words finds the closing 0. Assumes nothing.
 use mathlib.Core.Path.{_∙_}
 use lib.ListN.{drop}
-use Rattle.checker.specs.Words.Places.{close-first-clause}
+use Rattle.formula.specs.Decode.Places.{close-first-clause}
 use Rattle.checker.proofs.clause.end_of.Statement.{statement}
 use Rattle.checker.proofs.clause.end_of.Tie as tie
-
-clause-end-requires : tie.Need-clause-end-requires
-clause-end-requires c κs = tt
 
 returns : tie.Need-returns
 returns c = c .clause-end .ensures ∙ close-first-clause (c .before .args .from) (drop (c .before .args .from) (c .before .args .words .now))
 
 pub end-of-spec : {M : Type 1} → statement M
-end-of-spec = tie.close (tie.spec clause-end-requires returns)
+end-of-spec = tie.close (tie.spec (λ c κs. tt) returns)

@@ -9,7 +9,8 @@ use mir.Syntax.{w32}
 use mir.Val.{toZ, ofZ}
 use mir.Facts.{toZ-ofZ}
 use Rattle.checker.specs.Words.{sameWord, holds}
-use Rattle.checker.specs.Words.Places.{clauseAt, clause-past, clause-zero, clause-literal}
+use Rattle.formula.specs.Decode.{clauseAt}
+use Rattle.formula.specs.Decode.Places.{clause-past, clause-zero, clause-literal}
 use Rattle.checker.proofs.Signed.{read-zero, read-back}
 use Rattle.checker.proofs.clause.has_word.Statement.{statement}
 use Rattle.checker.proofs.clause.has_word.Tie as tie
@@ -22,9 +23,6 @@ abbrev μ-loop : tie.MeasureT-loop
 
 loop-holds : tie.Need-loop-holds Inv-loop μ-loop
 loop-holds c = refl
-
-mul-word : tie.Need-mul-word Inv-loop μ-loop
-mul-word c = search needs
 
 shared-slice-copy-out-word : tie.Need-shared-slice-copy-out-word Inv-loop μ-loop
 shared-slice-copy-out-word c = search needs
@@ -87,4 +85,4 @@ returns-3 c =
 pub has-word-spec : {M : Type 1} → statement M
 has-word-spec =
     tie.close
-    (tie.spec Inv-loop μ-loop loop-holds mul-word shared-slice-copy-out-word is-zero-requires returns same-requires returns-2 add-i loop-less loop-again returns-3)
+    (tie.spec Inv-loop μ-loop loop-holds (λ c. search needs) shared-slice-copy-out-word is-zero-requires returns same-requires returns-2 add-i loop-less loop-again returns-3)

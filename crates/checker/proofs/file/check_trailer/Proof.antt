@@ -44,10 +44,10 @@ number-at-requires c κs =
 
 returns : tie.Need-returns
 returns c =
-    let n = c .before .before .before in
+    let n = c .before .before .before .before in
     let s = n .before .before .before .before .args in
-    let b = count-oversized (s .file .now) (n .number-at .result) (n .number-at .ensures) (sym (c .before .before .new .ensures) ∙ c .enum-told2 .given .1) in
-    rw (refusal-oversized (s .file .now) (s .clause-count) (s .room) (trailed (n .before)) b)
+    let b = count-oversized (s .file .now) (n .number-at .result) (n .number-at .ensures) (sym (c .before .before .before .new .ensures) ∙ c .before .enum-told2 .given .1) in
+    rw (refusal-oversized (s .file .now) (s .clause-count) (s .room) (trailed (n .before)) b, c .new2 .ensures)
 
 number-at-requires-2 : tie.Need-number-at-requires-2
 number-at-requires-2 c κs =
@@ -57,20 +57,20 @@ number-at-requires-2 c κs =
 
 returns-2 : tie.Need-returns-2
 returns-2 c =
-    let e = c .before .before in
-    let n = e .before .before .before in
-    let s = n .before .before .before .before .args in
-    let o : clauseCount (s .file .now) ≡ s .clause-count → ⊥ = λ q. c .if2 .taken (c .before .number-at2 .ensures ∙ q) in
-    rw (refusal-other-formula (s .file .now) (s .clause-count) (s .room) (trailed (n .before)) (bounded e) o)
-
-returns-3 : tie.Need-returns-3
-returns-3 c =
     let e = c .before .before .before in
     let n = e .before .before .before in
     let s = n .before .before .before .before .args in
-    let q = sym (c .before .before .number-at2 .ensures) ∙ c .before .if2 .left in
-    let r : s .room < stepCount (s .file .now) = rw (n .number-at .ensures) at (c .if3 .taken) in
-    rw (refusal-no-room (s .file .now) (s .clause-count) (s .room) (trailed (n .before)) (bounded e) q r)
+    let o : clauseCount (s .file .now) ≡ s .clause-count → ⊥ = λ q. c .before .if2 .taken (c .before .before .number-at2 .ensures ∙ q) in
+    rw (refusal-other-formula (s .file .now) (s .clause-count) (s .room) (trailed (n .before)) (bounded e) o, c .new3 .ensures)
+
+returns-3 : tie.Need-returns-3
+returns-3 c =
+    let e = c .before .before .before .before in
+    let n = e .before .before .before in
+    let s = n .before .before .before .before .args in
+    let q = sym (c .before .before .before .number-at2 .ensures) ∙ c .before .before .if2 .left in
+    let r : s .room < stepCount (s .file .now) = rw (n .number-at .ensures) at (c .before .if3 .taken) in
+    rw (refusal-no-room (s .file .now) (s .clause-count) (s .room) (trailed (n .before)) (bounded e) q r, c .new4 .ensures)
 
 returns-4 : tie.Need-returns-4
 returns-4 c =
@@ -83,8 +83,8 @@ returns-4 c =
 
 returns-5 : tie.Need-returns-5
 returns-5 c =
-    let s = c .before .before .before .args in
-    rw (refusal-no-trailer (s .file .now) (s .clause-count) (s .room) (sym (c .before .has-trailer .ensures) ∙ c .if1 .left))
+    let s = c .before .before .before .before .args in
+    rw (refusal-no-trailer (s .file .now) (s .clause-count) (s .room) (sym (c .before .before .has-trailer .ensures) ∙ c .before .if1 .left), c .new5 .ensures)
 
 pub check-trailer-spec : {M : Type 1} → statement M
 check-trailer-spec =
@@ -97,10 +97,14 @@ check-trailer-spec =
     (λ c κs. search needs)
     (λ c. search needs)
     (λ c. search needs)
+    (λ c κs. search needs)
     returns
     (λ c. search needs)
     number-at-requires-2
+    (λ c κs. search needs)
     returns-2
+    (λ c κs. search needs)
     returns-3
+    (λ c κs. search needs)
     returns-4
     returns-5)

@@ -5,9 +5,6 @@ use Rattle.checker.specs.ProofFile.{number4}
 use Rattle.checker.proofs.file.number4.Statement.{statement}
 use Rattle.checker.proofs.file.number4.Tie as tie
 
-mul-result : tie.Need-mul-result
-mul-result c = search needs
-
 add-result : tie.Need-add-result
 add-result c = search needs
 
@@ -30,4 +27,4 @@ returns c = refl
 pub number4-spec : {M : Type 1} → statement M
 number4-spec =
     tie.close
-    (tie.spec mul-result add-result mul-result-2 add-result-2 mul-result-3 add-result-3 returns)
+    (tie.spec (λ c. search needs) add-result mul-result-2 add-result-2 mul-result-3 add-result-3 returns)

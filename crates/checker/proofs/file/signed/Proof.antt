@@ -8,9 +8,6 @@ use mir.Val.{toZ}
 use Rattle.checker.proofs.file.signed.Statement.{statement}
 use Rattle.checker.proofs.file.signed.Tie as tie
 
-cast-result : tie.Need-cast-result
-cast-result c = search needs
-
 cast-result-2 : tie.Need-cast-result-2
 cast-result-2 c = search needs
 
@@ -24,4 +21,4 @@ returns-2 c =
     ap (toZ w32) e
 
 pub signed-spec : {M : Type 1} → statement M
-signed-spec = tie.close (tie.spec cast-result cast-result-2 returns returns-2)
+signed-spec = tie.close (tie.spec (λ c. search needs) cast-result-2 returns returns-2)

@@ -4,9 +4,6 @@ use borrow.Author.Tests.{eq-eqb, ne-eqb}
 use Rattle.checker.proofs.kinds.of_kind.Statement.{statement}
 use Rattle.checker.proofs.kinds.of_kind.Tie as tie
 
-shared-slice-read-if1 : tie.Need-shared-slice-read-if1
-shared-slice-read-if1 c = search needs
-
 returns : tie.Need-returns
 returns c = simp (eq-eqb _ _ (c .if1 .taken))
 
@@ -14,4 +11,4 @@ returns-2 : tie.Need-returns-2
 returns-2 c = simp (ne-eqb _ _ (c .if1 .left))
 
 pub of-kind-spec : {M : Type 1} → statement M
-of-kind-spec = tie.close (tie.spec shared-slice-read-if1 returns returns-2)
+of-kind-spec = tie.close (tie.spec (λ c. search needs) returns returns-2)

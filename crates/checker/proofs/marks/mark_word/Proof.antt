@@ -3,21 +3,18 @@ use mathlib.Core.Path.{_≡_}
 use native.Mathlib.Omega.{arith}
 use borrow.Author.Needs.{needs}
 use lib.IntN.{negℤ}
-use Rattle.checker.specs.Marks.{slot}
-use Rattle.checker.specs.Marks.Laws.{slot-bound, mark-left-out, mark-one}
+use Rattle.checker.specs.Marks.{slotAt}
+use Rattle.checker.specs.Marks.Laws.{slot-at-bound, mark-left-out, mark-one}
 use Rattle.checker.proofs.Signed.{read-same, read-slot, read-opposite}
 use Rattle.checker.proofs.marks.mark_word.Statement.{statement}
 use Rattle.checker.proofs.marks.mark_word.Tie as tie
 
 -- the two bytes
-own-at : (c : tie.After-slice-known2) → c .before .before .slot-of .result ≡ slot (c .before .before .before .before .before .before .args .word)
-own-at c = read-slot _ (c .before .before .before .before .before .before .fits .word) (c .before .before .slot-of .ensures)
+own-at : (c : tie.After-slice-known2) → c .before .before .slot .result ≡ slotAt (c .before .before .before .before .before .before .args .word)
+own-at c = read-slot _ (c .before .before .before .before .before .before .fits .word) (c .before .before .slot .ensures)
 
-other-at : (c : tie.After-slice-known2) → c .before .opposite-slot .result ≡ slot (negℤ (c .before .before .before .before .before .before .args .word))
+other-at : (c : tie.After-slice-known2) → c .before .opposite-slot .result ≡ slotAt (negℤ (c .before .before .before .before .before .before .args .word))
 other-at c = read-opposite _ (c .before .before .before .before .before .before .fits .word) (c .before .opposite-slot .ensures)
-
-same-requires : tie.Need-same-requires
-same-requires c κs = search needs
 
 returns : tie.Need-returns
 returns c =
@@ -25,17 +22,17 @@ returns c =
     mark-left-out (start .args .marks .now) (start .args .except) (start .args .word)
     (read-same (start .args .except) (start .args .word) (start .fits .except) (start .fits .word) (c .before .same .ensures) (c .if1 .taken))
 
-slot-of-requires : tie.Need-slot-of-requires
-slot-of-requires c κs = search needs
+slot-requires : tie.Need-slot-requires
+slot-requires c κs = search needs
 
 opposite-slot-requires : tie.Need-opposite-slot-requires
 opposite-slot-requires c κs = search needs
 
 slice-read-opposite : tie.Need-slice-read-opposite
-slice-read-opposite c = omega (arith, other-at c, slot-bound (negℤ (c .before .before .before .before .before .before .args .word)), c .before .before .before .before .before .before .pre)
+slice-read-opposite c = omega (arith, other-at c, slot-at-bound (negℤ (c .before .before .before .before .before .before .args .word)), c .before .before .before .before .before .before .pre)
 
 slice-write-marks : tie.Need-slice-write-marks
-slice-write-marks c = omega (arith, own-at c, slot-bound (c .before .before .before .before .before .before .args .word), c .before .before .before .before .before .before .pre)
+slice-write-marks c = omega (arith, own-at c, slot-at-bound (c .before .before .before .before .before .before .args .word), c .before .before .before .before .before .before .pre)
 
 same-length : tie.Need-same-length
 same-length c = search needs
@@ -50,4 +47,4 @@ returns-2 c =
 pub mark-word-spec : {M : Type 1} → statement M
 mark-word-spec =
     tie.close
-    (tie.spec same-requires returns slot-of-requires opposite-slot-requires slice-read-opposite slice-write-marks same-length returns-2)
+    (tie.spec (λ c κs. search needs) returns slot-requires opposite-slot-requires slice-read-opposite slice-write-marks same-length returns-2)

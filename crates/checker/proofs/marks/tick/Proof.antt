@@ -8,7 +8,8 @@ use lib.ListN.{length, getD}
 use lib.IntN.{pos}
 use mir.Syntax.{w32}
 use mir.Val.{toZ, ofZ}
-use Rattle.checker.specs.Words.Places.{clauseAt, clause-past, clause-zero, clause-literal}
+use Rattle.formula.specs.Decode.{clauseAt}
+use Rattle.formula.specs.Decode.Places.{clause-past, clause-zero, clause-literal}
 use Rattle.checker.specs.Marks.{alone, Ticked}
 use Rattle.checker.specs.Marks.Laws.{TicksOn, tick-turns, tick-stops, tick-ends}
 use Rattle.checker.proofs.Signed.{read-zero, read-back}
@@ -23,9 +24,6 @@ abbrev μ-loop : tie.MeasureT-loop
 
 loop-holds : tie.Need-loop-holds Inv-loop μ-loop
 loop-holds c = ((refl, refl), refl)
-
-is-zero-requires : tie.Need-is-zero-requires Inv-loop μ-loop
-is-zero-requires c κs = tt
 
 ends-at :
     (c : tie.At-loop Inv-loop μ-loop) → clauseAt (c .before .before .args .words .now) (c .loop .i) ≡ []
@@ -91,7 +89,7 @@ tick-spec =
     loop-holds
     (λ c. search needs)
     (λ c. search needs)
-    is-zero-requires
+    (λ c κs. tt)
     (λ c. search needs)
     returns
     tick-word-requires

@@ -2,21 +2,18 @@
 use mathlib.Core.Path.{_≡_}
 use native.Mathlib.Omega.{arith}
 use borrow.Author.Needs.{needs}
-use Rattle.checker.specs.Marks.{slot}
-use Rattle.checker.specs.Marks.Laws.{slot-bound, tick-one, tick-none}
+use Rattle.checker.specs.Marks.{slotAt}
+use Rattle.checker.specs.Marks.Laws.{slot-at-bound, tick-one, tick-none}
 use Rattle.checker.proofs.Signed.{read-slot}
 use Rattle.checker.proofs.marks.tick_word.Statement.{statement}
 use Rattle.checker.proofs.marks.tick_word.Tie as tie
 
 -- the byte
-own-at : (c : tie.After-slice-known2) → c .before .slot-of .result ≡ slot (c .before .before .before .args .word)
-own-at c = read-slot _ (c .before .before .before .fits .word) (c .before .slot-of .ensures)
-
-slot-of-requires : tie.Need-slot-of-requires
-slot-of-requires c κs = search needs
+own-at : (c : tie.After-slice-known2) → c .before .slot .result ≡ slotAt (c .before .before .before .args .word)
+own-at c = read-slot _ (c .before .before .before .fits .word) (c .before .slot .ensures)
 
 slice-read-if1 : tie.Need-slice-read-if1
-slice-read-if1 c = omega (arith, own-at c, slot-bound (c .before .before .before .args .word), c .before .before .before .pre)
+slice-read-if1 c = omega (arith, own-at c, slot-at-bound (c .before .before .before .args .word), c .before .before .before .pre)
 
 slice-write-marks : tie.Need-slice-write-marks
 slice-write-marks c = slice-read-if1 (c .before)
@@ -35,4 +32,4 @@ returns-2 c =
     tick-none (start .args .marks .now) (start .args .word) (rw (own-at (c .before)) at (c .if1 .left))
 
 pub tick-word-spec : {M : Type 1} → statement M
-tick-word-spec = tie.close (tie.spec slot-of-requires slice-read-if1 slice-write-marks same-length returns returns-2)
+tick-word-spec = tie.close (tie.spec (λ c κs. search needs) slice-read-if1 slice-write-marks same-length returns returns-2)

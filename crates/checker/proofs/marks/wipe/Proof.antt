@@ -9,7 +9,8 @@ use mir.Syntax.{w32}
 use mir.Val.{toZ, ofZ}
 use mir.Facts.{toZ-ofZ}
 use Rattle.checker.specs.Words.{without}
-use Rattle.checker.specs.Words.Places.{clauseAt, clause-past, clause-zero, clause-literal}
+use Rattle.formula.specs.Decode.{clauseAt}
+use Rattle.formula.specs.Decode.Places.{clause-past, clause-zero, clause-literal}
 use Rattle.checker.specs.Marks.{wipeAll, leaves, alone, Wiped}
 use Rattle.checker.specs.Marks.Laws.{Continues, wipe-turns, wipe-ends}
 use Rattle.checker.proofs.Signed.{read-zero, read-back}
@@ -26,9 +27,6 @@ abbrev μ-loop : tie.MeasureT-loop
 
 loop-holds : tie.Need-loop-holds Inv-loop μ-loop
 loop-holds c = ((refl, refl), refl)
-
-is-zero-requires : tie.Need-is-zero-requires Inv-loop μ-loop
-is-zero-requires c κs = tt
 
 -- at a clause's end, the word left out being what was passed
 ends-at :
@@ -73,7 +71,7 @@ wipe-spec =
     loop-holds
     (λ c. search needs)
     (λ c. search needs)
-    is-zero-requires
+    (λ c κs. tt)
     (λ c. search needs)
     returns
     wipe-word-requires

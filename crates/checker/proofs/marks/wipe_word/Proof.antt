@@ -2,18 +2,15 @@
 use mathlib.Core.Path.{_≡_}
 use native.Mathlib.Omega.{arith}
 use borrow.Author.Needs.{needs}
-use Rattle.checker.specs.Marks.{slot}
-use Rattle.checker.specs.Marks.Laws.{slot-bound, wipe-left-out, wipe-one}
+use Rattle.checker.specs.Marks.{slotAt}
+use Rattle.checker.specs.Marks.Laws.{slot-at-bound, wipe-left-out, wipe-one}
 use Rattle.checker.proofs.Signed.{read-same, read-slot}
 use Rattle.checker.proofs.marks.wipe_word.Statement.{statement}
 use Rattle.checker.proofs.marks.wipe_word.Tie as tie
 
 -- the byte
-own-at : (c : tie.After-slice-known2) → c .before .slot-of .result ≡ slot (c .before .before .before .before .before .args .word)
-own-at c = read-slot _ (c .before .before .before .before .before .fits .word) (c .before .slot-of .ensures)
-
-same-requires : tie.Need-same-requires
-same-requires c κs = search needs
+own-at : (c : tie.After-slice-known2) → c .before .slot .result ≡ slotAt (c .before .before .before .before .before .args .word)
+own-at c = read-slot _ (c .before .before .before .before .before .fits .word) (c .before .slot .ensures)
 
 returns : tie.Need-returns
 returns c =
@@ -21,14 +18,14 @@ returns c =
     wipe-left-out (start .args .marks .now) (start .args .except) (start .args .word)
     (read-same (start .args .except) (start .args .word) (start .fits .except) (start .fits .word) (c .before .same .ensures) (c .if1 .taken))
 
-slot-of-requires : tie.Need-slot-of-requires
-slot-of-requires c κs = search needs
+slot-requires : tie.Need-slot-requires
+slot-requires c κs = search needs
 
 slice-read-was : tie.Need-slice-read-was
-slice-read-was c = omega (arith, own-at c, slot-bound (c .before .before .before .before .before .args .word), c .before .before .before .before .before .pre)
+slice-read-was c = omega (arith, own-at c, slot-at-bound (c .before .before .before .before .before .args .word), c .before .before .before .before .before .pre)
 
 slice-write-marks : tie.Need-slice-write-marks
-slice-write-marks c = omega (arith, own-at c, slot-bound (c .before .before .before .before .before .args .word), c .before .before .before .before .before .pre)
+slice-write-marks c = omega (arith, own-at c, slot-at-bound (c .before .before .before .before .before .args .word), c .before .before .before .before .before .pre)
 
 same-length : tie.Need-same-length
 same-length c = search needs
@@ -42,4 +39,4 @@ returns-2 c =
 
 pub wipe-word-spec : {M : Type 1} → statement M
 wipe-word-spec =
-    tie.close (tie.spec same-requires returns slot-of-requires slice-read-was slice-write-marks same-length returns-2)
+    tie.close (tie.spec (λ c κs. search needs) returns slot-requires slice-read-was slice-write-marks same-length returns-2)

@@ -18,9 +18,6 @@ cast-new c =
     let e : toZ w32 (ofZ w32 (c .before .args .word)) ≡ c .before .args .word = toZ-ofZ (c .before .fits .word) in
     rw e (number-unsigned (c .before .args .word) (rw e at (c .if1 .left)), fits-natAbs tt (c .before .fits .word))
 
-new-requires : tie.Need-new-requires
-new-requires c κs = search needs
-
 returns-2 : tie.Need-returns-2
 returns-2 c =
     let start = c .before .before in
@@ -28,4 +25,4 @@ returns-2 c =
     (rw e at (c .new .ensures)) ∙ number-fits (start .args .word) (start .args .last) (rw e at (c .before .if1 .left))
 
 pub antecedent-of-spec : {M : Type 1} → statement M
-antecedent-of-spec = tie.close (tie.spec returns cast-new new-requires returns-2)
+antecedent-of-spec = tie.close (tie.spec returns cast-new (λ c κs. search needs) returns-2)

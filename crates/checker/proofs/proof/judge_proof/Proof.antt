@@ -1,6 +1,6 @@
 -- `judge_proof`: the tables first. Assumes nothing.
 use mathlib.Core.Path.{_≡_, sym, _∙_}
-use lib.ListN.{length}
+use Rattle.formula.specs.Prefix.{entryCount}
 use Rattle.formula.specs.Tables.{Admitted, zeros}
 use Rattle.formula.specs.Tables.Laws.{answer-admitted, answer-refused}
 use borrow.Author.Needs.{needs}
@@ -9,7 +9,7 @@ use Rattle.checker.proofs.proof.judge_proof.Statement.{statement}
 use Rattle.checker.proofs.proof.judge_proof.Tie as tie
 
 -- the tables passed
-admitted-at : (c : tie.After-known-told2) → Admitted (c .before .before .before .before .before .before .args .prefix .now) (c .before .before .before .before .before .before .args .clauses .now) × (c .before .inputs .given .0 .0 ≡ length (c .before .before .before .before .before .before .args .prefix .now)) × (c .before .inputs .given .0 .1 .0 ≡ zeros (c .before .before .before .before .before .before .args .clauses .now))
+admitted-at : (c : tie.After-known-told2) → Admitted (c .before .before .before .before .before .before .args .prefix .now) (c .before .before .before .before .before .before .args .clauses .now) × (c .before .inputs .given .0 .0 ≡ entryCount (c .before .before .before .before .before .before .args .prefix .now)) × (c .before .inputs .given .0 .1 .0 ≡ zeros (c .before .before .before .before .before .before .args .clauses .now))
 admitted-at c =
     let start = c .before .before .before .before .before .before in
     answer-admitted (start .args .prefix .now) (start .args .clauses .now) (c .before .inputs .given .0 .0) (c .before .inputs .given .0 .1 .0) (sym (c .before .before .before .check-tables .ensures) ∙ c .before .inputs .given .1)

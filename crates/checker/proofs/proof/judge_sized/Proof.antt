@@ -21,15 +21,15 @@ within-at c = fit-made _ _ _ _ (sym (c .before .before .new .ensures) ∙ c .enu
 returns : tie.Need-returns
 unfolding sizedVerdict
 returns c =
-    let start = c .before .before .before .before .before .before in
-    rw (within-at (c .before), lt-leb 8200 (length (start .args .scratch .now)) (c .if1 .taken))
+    let start = c .before .before .before .before .before .before .before in
+    rw (within-at (c .before .before), lt-leb 8200 (length (start .args .scratch .now)) (c .before .if1 .taken), c .new3 .ensures)
 
 returns-2 : tie.Need-returns-2
 unfolding sizedVerdict
 returns-2 c =
-    let start = c .before .before .before .before .before .before .before in
-    let few : length (start .args .starts .now) < zeros (start .args .clauses .now) = omega (arith, c .if2 .taken, start .pre .1) in
-    rw (within-at (c .before .before), le-leb 8200 (length (start .args .scratch .now)) (c .before .if1 .left), lt-leb (zeros (start .args .clauses .now)) (length (start .args .starts .now)) few, add-one (length (start .args .starts .now)))
+    let start = c .before .before .before .before .before .before .before .before in
+    let few : length (start .args .offsets .now) < zeros (start .args .clauses .now) = omega (arith, c .before .if2 .taken, start .pre .1) in
+    rw (within-at (c .before .before .before), le-leb 8200 (length (start .args .scratch .now)) (c .before .before .if1 .left), lt-leb (zeros (start .args .clauses .now)) (length (start .args .offsets .now)) few, c .new4 .ensures, add-one (length (start .args .offsets .now)))
 
 judge-steps-requires : tie.Need-judge-steps-requires
 judge-steps-requires c κs =
@@ -39,16 +39,15 @@ judge-steps-requires c κs =
 returns-3 : tie.Need-returns-3
 unfolding sizedVerdict
 returns-3 c =
-    let start = c .before .before .before .before .before in
-    rw (fit-refused _ _ _ _ (sym (c .before .before .new .ensures) ∙ c .enum-told .given .1) (λ z. cc))
+    rw (fit-refused _ _ _ _ (sym (c .before .before .before .new .ensures) ∙ c .before .enum-told .given .1) (λ z. cc), c .new2 .ensures)
 
 returns-4 : tie.Need-returns-4
 unfolding sizedVerdict
 returns-4 c =
     let called = c .before .before .before .before in
     let start = called .before .before .before .before .before .before .before .before .before .before in
-    let enough : zeros (start .args .clauses .now) ≤ length (start .args .starts .now) = omega (arith, called .before .before .before .if2 .left, start .pre .1) in
-    rw (within-at (called .before .before .before .before .before), le-leb 8200 (length (start .args .scratch .now)) (called .before .before .before .before .if1 .left), le-leb (zeros (start .args .clauses .now)) (length (start .args .starts .now)) enough, ← start .pre .1)
+    let enough : zeros (start .args .clauses .now) ≤ length (start .args .offsets .now) = omega (arith, called .before .before .before .if2 .left, start .pre .1) in
+    rw (within-at (called .before .before .before .before .before), le-leb 8200 (length (start .args .scratch .now)) (called .before .before .before .before .if1 .left), le-leb (zeros (start .args .clauses .now)) (length (start .args .offsets .now)) enough, ← start .pre .1)
     (called .judge-steps .ensures)
 
 pub judge-sized-spec : {M : Type 1} → statement M
@@ -57,9 +56,12 @@ judge-sized-spec =
     (tie.spec
     (λ c κs. search needs)
     (λ c. search needs)
+    (λ c κs. search needs)
     (λ c. search needs)
+    (λ c κs. search needs)
     returns
     (λ c. search needs)
+    (λ c κs. search needs)
     returns-2
     judge-steps-requires
     returns-3

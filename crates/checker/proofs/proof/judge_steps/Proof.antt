@@ -1,38 +1,42 @@
--- `judge_steps`: the scratch is made ready, the starts are filled, the run is concluded. Assumes nothing.
+-- `judge_steps`: the scratch is made ready, the offsets are filled, the run is concluded. Assumes nothing.
 use mathlib.Core.Path.{_≡_, sym, _∙_}
 use mathlib.Core.List.{_++_}
 use native.Mathlib.Omega.{arith}
 use lib.ListN.{length, take, drop}
 use Rattle.formula.specs.Decode.{clausesOf}
-use Rattle.formula.specs.Tables.Laws.{admitted-clauses-length, admitted-closed}
+use Rattle.formula.specs.Tables.Laws.{admitted-entries, admitted-clauses-length, admitted-closed}
 use borrow.Author.Needs.{needs}
 use Rattle.checker.specs.declared.run.Run.the-variants.{Ended}
-use Rattle.checker.specs.Stepping.{Ready}
+use Rattle.checker.specs.Step.{Ready}
 use Rattle.checker.specs.Running.{RunDone}
-use Rattle.checker.specs.Verdict.Parts.{cleared-whole, made-ready}
+use Rattle.checker.specs.Verdict.Parts.{made-ready}
 use Rattle.checker.proofs.proof.judge_steps.Statement.{statement}
 use Rattle.checker.proofs.proof.judge_steps.Tie as tie
 
 -- the scratch before the run
-ready-at : (c : tie.After-fill-starts) → Ready (c .before .before .before .before .before .before .before .before .before .before .before .before .args .prefix .now) (take 8200 (take 7175 (c .before .before .before .before .before .before .before .before .clear-bytes .last .0) ++ (c .before .before .before .before .fill-kinds .last .1 .0 ++ drop 1025 (drop 7175 (c .before .before .before .before .before .before .before .before .clear-bytes .last .0)))))
+ready-at : (c : tie.After-fill-offsets) → Ready (c .before .before .before .before .before .before .before .before .before .before .before .before .before .before .before .args .prefix .now) (take 8200 (take 7175 (c .before .before .before .before .before .before .before .before .before .before .clear-lent .last .0) ++ (c .before .before .before .before .fill-kinds .last .1 .0 ++ drop 1025 (drop 7175 (c .before .before .before .before .before .before .before .before .before .before .clear-lent .last .0)))))
 ready-at c =
-    let start = c .before .before .before .before .before .before .before .before .before .before .before .before in
-    made-ready (start .args .prefix .now) (start .args .scratch .now) (c .before .before .before .before .before .before .before .before .clear-bytes .last .0) (c .before .before .before .before .fill-kinds .last .1 .0) (start .pre .1 .1 .1 .0) (c .before .before .before .before .before .before .before .before .clear-bytes .ensures ∙ cleared-whole (start .args .scratch .now)) (c .before .before .before .before .fill-kinds .ensures)
+    let start = c .before .before .before .before .before .before .before .before .before .before .before .before .before .before .before in
+    let cleared = c .before .before .before .before .before .before .before .before .before .before in
+    made-ready (start .args .prefix .now) (start .args .scratch .now) (cleared .clear-lent .last .0) (c .before .before .before .before .fill-kinds .last .1 .0) (start .pre .1 .1 .1 .0) (cleared .clear-lent .ensures .0) (c .before .before .before .before .fill-kinds .ensures)
 
--- the starts keep their length
-room-at : (c : tie.After-run-steps) → length (c .run-steps .last .1 .1 .1 .1 .1 .0) ≡ length (c .before .before .before .before .before .before .before .before .before .before .before .before .before .before .before .before .before .args .starts .now)
-room-at c = c .run-steps .kept .1 .1 .1 .1 .1 .0 ∙ c .before .before .before .before .before .fill-starts .kept .1 .0
+-- the offsets keep their length
+room-at : (c : tie.After-run-steps) → length (c .run-steps .last .1 .1 .1 .1 .1 .0) ≡ length (c .before .before .before .before .before .before .before .before .before .before .before .before .before .before .before .before .before .before .before .before .args .offsets .now)
+room-at c = c .run-steps .kept .1 .1 .1 .1 .1 .0 ∙ c .before .before .before .before .before .fill-offsets .kept .1 .0 ∙ c .before .before .before .before .before .before .before .before .before .before .before .before .before .before .before .clear-lent .kept .1 .0
 
 -- the run ended
-ended-at : (c : tie.After-known-told2) → RunDone (c .before .before .before .before .before .before .before .before .before .before .before .before .before .before .before .before .before .before .before .before .before .before .before .before .args .prefix .now) (c .before .before .before .before .before .before .before .before .before .before .before .before .before .before .before .before .before .before .before .before .before .before .before .before .args .clauses .now) (c .before .before .before .before .before .before .before .before .before .before .before .before .before .before .before .before .before .before .before .before .before .before .before .before .args .steps .now) (c .before .before .before .before .before .before .before .before .before .before .before .before .before .before .before .before .before .before .before .before .before .before .before .before .args .inputs) (Ended (c .before .known .given .0 .0)) (c .before .before .before .before .before .before .before .run-steps .last .1 .1 .1 .1 .1 .0)
-ended-at c = rw (c .before .known .given .1) at (c .before .before .before .before .before .before .before .run-steps .ensures)
+ended-at : (c : tie.After-known-told2) → let start = c .before .before .before .before .before .before .before .before .before .before .before .before .before .before .before .before .before .before .before .before .before .before .before .before .before .before .before in RunDone (start .args .prefix .now) (start .args .clauses .now) (start .args .steps .now) (start .args .inputs) (Ended (c .before .numbered .given .0 .0)) (c .before .before .before .before .before .before .before .run-steps .last .1 .1 .1 .1 .1 .0)
+ended-at c = rw (c .before .numbered .given .1) at (c .before .before .before .before .before .before .before .run-steps .ensures)
 
-fill-starts-requires : tie.Need-fill-starts-requires
-fill-starts-requires c κs =
-    let start = c .before .before .before .before .before .before .before .before .before .before .before in
+fill-kinds-requires : tie.Need-fill-kinds-requires
+fill-kinds-requires c κs = let start = c .before .before .before .before .before .before .before .before .before .before in (admitted-entries (start .args .prefix .now) (start .args .clauses .now) (start .pre .0), search needs)
+
+fill-offsets-requires : tie.Need-fill-offsets-requires
+fill-offsets-requires c κs =
+    let start = c .before .before .before .before .before .before .before .before .before .before .before .before .before .before in
     let prefix = start .args .prefix .now in
     let clauses = start .args .clauses .now in
-    (admitted-clauses-length prefix clauses (start .pre .0), omega (arith, admitted-closed prefix clauses (start .pre .0), start .pre .1 .0, start .pre .1 .1 .1 .1))
+    (admitted-clauses-length prefix clauses (start .pre .0), omega (arith, admitted-closed prefix clauses (start .pre .0), start .pre .1 .0, start .pre .1 .1 .1 .1, c .before .before .before .before .before .before .before .before .before .clear-lent .kept .1 .0))
 
 slice-aggregate-run-steps : tie.Need-slice-aggregate-run-steps
 slice-aggregate-run-steps c = sym (ready-at (c .before .before .before) .size)
@@ -40,7 +44,7 @@ slice-aggregate-run-steps c = sym (ready-at (c .before .before .before) .size)
 run-steps-requires : tie.Need-run-steps-requires
 run-steps-requires c κs =
     let filled = c .before .before .before .before in
-    let start = filled .before .before .before .before .before .before .before .before .before .before .before .before in
+    let start = filled .before .before .before .before .before .before .before .before .before .before .before .before .before .before .before in
     let prefix = start .args .prefix .now in
     let clauses = start .args .clauses .now in
     let count : length (clausesOf clauses) ≡ start .args .inputs = admitted-closed prefix clauses (start .pre .0) ∙ sym (start .pre .1 .0) in (
@@ -50,8 +54,8 @@ run-steps-requires c κs =
         (
           start .pre .1 .1 .0,
           (
-            omega (arith, filled .fill-starts .kept .1 .0, start .pre .1 .1 .1 .1),
-            rw count at (filled .fill-starts .ensures .input-clauses (start .args .steps .now)),
+            omega (arith, filled .fill-offsets .kept .1 .0, filled .before .before .before .before .before .before .before .before .before .before .clear-lent .kept .1 .0, start .pre .1 .1 .1 .1),
+            rw count at (filled .fill-offsets .ensures .input-clauses (start .args .steps .now)),
           ),
         ),
       ),
@@ -65,8 +69,6 @@ conclude-run-requires c κs =
 returns : tie.Need-returns
 returns c =
     let ran = c .before .before .before .before .before .before .before in
-    let start = ran .before .before .before .before .before .before .before .before .before .before .before .before .before .before .before .before .before in
-    let e = sym (c .before .refusal .given .1) in
     let outcome = rw (room-at ran, c .before .refusal .given .1) at (ran .run-steps .ensures .outcome) in
     rw outcome
 
@@ -85,8 +87,8 @@ judge-steps-spec =
     (λ c. search needs)
     (λ c. search needs)
     (λ c. search needs)
-    (λ c κs. search needs)
-    fill-starts-requires
+    fill-kinds-requires
+    fill-offsets-requires
     (λ c. search needs)
     slice-aggregate-run-steps
     run-steps-requires

@@ -5,9 +5,6 @@ use Rattle.checker.proofs.Signed.{read-number}
 use Rattle.checker.proofs.read.kind_of.Statement.{statement}
 use Rattle.checker.proofs.read.kind_of.Tie as tie
 
-same-requires : tie.Need-same-requires
-same-requires c κs = search needs
-
 returns : tie.Need-returns
 returns c =
     let start = c .before .before in
@@ -29,4 +26,4 @@ returns-3 c =
     (read-number (start .args .word) 2 (start .fits .word) (c .before .same2 .ensures) (c .if2 .left))
 
 pub kind-of-spec : {M : Type 1} → statement M
-kind-of-spec = tie.close (tie.spec same-requires returns same-requires-2 returns-2 returns-3)
+kind-of-spec = tie.close (tie.spec (λ c κs. search needs) returns same-requires-2 returns-2 returns-3)

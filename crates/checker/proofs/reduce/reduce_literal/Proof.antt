@@ -8,21 +8,21 @@ use Rattle.formula.specs.Word.{wordOf}
 use Rattle.formula.specs.declared.literal.VariableFit.the-variants.{Within}
 use borrow.Author.Needs.{needs}
 use Rattle.checker.specs.Words.{holds}
-use Rattle.checker.specs.Words.Places.{clauseAt}
+use Rattle.formula.specs.Decode.{clauseAt}
 use Rattle.checker.specs.Kinds.{universalOf}
 use Rattle.checker.specs.Kinds.Laws.{universal-found}
-use Rattle.checker.specs.Stepping.{kindsIn}
-use Rattle.checker.specs.Stepping.Laws.{ready-clean, ready-kinds}
+use Rattle.checker.specs.Step.{kindsIn}
+use Rattle.checker.specs.Step.Laws.{ready-clean, ready-kinds}
 use Rattle.checker.proofs.reduce.reduce_literal.Statement.{statement}
 use Rattle.checker.proofs.reduce.reduce_literal.Tie as tie
 
 -- what the reduced literal was found to be, and whether the clause holds it
-fit-at : (c : tie.After-universal-of) → c .universal-of .result ≡ universalOf (kindsIn (c .before .before .before .before .before .args .scratch .now)) (wordOf (c .before .before .before .before .before .args .literal .0))
+fit-at : (c : tie.After-variable-of) → c .variable-of .result ≡ universalOf (kindsIn (c .before .before .before .before .before .args .scratch .now)) (wordOf (c .before .before .before .before .before .args .literal .0))
 fit-at c =
     let start = c .before .before .before .before .before in
     let word = start .args .literal .0 in
     let e : toZ w32 (ofZ w32 word) ≡ word = search needs in
-    rw e at (c .universal-of .ensures)
+    rw e at (c .variable-of .ensures)
 
 held-at : (c : tie.After-has-word) → c .has-word .result ≡ holds (c .before .before .before .before .before .before .before .before .before .args .literal .0) (clauseAt (c .before .before .before .before .before .before .before .before .before .args .words .now) (c .before .before .before .before .before .before .before .before .before .args .from))
 held-at c =

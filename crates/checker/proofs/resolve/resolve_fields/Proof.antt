@@ -1,8 +1,6 @@
 -- `resolve_fields` looks up the pivot's kind and lends the marks. Assumes nothing.
-use Prim.Native.Nat.{_+_}
 use mathlib.Core.Path.{_≡_, refl, ap, sym, _∙_}
-use lib.ListN.{getD, drop}
-use lib.IntN.{pos}
+use lib.ListN.{drop}
 use mir.Syntax.{w32}
 use mir.Val.{toZ, ofZ}
 use Rattle.formula.specs.Word.{wordOf}
@@ -10,25 +8,24 @@ use Rattle.formula.specs.declared.literal.VariableFit.the-variants.{Within}
 use borrow.Author.Needs.{needs}
 use Rattle.checker.specs.Kinds.{existentialOf}
 use Rattle.checker.specs.Kinds.Laws.{existential-bound}
-use Rattle.checker.specs.Stepping.{kindsIn}
-use Rattle.checker.specs.Stepping.Laws.{part-back}
-use Rattle.checker.proofs.Signed.{read-back}
+use Rattle.checker.specs.Step.{kindsIn}
+use Rattle.checker.specs.Step.Laws.{part-back}
 use Rattle.checker.proofs.resolve.resolve_fields.Statement.{statement}
 use Rattle.checker.proofs.resolve.resolve_fields.Tie as tie
 
 -- what the pivot's word was found to be
-fit-at : (c : tie.After-existential-of) → c .existential-of .result ≡ existentialOf (kindsIn (c .before .before .before .before .before .before .args .scratch .now)) (wordOf (getD (c .before .before .before .before .before .before .args .steps .now) (c .before .before .before .before .before .before .args .at + 3) (pos 0)))
+fit-at : (c : tie.After-variable-of) → c .variable-of .result ≡ existentialOf (kindsIn (c .before .before .before .before .before .before .args .scratch .now)) (wordOf (c .before .before .before .before .before .before .args .step .pivot))
 fit-at c =
     let start = c .before .before .before .before .before .before in
-    let word = getD (start .args .steps .now) (start .args .at + 3) (pos 0) in
-    let e : toZ w32 (ofZ w32 word) ≡ word = read-back word (c .before .before .before .word .given) in
-    rw e at (c .existential-of .ensures)
+    let word = start .args .step .pivot in
+    let e : toZ w32 (ofZ w32 word) ≡ word = search needs in
+    rw e at (c .variable-of .ensures)
 
 resolve-numbered-requires : tie.Need-resolve-numbered-requires
 resolve-numbered-requires c κs =
     let start = c .before .before .before .before .before .before .before .before .before .before in
     let fit = sym (c .before .before .pivot .given .1) ∙ fit-at (c .before .before .before .before) in
-    (start .pre .0 .marks, (existential-bound _ _ (c .before .before .pivot .given .0 .0) fit, start .pre .1 .1))
+    (start .pre .0 .marks, (existential-bound _ _ (c .before .before .pivot .given .0 .0) fit, start .pre .1))
 
 returns : tie.Need-returns
 returns c =
@@ -40,7 +37,7 @@ returns-2 c =
     let called = c .before .before in
     let found = called .before .before .before .before .before in
     let start = found .before .before .before .before .before .before in
-    let fit : Within (called .before .before .before .pivot .given .0 .0) ≡ existentialOf (kindsIn (start .args .scratch .now)) (wordOf (getD (start .args .steps .now) (start .args .at + 3) (pos 0))) = sym (called .before .before .before .pivot .given .1) ∙ fit-at found in
+    let fit : Within (called .before .before .before .pivot .given .0 .0) ≡ existentialOf (kindsIn (start .args .scratch .now)) (wordOf (start .args .step .pivot)) = sym (called .before .before .before .pivot .given .1) ∙ fit-at found in
     let judged = called .resolve-numbered .ensures in
     rw (← fit)
     (record {
@@ -55,11 +52,7 @@ resolve-fields-spec =
     (λ c. search needs)
     (λ c. search needs)
     (λ c. search needs)
-    (λ c. search needs)
-    (λ c. search needs)
-    (λ c. search needs)
     (λ c κs. search needs)
-    (λ c. search needs)
     (λ c. search needs)
     (λ c. search needs)
     (λ c. search needs)

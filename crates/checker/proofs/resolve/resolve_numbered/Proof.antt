@@ -2,36 +2,33 @@
 use Prim.Native.Nat.{_-_}
 use mathlib.Core.Path.{_≡_, ap₂, sym, _∙_}
 use borrow.Author.Needs.{needs}
-use Rattle.checker.specs.Words.Places.{clauseAt}
+use Rattle.formula.specs.Decode.{clauseAt}
 use Rattle.checker.specs.Numbered.{storedAt}
-use Rattle.checker.specs.Stepping.Laws.{stored-by-number}
+use Rattle.checker.specs.Step.Laws.{stored-by-number}
 use Rattle.checker.proofs.resolve.resolve_numbered.Statement.{statement}
 use Rattle.checker.proofs.resolve.resolve_numbered.Tie as tie
-
-table-of-requires : tie.Need-table-of-requires
-table-of-requires c κs = search needs
 
 table-of-requires-2 : tie.Need-table-of-requires-2
 table-of-requires-2 c κs = search needs
 
-start-of-requires : tie.Need-start-of-requires
-start-of-requires c κs = let p = c .before .before .before .before .pre in (p .1 .1 .0, p .1 .1 .1 .0)
+place-of-requires : tie.Need-place-of-requires
+place-of-requires c κs = let p = c .before .before .before .before .pre in (p .1 .1 .0, p .1 .1 .1 .0)
 
-start-of-requires-2 : tie.Need-start-of-requires-2
-start-of-requires-2 c κs = let p = c .before .before .before .before .before .pre in (p .1 .1 .1 .1 .0, p .1 .1 .1 .1 .1 .0)
+place-of-requires-2 : tie.Need-place-of-requires-2
+place-of-requires-2 c κs = let p = c .before .before .before .before .before .pre in (p .1 .1 .1 .1 .0, p .1 .1 .1 .1 .1 .0)
 
 -- the clauses that were found
-left-at : (c : tie.After-start-of2) → clauseAt (c .before .before .before .table-of .result .now) (c .before .start-of .result) ≡ storedAt (c .before .before .before .before .before .before .args .inputs) (c .before .before .before .before .before .before .args .clauses .now) (c .before .before .before .before .before .before .args .steps .now) (c .before .before .before .before .before .before .args .starts .now) (c .before .before .before .before .before .before .args .left .0 - 1)
+left-at : (c : tie.After-place-of2) → clauseAt (c .before .before .before .table-of .result .now) (c .before .place-of .result) ≡ storedAt (c .before .before .before .before .before .before .args .inputs) (c .before .before .before .before .before .before .args .clauses .now) (c .before .before .before .before .before .before .args .steps .now) (c .before .before .before .before .before .before .args .offsets .now) (c .before .before .before .before .before .before .args .left .0 - 1)
 left-at c =
     let start = c .before .before .before .before .before .before in
-    ap₂ clauseAt (c .before .before .before .table-of .ensures) (c .before .start-of .ensures)
-    ∙ sym (stored-by-number (start .args .inputs) (start .args .clauses .now) (start .args .steps .now) (start .args .starts .now) (start .args .left .0) (start .pre .1 .1 .0))
+    ap₂ clauseAt (c .before .before .before .table-of .ensures) (c .before .place-of .ensures)
+    ∙ sym (stored-by-number (start .args .inputs) (start .args .clauses .now) (start .args .steps .now) (start .args .offsets .now) (start .args .left .0) (start .pre .1 .1 .0))
 
-right-at : (c : tie.After-start-of2) → clauseAt (c .before .before .table-of2 .result .now) (c .start-of2 .result) ≡ storedAt (c .before .before .before .before .before .before .args .inputs) (c .before .before .before .before .before .before .args .clauses .now) (c .before .before .before .before .before .before .args .steps .now) (c .before .before .before .before .before .before .args .starts .now) (c .before .before .before .before .before .before .args .right .0 - 1)
+right-at : (c : tie.After-place-of2) → clauseAt (c .before .before .table-of2 .result .now) (c .place-of2 .result) ≡ storedAt (c .before .before .before .before .before .before .args .inputs) (c .before .before .before .before .before .before .args .clauses .now) (c .before .before .before .before .before .before .args .steps .now) (c .before .before .before .before .before .before .args .offsets .now) (c .before .before .before .before .before .before .args .right .0 - 1)
 right-at c =
     let start = c .before .before .before .before .before .before in
-    ap₂ clauseAt (c .before .before .table-of2 .ensures) (c .start-of2 .ensures)
-    ∙ sym (stored-by-number (start .args .inputs) (start .args .clauses .now) (start .args .steps .now) (start .args .starts .now) (start .args .right .0) (start .pre .1 .1 .1 .1 .0))
+    ap₂ clauseAt (c .before .before .table-of2 .ensures) (c .place-of2 .ensures)
+    ∙ sym (stored-by-number (start .args .inputs) (start .args .clauses .now) (start .args .steps .now) (start .args .offsets .now) (start .args .right .0) (start .pre .1 .1 .1 .1 .0))
 
 resolve-on-requires : tie.Need-resolve-on-requires
 resolve-on-requires c κs =
@@ -49,4 +46,4 @@ returns c =
 pub resolve-numbered-spec : {M : Type 1} → statement M
 resolve-numbered-spec =
     tie.close
-    (tie.spec table-of-requires table-of-requires-2 start-of-requires start-of-requires-2 resolve-on-requires same-length returns)
+    (tie.spec (λ c κs. search needs) table-of-requires-2 place-of-requires place-of-requires-2 resolve-on-requires same-length returns)

@@ -6,7 +6,7 @@ use mir.Syntax.{w32}
 use mir.Val.{toZ, ofZ}
 use mir.Facts.{toZ-ofZ}
 use Rattle.checker.specs.Words.{holds}
-use Rattle.checker.specs.Words.Places.{clauseAt}
+use Rattle.formula.specs.Decode.{clauseAt}
 use Rattle.checker.proofs.Signed.{pivot-word, opposite-word-fits}
 use Rattle.checker.proofs.resolve.resolve_on.Statement.{statement}
 use Rattle.checker.proofs.resolve.resolve_on.Tie as tie

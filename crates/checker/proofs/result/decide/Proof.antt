@@ -3,7 +3,7 @@ use mathlib.Core.Path.{_≡_, refl}
 use mathlib.Core.Bool.{Bool, true, false}
 use Rattle.formula.specs.declared.refusal.Reason.the-variants.{Misstated}
 use Rattle.checker.specs.declared.result.Judgement.the-variants.{Wrong}
-use Rattle.checker.specs.Judgements.{decided}
+use Rattle.checker.specs.Result.{decided}
 use Rattle.checker.proofs.result.decide.Statement.{statement}
 use Rattle.checker.proofs.result.decide.Tie as tie
 

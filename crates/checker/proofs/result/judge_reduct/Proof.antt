@@ -4,10 +4,10 @@ use borrow.Author.Needs.{needs}
 use mir.Syntax.{w32}
 use mir.Val.{toZ, ofZ}
 use Rattle.checker.specs.Words.{without}
-use Rattle.checker.specs.Words.Places.{clauseAt}
+use Rattle.formula.specs.Decode.{clauseAt}
 use Rattle.checker.specs.Marks.{Marked, Wiped}
 use Rattle.checker.specs.Marks.Judging.{clean-length}
-use Rattle.checker.specs.Judgements.Laws.{without-in-range, judged-statement}
+use Rattle.checker.specs.Result.Laws.{without-in-range, judged-statement}
 use Rattle.checker.proofs.result.judge_reduct.Statement.{statement}
 use Rattle.checker.proofs.result.judge_reduct.Tie as tie
 
@@ -24,9 +24,6 @@ wipe-requires c κs =
     let called = c .before .before .before in
     called .tick .kept .1 .1 .0 ∙ tick-requires (called .before) κs
 
-decide-requires : tie.Need-decide-requires
-decide-requires c κs = search needs
-
 same-length : tie.Need-same-length
 same-length c = search needs
 
@@ -41,7 +38,7 @@ returns c =
     let C = clauseAt (start .args .words .now) (start .args .from) in
     let h : Marked (start .args .marks .now) (without a C) (marked .mark .result) (marked .mark .last .1 .1 .1 .0) = rw e at (marked .mark .ensures) in
     let l : Wiped (ticked .tick .last .1 .1 .0) (without a C) (wiped .wipe .result) (wiped .wipe .last .1 .1 .1 .0) = rw e at (wiped .wipe .ensures) in
-    judged-statement (without a C) (clauseAt (start .args .steps .now) (start .args .list)) (without-in-range a C (start .pre .1)) (marked .mark .result) (ticked .tick .result) (wiped .wipe .result) (start .args .marks .now) _ _ _ (start .pre .0) h (ticked .tick .ensures) l (c .decide .result) (c .decide .ensures)
+    judged-statement (without a C) (clauseAt (start .args .steps .now) (start .args .statement)) (without-in-range a C (start .pre .1)) (marked .mark .result) (ticked .tick .result) (wiped .wipe .result) (start .args .marks .now) _ _ _ (start .pre .0) h (ticked .tick .ensures) l (c .decide .result) (c .decide .ensures)
 
 pub judge-reduct-spec : {M : Type 1} → statement M
-judge-reduct-spec = tie.close (tie.spec mark-requires tick-requires wipe-requires decide-requires same-length returns)
+judge-reduct-spec = tie.close (tie.spec mark-requires tick-requires wipe-requires (λ c κs. search needs) same-length returns)

@@ -2,10 +2,10 @@
 use mathlib.Core.Path.{_∙_}
 use borrow.Author.Needs.{needs}
 use lib.IntN.{pos}
-use Rattle.checker.specs.Words.Places.{clauseAt}
+use Rattle.formula.specs.Decode.{clauseAt}
 use Rattle.checker.specs.Steps.{resolvent}
 use Rattle.checker.specs.Marks.Judging.{clean-length}
-use Rattle.checker.specs.Judgements.Laws.{resolvent-in-range, judged-result}
+use Rattle.checker.specs.Result.Laws.{resolvent-in-range, judged-result}
 use Rattle.checker.proofs.result.judge_resolvent.Statement.{statement}
 use Rattle.checker.proofs.result.judge_resolvent.Tie as tie
 
@@ -24,9 +24,6 @@ wipe-both-requires c κs =
     let start = marked .before .before .before in
     (ticked .tick .kept .1 .1 .0 ∙ marked .mark-both .kept .1 .1 .1 .1 .1 .0 ∙ clean-length (start .pre .0), start .pre .1 .0)
 
-decide-requires : tie.Need-decide-requires
-decide-requires c κs = search needs
-
 same-length : tie.Need-same-length
 same-length c = search needs
 
@@ -39,7 +36,7 @@ returns c =
     let e = pos (start .args .pivot .0) in
     let C = clauseAt (start .args .left .now) (start .args .from) in
     let D = clauseAt (start .args .right .now) (start .args .start) in
-    judged-result (resolvent e C D) (clauseAt (start .args .steps .now) (start .args .list)) (resolvent-in-range e C D (start .pre .1 .1 .0) (start .pre .1 .1 .1)) (marked .mark-both .result) (ticked .tick .result) (wiped .wipe-both .result) (start .args .marks .now) _ _ _ (start .pre .0) (marked .mark-both .ensures) (ticked .tick .ensures) (wiped .wipe-both .ensures) (c .decide .result) (c .decide .ensures)
+    judged-result (resolvent e C D) (clauseAt (start .args .steps .now) (start .args .statement)) (resolvent-in-range e C D (start .pre .1 .1 .0) (start .pre .1 .1 .1)) (marked .mark-both .result) (ticked .tick .result) (wiped .wipe-both .result) (start .args .marks .now) _ _ _ (start .pre .0) (marked .mark-both .ensures) (ticked .tick .ensures) (wiped .wipe-both .ensures) (c .decide .result) (c .decide .ensures)
 
 pub judge-resolvent-spec : {M : Type 1} → statement M
-judge-resolvent-spec = tie.close (tie.spec mark-both-requires tick-requires wipe-both-requires decide-requires same-length returns)
+judge-resolvent-spec = tie.close (tie.spec mark-both-requires tick-requires wipe-both-requires (λ c κs. search needs) same-length returns)

@@ -6,9 +6,9 @@ use mir.Syntax.{w32}
 use mir.Val.{toZ, ofZ}
 use mir.Facts.{toZ-ofZ}
 use Rattle.checker.specs.Words.{without}
-use Rattle.checker.specs.Words.Places.{clauseAt}
+use Rattle.formula.specs.Decode.{clauseAt}
 use Rattle.checker.specs.Marks.{Marked}
-use Rattle.checker.specs.Judgements.Laws.{both-marked}
+use Rattle.checker.specs.Result.Laws.{both-marked}
 use Rattle.checker.proofs.Signed.{pivot-word, opposite-word-fits}
 use Rattle.checker.proofs.result.mark_both.Statement.{statement}
 use Rattle.checker.proofs.result.mark_both.Tie as tie

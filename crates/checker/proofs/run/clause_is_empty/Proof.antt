@@ -5,14 +5,12 @@ use borrow.Author.Needs.{needs}
 use lib.ListN.{getD}
 use lib.IntN.{ℤ, pos}
 use Rattle.checker.specs.Words.{isZero}
-use Rattle.checker.specs.Words.Places.{clauseAt, clause-past, clause-zero, clause-literal}
+use Rattle.formula.specs.Decode.{clauseAt}
+use Rattle.formula.specs.Decode.Places.{clause-past, clause-zero, clause-literal}
 use Rattle.checker.specs.Running.{isEmpty}
 use Rattle.checker.proofs.Signed.{read-zero}
 use Rattle.checker.proofs.run.clause_is_empty.Statement.{statement}
 use Rattle.checker.proofs.run.clause_is_empty.Tie as tie
-
-mul-word : tie.Need-mul-word
-mul-word c = search needs
 
 shared-slice-copy-out-word : tie.Need-shared-slice-copy-out-word
 shared-slice-copy-out-word c = search needs
@@ -34,4 +32,4 @@ returns-2 : tie.Need-returns-2
 returns-2 c = sym (ap isEmpty (clause-past (c .before .args .words .now) (c .before .args .from) (c .if1 .left)))
 
 pub clause-is-empty-spec : {M : Type 1} → statement M
-clause-is-empty-spec = tie.close (tie.spec mul-word shared-slice-copy-out-word is-zero-requires returns returns-2)
+clause-is-empty-spec = tie.close (tie.spec (λ c. search needs) shared-slice-copy-out-word is-zero-requires returns returns-2)

@@ -12,16 +12,16 @@ use Rattle.checker.proofs.run.run_steps.Statement.{statement}
 use Rattle.checker.proofs.run.run_steps.Tie as tie
 
 abbrev Inv-loop : tie.InvT-loop
-Inv-loop prefix clauses steps inputs scratch₀ starts₀ known₀ at₀ scratch starts known at =
-    Going prefix clauses steps inputs (length starts₀) scratch starts known at × (length scratch ≡ length scratch₀)
+Inv-loop prefix clauses steps inputs scratch₀ offsets₀ numbered₀ at₀ scratch offsets numbered at =
+    Going prefix clauses steps inputs (length offsets₀) scratch offsets numbered at × (length scratch ≡ length scratch₀)
 
 abbrev μ-loop : tie.MeasureT-loop
-μ-loop prefix clauses steps inputs scratch₀ starts₀ known₀ at₀ scratch starts known at = length steps - at
+μ-loop prefix clauses steps inputs scratch₀ offsets₀ numbered₀ at₀ scratch offsets numbered at = length steps - at
 
 loop-holds : tie.Need-loop-holds Inv-loop μ-loop
 loop-holds c =
     let start = c .before .before in
-    (going-begins (start .args .prefix .now) (start .args .clauses .now) (start .args .steps .now) (start .args .inputs) (start .args .scratch .now) (start .args .starts .now) (start .pre .0) (start .pre .1 .0) (start .pre .1 .1 .1 .0) (start .pre .1 .1 .1 .1), refl)
+    (going-begins (start .args .prefix .now) (start .args .clauses .now) (start .args .steps .now) (start .args .inputs) (start .args .scratch .now) (start .args .offsets .now) (start .pre .0) (start .pre .1 .0) (start .pre .1 .1 .1 .0) (start .pre .1 .1 .1 .1), refl)
 
 check-step-requires : tie.Need-check-step-requires Inv-loop μ-loop
 check-step-requires c κs =
@@ -30,59 +30,51 @@ check-step-requires c κs =
     let g = l .inv .0 in
     (g .ready, (start .pre .1 .0, (c .before .before .loop-test .taken, (omega (arith, g .fits, g .room-is), g .in-range))))
 
-add-t19 : tie.Need-add-t19 Inv-loop μ-loop
-add-t19 c =
-    let l = c .before .before .before .before .before .before .before .before .before .loop in
-    let start = c .before .before .before .before .before .before .before .before .before .before .before .before in
-    let f = l .inv .0 .fits in
-    let g = start .good .1 .1 .1 .1 .1 .0 .1 in
-    omega arith
-
 same-length : tie.Need-same-length Inv-loop μ-loop
 same-length c =
-    let called = c .before .before .before .before .before in
+    let called = c .before .before .before .before .before .before in
     called .check-step .kept .1 .1 .1 .1 .1 .1 .1 .0 ∙ called .before .before .before .before .loop .inv .1
 
 same-length-2 : tie.Need-same-length-2 Inv-loop μ-loop
-same-length-2 c = c .before .before .before .before .before .before .before .before .before .loop .inv .0 .room-is
+same-length-2 c = c .before .before .before .before .before .before .before .before .before .before .loop .inv .0 .room-is
 
 returns : tie.Need-returns Inv-loop μ-loop
 returns c =
-    let called = c .before .before .before .before .before in
+    let called = c .before .before .before .before .before .before in
     let at = called .before .before .before .before in
     let start = at .before .before .before in
-    going-refused (start .args .prefix .now) (start .args .clauses .now) (start .args .steps .now) (start .args .inputs) (length (start .args .starts .now)) (at .loop .scratch) (at .loop .starts) (at .loop .known) (at .loop .at) (at .loop .inv .0) (c .before .reason .given .0 .0) (called .before .before .before .loop-test .taken) (sym (c .before .reason .given .1) ∙ called .check-step .ensures .answer)
+    rw (c .new .ensures) (going-refused (start .args .prefix .now) (start .args .clauses .now) (start .args .steps .now) (start .args .inputs) (length (start .args .offsets .now)) (at .loop .scratch) (at .loop .offsets) (at .loop .numbered) (at .loop .at) (at .loop .inv .0) (c .before .before .reason .given .0 .0) (called .before .before .before .loop-test .taken) (sym (c .before .before .reason .given .1) ∙ called .check-step .ensures .answer))
 
 -- the step that was taken
-taken-at : (c : tie.After-known-told2 Inv-loop μ-loop) → Taken (scopeOf (c .before .before .before .before .before .before .before .before .before .before .before .before .args .prefix .now) (c .before .before .before .before .before .before .before .before .before .before .before .before .args .clauses .now)) (length (c .before .before .before .before .before .before .before .before .before .loop .starts)) (stored (c .before .before .before .before .before .before .before .before .before .before .before .before .args .inputs) (c .before .before .before .before .before .before .before .before .before .before .before .before .args .clauses .now) (c .before .before .before .before .before .before .before .before .before .before .before .before .args .steps .now) (c .before .before .before .before .before .before .before .before .before .loop .starts) (c .before .before .before .before .before .before .before .before .before .loop .known)) (c .before .before .before .before .before .before .before .before .before .before .before .before .args .steps .now) (c .before .before .before .before .before .before .before .before .before .loop .at) (c .before .list .given .0 .0) (c .before .list .given .0 .1 .0)
+taken-at : (c : tie.After-known-told2 Inv-loop μ-loop) → Taken (scopeOf (c .before .before .before .before .before .before .before .before .before .before .before .before .args .prefix .now) (c .before .before .before .before .before .before .before .before .before .before .before .before .args .clauses .now)) (length (c .before .before .before .before .before .before .before .before .before .loop .offsets)) (stored (c .before .before .before .before .before .before .before .before .before .before .before .before .args .inputs) (c .before .before .before .before .before .before .before .before .before .before .before .before .args .clauses .now) (c .before .before .before .before .before .before .before .before .before .before .before .before .args .steps .now) (c .before .before .before .before .before .before .before .before .before .loop .offsets) (c .before .before .before .before .before .before .before .before .before .loop .numbered)) (c .before .before .before .before .before .before .before .before .before .before .before .before .args .steps .now) (c .before .before .before .before .before .before .before .before .before .loop .at) (c .before .next .given .0 .0)
 taken-at c =
     let called = c .before .before .before .before .before in
     let at = called .before .before .before .before in
     let start = at .before .before .before in
-    right-taken (scopeOf (start .args .prefix .now) (start .args .clauses .now)) (length (at .loop .starts)) (stored (start .args .inputs) (start .args .clauses .now) (start .args .steps .now) (at .loop .starts) (at .loop .known)) (start .args .steps .now) (at .loop .at) (called .before .before .before .loop-test .taken) (c .before .list .given .0 .0) (c .before .list .given .0 .1 .0) (sym (c .before .list .given .1) ∙ called .check-step .ensures .answer)
+    right-taken (scopeOf (start .args .prefix .now) (start .args .clauses .now)) (length (at .loop .offsets)) (stored (start .args .inputs) (start .args .clauses .now) (start .args .steps .now) (at .loop .offsets) (at .loop .numbered)) (start .args .steps .now) (at .loop .at) (called .before .before .before .loop-test .taken) (c .before .next .given .0 .0) (sym (c .before .next .given .1) ∙ called .check-step .ensures .answer)
 
-room-at : (c : tie.After-known-told2 Inv-loop μ-loop) → c .before .before .before .before .before .before .before .before .before .loop .known < length (c .before .before .before .before .before .before .before .before .before .loop .starts)
+room-at : (c : tie.After-known-told2 Inv-loop μ-loop) → c .before .before .before .before .before .before .before .before .before .loop .numbered < length (c .before .before .before .before .before .before .before .before .before .loop .offsets)
 room-at c =
     let at = c .before .before .before .before .before .before .before .before .before in
     let start = at .before .before .before in
     let f = taken-at c .fits in
-    omega (arith, f, stored-length (start .args .inputs) (start .args .clauses .now) (start .args .steps .now) (at .loop .starts) (at .loop .known))
+    omega (arith, f, stored-length (start .args .inputs) (start .args .clauses .now) (start .args .steps .now) (at .loop .offsets) (at .loop .numbered))
 
-cast-starts : tie.Need-cast-starts Inv-loop μ-loop
-cast-starts c =
+cast-offsets : tie.Need-cast-offsets Inv-loop μ-loop
+cast-offsets c =
     let start = c .before .before .before .before .before .before .before .before .before .before .before .before in
-    omega (arith, taken-at c .list-within, start .pre .1 .1 .0)
+    omega (arith, c .before .before .before .before .before .before .before .before .loop-test .taken, start .pre .1 .1 .0)
 
-mul-starts : tie.Need-mul-starts Inv-loop μ-loop
-mul-starts c =
+mul-offsets : tie.Need-mul-offsets Inv-loop μ-loop
+mul-offsets c =
     let start = c .before .before .before .before .before .before .before .before .before .before .before .before in
     omega (arith, room-at c, c .before .before .before .before .before .before .before .before .before .loop .inv .0 .room-is, start .good .1 .1 .1 .1 .1 .0 .1)
 
-slice-write-starts : tie.Need-slice-write-starts Inv-loop μ-loop
-slice-write-starts c = room-at c
+slice-write-offsets : tie.Need-slice-write-offsets Inv-loop μ-loop
+slice-write-offsets c = room-at c
 
-add-known : tie.Need-add-known Inv-loop μ-loop
-add-known c =
+add-numbered : tie.Need-add-numbered Inv-loop μ-loop
+add-numbered c =
     let start = c .before .before .before .before .before .before .before .before .before .before .before .before in
     omega (arith, room-at c, c .before .before .before .before .before .before .before .before .before .loop .inv .0 .room-is, start .good .1 .1 .1 .1 .1 .0 .1)
 
@@ -94,7 +86,7 @@ loop-again c =
     let called = c .before .before .before .before .before in
     let at = called .before .before .before .before in
     let start = at .before .before .before in (
-      going-turns (start .args .prefix .now) (start .args .clauses .now) (start .args .steps .now) (start .args .inputs) (length (start .args .starts .now)) (at .loop .scratch) (at .loop .starts) (at .loop .known) (at .loop .at) (at .loop .inv .0) (c .before .list .given .0 .0) (c .before .list .given .0 .1 .0) (called .check-step .last .1 .1 .1 .1 .1 .1 .1 .0) (taken-at c) (called .check-step .kept .1 .1 .1 .1 .1 .1 .1 .0) (called .check-step .ensures .kept),
+      going-turns (start .args .prefix .now) (start .args .clauses .now) (start .args .steps .now) (start .args .inputs) (length (start .args .offsets .now)) (at .loop .scratch) (at .loop .offsets) (at .loop .numbered) (at .loop .at) (at .loop .inv .0) (c .before .next .given .0 .0) (called .check-step .last .1 .1 .1 .1 .1 .1 .1 .0) (taken-at c) (called .check-step .kept .1 .1 .1 .1 .1 .1 .1 .0) (called .check-step .ensures .kept),
       called .check-step .kept .1 .1 .1 .1 .1 .1 .1 .0 ∙ at .loop .inv .1,
     )
 
@@ -108,7 +100,7 @@ returns-2 : tie.Need-returns-2 Inv-loop μ-loop
 returns-2 c =
     let at = c .before in
     let start = at .before .before .before in
-    going-ends (start .args .prefix .now) (start .args .clauses .now) (start .args .steps .now) (start .args .inputs) (length (start .args .starts .now)) (at .loop .scratch) (at .loop .starts) (at .loop .known) (at .loop .at) (at .loop .inv .0) (c .loop-test .left)
+    going-ends (start .args .prefix .now) (start .args .clauses .now) (start .args .steps .now) (start .args .inputs) (length (start .args .offsets .now)) (at .loop .scratch) (at .loop .offsets) (at .loop .numbered) (at .loop .at) (at .loop .inv .0) (c .loop-test .left)
 
 pub run-steps-spec : {M : Type 1} → statement M
 run-steps-spec =
@@ -119,15 +111,16 @@ run-steps-spec =
     loop-holds
     check-step-requires
     (λ c. search needs)
-    add-t19
+    (λ c. let l = c .before .before .before .before .before .before .before .before .before .loop in let f = l .inv .0 .fits in let g = c .before .before .before .before .before .before .before .before .before .before .before .before .good .1 .1 .1 .1 .1 .0 .1 in omega arith)
+    (λ c κs. search needs)
     same-length
     same-length-2
     returns
     (λ c. search needs)
-    cast-starts
-    mul-starts
-    slice-write-starts
-    add-known
+    cast-offsets
+    mul-offsets
+    slice-write-offsets
+    add-numbered
     loop-less
     loop-again
     same-length-3

@@ -12,7 +12,7 @@ use Rattle.checker.specs.declared.result.Judgement.{Judgement}
 use Rattle.checker.specs.declared.result.Judgement.the-variants.{Right, Wrong}
 use Rattle.checker.specs.Words.{Words, without}
 use Rattle.checker.specs.Steps.{opposed, unless, judgeStatement}
-use Rattle.checker.specs.Marks.Judging.{clean}
+use Rattle.checker.specs.Marks.{clean}
 
 abbrev pub judgementOf : Option Reason → Judgement
 judgementOf none = Right

@@ -1,4 +1,4 @@
--- A row against a clause, as the code looks it up. That this is `blocked` is in Blocking/Laws.antt.
+-- A row against a clause, as the code looks it up. That this is `blocked` is in Blocked/Laws.antt.
 pub mod Laws
 use Prim.Native.Nat.{ℕ}
 use mathlib.Core.Bool.{Bool, false, _||_}

@@ -6,13 +6,13 @@ use mathlib.Core.Bool.{Bool, false, not, _&&_, _||_}
 use mathlib.Core.List.{List, [], List·Memᴰ, List·Memᴰ·append-cases}
 use lib.IntN.{ℤ, negℤ}
 use Rattle.checker.specs.declared.result.Judgement.{Judgement}
-use Rattle.checker.specs.Words.{Words, without}
+use Rattle.checker.specs.Words.{Words, without, InRange, AllInRange}
 use Rattle.checker.specs.Words.Laws.{without-member}
 use Rattle.checker.specs.Steps.{resolvent, opposed, states, judgeStatement}
-use Rattle.checker.specs.Marks.{markAll, tickAll, wipeAll, meets, ticks, leaves, Marked, Ticked, Wiped}
+use Rattle.checker.specs.Marks.{markAll, tickAll, wipeAll, meets, ticks, leaves, Marked, Ticked, Wiped, clean}
 use Rattle.checker.specs.Marks.Laws.{mark-append, meets-append, wipe-append, leaves-append}
-use Rattle.checker.specs.Marks.Judging.{InRange, AllInRange, clean, clean-meets, clean-states, clean-wiped}
-use Rattle.checker.specs.Judgements.{resultReason, decided, JudgedClean}
+use Rattle.checker.specs.Marks.Judging.{clean-meets, clean-states, clean-wiped}
+use Rattle.checker.specs.Result.{resultReason, decided, JudgedClean}
 
 module _ (e : ℤ) (C D : Words) (m m₁ m₂ : List ℕ) (first second : Bool) where
   pub both-marked : Marked m (without e C) first m₁ → Marked m₁ (without (negℤ e) D) second m₂ → Marked m (resolvent e C D) (first || second) m₂

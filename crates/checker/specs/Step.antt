@@ -1,5 +1,5 @@
--- What the parts of a step's check answer, and the parts of the scratch: 0 to 5,125 the making of a row, whose last 1,025 bytes
--- are the row, to 7,175 the marks, to 8,200 the kinds. That they make up the judgement of Steps.antt is in Stepping/Laws.antt.
+-- What the parts of a step's check answer, and the checker's own part of the scratch: the 2,050 marks, then the 1,025 kinds. What
+-- stands before is the maker of rows'. That the parts make up the judgement of Steps.antt is in Step/Laws.antt.
 pub mod Laws
 use Prim.Native.Nat.{ℕ, _+_}
 use mathlib.Core.Path.{_≡_}
@@ -8,6 +8,7 @@ use mathlib.Core.Option.{Option, none, some}
 use mathlib.Core.List.{List, _++_}
 use lib.ListN.{length, take, drop}
 use lib.IntN.{ℤ, pos, negℤ}
+use Rattle.dependency.specs.Scratch.{own}
 use Rattle.formula.specs.Word.{wordOf}
 use Rattle.formula.specs.declared.literal.VariableFit.{VariableFit}
 use Rattle.formula.specs.declared.literal.VariableFit.the-variants.{Within, Outside}
@@ -18,16 +19,15 @@ use Rattle.checker.specs.declared.step.StepAnswer.{StepAnswer}
 use Rattle.checker.specs.declared.step.StepAnswer.the-variants.{Right as RightStep, Wrong as WrongStep}
 use Rattle.checker.specs.Words.{Words, holds}
 use Rattle.checker.specs.Steps.{Scope, sizeOf, resolvent, blocked, unless, Judged, right, wrong}
-use Rattle.checker.specs.Marks.Judging.{clean}
-use Rattle.checker.specs.Reading.{listOf}
+use Rattle.checker.specs.Marks.{clean}
 use Rattle.checker.specs.Kinds.{kindsOf, existentialOf, universalOf}
-use Rattle.checker.specs.Judgements.{judgementOf, resultReason, statementReason}
+use Rattle.checker.specs.Result.{judgementOf, resultReason, statementReason}
 
 abbrev pub marksIn : List ℕ → List ℕ
-marksIn scratch = take 2050 (drop 5125 scratch)
+marksIn scratch = take 2050 (drop own scratch)
 
 abbrev pub kindsIn : List ℕ → List ℕ
-kindsIn scratch = take 1025 (drop 7175 scratch)
+kindsIn scratch = take 1025 (drop (own + 2050) scratch)
 
 -- The scratch is whole and its marks are clean.
 pub record Clean (scratch : List ℕ) : Type 0 where
@@ -37,7 +37,7 @@ pub record Clean (scratch : List ℕ) : Type 0 where
 -- The scratch with the kinds of a prefix.
 pub record Ready (prefix : List ℤ) (scratch : List ℕ) : Type 0 where
   pub size : length scratch ≡ 8200
-  pub later : drop 5125 scratch ≡ clean ++ kindsOf prefix
+  pub later : drop own scratch ≡ clean ++ kindsOf prefix
 
 -- The pivot stands in both clauses, then the result.
 abbrev pub pivotReason : ℤ → Words → Words → Words → Option Reason
@@ -68,13 +68,13 @@ reductionReason S kinds a L (some C) = reducingReason S (universalOf kinds (word
 -- An answer that leaves marks and kinds as they were.
 pub record Answers (reason : Option Reason) (r : Judgement) (scratch scratch′ : List ℕ) : Type 0 where
   pub answer : r ≡ judgementOf reason
-  pub kept : drop 5125 scratch′ ≡ drop 5125 scratch
+  pub kept : drop own scratch′ ≡ drop own scratch
 
--- The step's answer: where its statement begins and where the next step does.
+-- The step's answer: where the next step begins.
 abbrev pub stepAnswer : ℕ → Judged → StepAnswer
-stepAnswer at (right s) = RightStep (listOf at s) (at + sizeOf s)
+stepAnswer at (right s) = RightStep (at + sizeOf s)
 stepAnswer at (wrong r) = WrongStep r
 
 pub record StepChecked (at : ℕ) (j : Judged) (r : StepAnswer) (scratch scratch′ : List ℕ) : Type 0 where
   pub answer : r ≡ stepAnswer at j
-  pub kept : drop 5125 scratch′ ≡ drop 5125 scratch
+  pub kept : drop own scratch′ ≡ drop own scratch

@@ -1,45 +1,42 @@
--- `fill_starts`: what is stored and what stands from here on are the clauses of the table. Assumes nothing.
+-- `fill_offsets`: what is stored and what stands from here on are the clauses of the table. Assumes nothing.
 use Prim.Native.Nat.{_-_, _+_, _<_}
 use mathlib.Core.Path.{_≡_, refl}
 use native.Mathlib.Omega.{arith}
 use borrow.Author.Needs.{needs}
 use lib.ListN.{length, length-set}
-use Rattle.checker.specs.Words.Places.{clause-within}
+use Rattle.formula.specs.Decode.Places.{clause-within}
 use Rattle.checker.specs.Numbered.Laws.{Filling, filling-begins, filling-more, filling-turns, filling-ends}
-use Rattle.checker.proofs.numbered.fill_starts.Statement.{statement}
-use Rattle.checker.proofs.numbered.fill_starts.Tie as tie
+use Rattle.checker.proofs.numbered.fill_offsets.Statement.{statement}
+use Rattle.checker.proofs.numbered.fill_offsets.Tie as tie
 
 abbrev Inv-loop : tie.InvT-loop
-Inv-loop clauses starts₀ n₀ from₀ starts n from = Filling clauses starts n from × (length starts ≡ length starts₀)
+Inv-loop clauses offsets₀ n₀ from₀ offsets n from = Filling clauses offsets n from × (length offsets ≡ length offsets₀)
 
 abbrev μ-loop : tie.MeasureT-loop
-μ-loop clauses starts₀ n₀ from₀ starts n from = length clauses - from
+μ-loop clauses offsets₀ n₀ from₀ offsets n from = length clauses - from
 
 loop-holds : tie.Need-loop-holds Inv-loop μ-loop
-loop-holds c = (filling-begins (c .before .args .clauses .now) (c .before .args .starts .now), refl)
+loop-holds c = (filling-begins (c .before .args .clauses .now) (c .before .args .offsets .now), refl)
 
 -- one more clause, and room for its start
-more-at : (c : tie.In-loop Inv-loop μ-loop) → c .before .loop .n < length (c .before .loop .starts)
+more-at : (c : tie.In-loop Inv-loop μ-loop) → c .before .loop .n < length (c .before .loop .offsets)
 more-at c =
     let l = c .before .loop in
     let start = c .before .before .before in
-    let h = filling-more (start .args .clauses .now) (l .starts) (l .n) (l .from) (l .inv .0) (c .loop-test .taken) in
+    let h = filling-more (start .args .clauses .now) (l .offsets) (l .n) (l .from) (l .inv .0) (c .loop-test .taken) in
     omega (arith, h, l .inv .1, start .pre .1)
 
-cast-starts : tie.Need-cast-starts Inv-loop μ-loop
-cast-starts c = omega (arith, c .loop-test .taken, c .before .before .before .pre .0)
+cast-offsets : tie.Need-cast-offsets Inv-loop μ-loop
+cast-offsets c = omega (arith, c .loop-test .taken, c .before .before .before .pre .0)
 
-mul-starts : tie.Need-mul-starts Inv-loop μ-loop
-mul-starts c = let h = more-at c in let l = c .before .loop .inv .1 in let g = c .before .before .before .good .1 .0 .1 in omega arith
+mul-offsets : tie.Need-mul-offsets Inv-loop μ-loop
+mul-offsets c = let h = more-at c in let l = c .before .loop .inv .1 in let g = c .before .before .before .good .1 .0 .1 in omega arith
 
-slice-write-starts : tie.Need-slice-write-starts Inv-loop μ-loop
-slice-write-starts c = more-at c
+slice-write-offsets : tie.Need-slice-write-offsets Inv-loop μ-loop
+slice-write-offsets c = more-at c
 
 add-n : tie.Need-add-n Inv-loop μ-loop
 add-n c = let h = more-at c in let l = c .before .loop .inv .1 in let g = c .before .before .before .good .1 .0 .1 in omega arith
-
-end-of-requires : tie.Need-end-of-requires Inv-loop μ-loop
-end-of-requires c κs = tt
 
 -- the clause ends within the table
 end-at : (c : tie.After-end-of Inv-loop μ-loop) → c .end-of .result < length (c .before .before .before .before .args .clauses .now) + 1
@@ -58,27 +55,27 @@ loop-again : tie.Need-loop-again Inv-loop μ-loop
 loop-again c =
     let l = c .before .before .loop in
     let clauses = c .before .before .before .before .args .clauses .now in (
-      rw (c .end-of .ensures) (filling-turns clauses (l .starts) (l .n) (l .from) (l .inv .0) (c .before .loop-test .taken) (more-at (c .before))),
+      rw (c .end-of .ensures) (filling-turns clauses (l .offsets) (l .n) (l .from) (l .inv .0) (c .before .loop-test .taken) (more-at (c .before))),
       simp length-set (l .inv .1),
     )
 
 returns : tie.Need-returns Inv-loop μ-loop
 returns c =
     let l = c .before .loop in
-    filling-ends (c .before .before .before .args .clauses .now) (l .starts) (l .n) (l .from) (l .inv .0) (c .loop-test .left)
+    filling-ends (c .before .before .before .args .clauses .now) (l .offsets) (l .n) (l .from) (l .inv .0) (c .loop-test .left)
 
-pub fill-starts-spec : {M : Type 1} → statement M
-fill-starts-spec =
+pub fill-offsets-spec : {M : Type 1} → statement M
+fill-offsets-spec =
     tie.close
     (tie.spec
     Inv-loop
     μ-loop
     loop-holds
-    cast-starts
-    mul-starts
-    slice-write-starts
+    cast-offsets
+    mul-offsets
+    slice-write-offsets
     add-n
-    end-of-requires
+    (λ c κs. tt)
     add-from
     loop-less
     loop-again
