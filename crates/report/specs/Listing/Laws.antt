@@ -1,6 +1,6 @@
 -- The lines of the universals: read off rows, entry by entry. How long they are is in Listing/Length.antt. Assumes nothing.
 use Prim.Native.Nat.{ℕ, suc, _≤_, _<_}
-use mathlib.Core.Path.{_≡_, refl, ap}
+use mathlib.Core.Path.{_≡_, refl}
 use mathlib.Core.Bool.{Bool, true, false}
 use mathlib.Core.List.{List, [], _∷_, _++_, List·Memᴰ, List·Memᴰ·head, List·Memᴰ·tail}
 use native.Mathlib.Omega.{arith}
@@ -8,7 +8,6 @@ use lib.ListN.{length, getD, drop}
 use lib.Dec.{leb, eqb}
 use lib.IntN.{ℤ}
 use Rattle.qbf.specs.Formula.{universal, Entry, entry, Prefix, Formula}
-use Rattle.qbf.specs.Dependency.{depends}
 use Rattle.formula.specs.Prefix.{prefixOf, entryCount, entryAt, quantifies, Entries}
 use Rattle.formula.specs.Prefix.Laws.{entries-drop, entry-member, quantifies-complete}
 use Rattle.formula.specs.Refusal.{refusal, require}

@@ -10,8 +10,8 @@ use Rattle.report.proofs.check.judged_line.Tie as tie
 returns : tie.Need-returns
 returns c =
     let told = c .before .before in
-    let counted = told .before .before in
-    let checked = counted .before .before .before .before .before in
+    let counted = told .before in
+    let checked = counted .before .before .before .before .before .before in
     let s = checked .before .before .before .before .before .before in
     stores-instead (ap (verdictLine (entryCount (s .args .prefix .now)) (s .args .count)) (sym (checked .check-proof .ensures .verdict))) (rw (counted .entry-count .ensures) at (told .verdict-line .ensures))
 

@@ -1,5 +1,5 @@
 -- `variable_at` answers the variable with either quantifier. Assumes nothing.
-use mathlib.Core.Path.{_≡_, ap, sym, _∙_}
+use mathlib.Core.Path.{ap, sym, _∙_}
 use borrow.Author.Needs.{needs}
 use Rattle.qbf.specs.Formula.{Entry}
 use Rattle.formula.specs.Prefix.{entryAt}

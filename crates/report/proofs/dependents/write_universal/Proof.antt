@@ -1,6 +1,5 @@
 -- `write_universal` makes the row of its universal in scratch and stores the line from it. Assumes nothing.
 use mathlib.Core.Path.{_≡_}
-use native.Mathlib.Omega.{arith}
 use Rattle.formula.specs.Decode.{formulaOf}
 use Rattle.formula.specs.Prefix.{prefixOf}
 use Rattle.formula.specs.Tables.Laws.{admitted-entries}

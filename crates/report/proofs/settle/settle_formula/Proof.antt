@@ -7,8 +7,9 @@ use Rattle.report.proofs.settle.settle_formula.Tie as tie
 
 returns : tie.Need-returns
 returns c =
-    let s = c .before .before .before .before in
-    formula-oversized (s .args .bound) (s .args .file .now) _ _ _ _ (fit-oversized _ _ (sym (c .before .before .new .ensures) ∙ c .enum-told .given .1))
+    let s = c .before .before .before .before .before in
+    rw (c .new2 .ensures)
+    (formula-oversized (s .args .bound) (s .args .file .now) _ _ _ _ (fit-oversized _ _ (sym (c .before .before .before .new .ensures) ∙ c .before .enum-told .given .1)))
 
 returns-2 : tie.Need-returns-2
 returns-2 c =
@@ -23,6 +24,7 @@ settle-formula-spec =
     (tie.spec
     (λ c κs. search needs)
     (λ c. search needs)
+    (λ c κs. search needs)
     (λ c. search needs)
     (λ c κs. search needs)
     returns

@@ -7,8 +7,9 @@ use Rattle.report.proofs.settle.settle_proof.Tie as tie
 
 returns : tie.Need-returns
 returns c =
-    let s = c .before .before .before .before in
-    proof-oversized (s .args .bound) (s .args .file .now) _ _ _ (fit-oversized _ _ (sym (c .before .before .new .ensures) ∙ c .enum-told .given .1))
+    let s = c .before .before .before .before .before in
+    rw (c .new2 .ensures)
+    (proof-oversized (s .args .bound) (s .args .file .now) _ _ _ (fit-oversized _ _ (sym (c .before .before .before .new .ensures) ∙ c .before .enum-told .given .1)))
 
 returns-2 : tie.Need-returns-2
 returns-2 c =
@@ -20,4 +21,12 @@ returns-2 c =
 pub settle-proof-spec : {M : Type 1} → statement M
 settle-proof-spec =
     tie.close
-    (tie.spec (λ c κs. search needs) (λ c. search needs) (λ c. search needs) (λ c κs. search needs) returns (λ c. search needs) returns-2)
+    (tie.spec
+    (λ c κs. search needs)
+    (λ c. search needs)
+    (λ c κs. search needs)
+    (λ c. search needs)
+    (λ c κs. search needs)
+    returns
+    (λ c. search needs)
+    returns-2)
