@@ -4,6 +4,7 @@ use crate::check::check_line;
 use crate::dependents::dependency_lines;
 use crate::settle::FileLength;
 use crate::settle::settle_formula;
+use dependency::row::SCRATCH;
 use formula::read::ReadAnswer;
 ghost use mathlib.Core.Path.{_≡_};
 ghost use Rattle.report.specs.Program.{programRoom, ProgramLine, ProgramText, formulaRead};
@@ -15,7 +16,7 @@ pub fn program_line(formula: &[u8], proof: &[u8], line: &mut [u8]) -> usize
     let mut prefix = [0i32; 1_024];
     let mut clauses = [0i32; 16_384];
     let mut steps = [0i32; 16_384];
-    let mut scratch = [0u8; 8_200];
+    let mut scratch = [0u8; SCRATCH];
     let mut starts = [0u32; 16_384];
     check_line(
         formula,
@@ -36,7 +37,7 @@ pub fn program_text(formula: &[u8], text: &mut [u8]) -> usize
 {
     let mut prefix = [0i32; 1_024];
     let mut clauses = [0i32; 16_384];
-    let mut scratch = [0u8; 8_200];
+    let mut scratch = [0u8; SCRATCH];
     dependency_lines(
         formula,
         FileLength::MAX,

@@ -13,6 +13,7 @@ use Rattle.formula.specs.Tables.Laws.{admitted-closed, admitted-count}
 use Rattle.formula.specs.Text.{read}
 use Rattle.formula.specs.Text.Admits.{read-admitted}
 use Rattle.formula.specs.declared.refusal.Refusal.{Refusal}
+use Rattle.dependency.specs.Scratch.{scratchBound}
 use Rattle.checker.specs.ProofFile.{trailerStart, distance, proofReading}
 use Rattle.checker.specs.ProofFile.{read as readSteps}
 use Rattle.checker.specs.ProofFile.Passed.{Bytes}
@@ -98,6 +99,7 @@ module _ (room : Room) (formula proof : List ℕ) (within : FilesWithin room for
 
 -- Files of 65,536 bytes at most are within the room of 01's programs.
 pub program-within : (formula proof : List ℕ) → length formula ≤ fileBound → length proof ≤ fileBound → FilesWithin programRoom formula proof
+unfolding scratchBound
 program-within formula proof h k =
     record {
       formula-fits = h;
@@ -106,7 +108,7 @@ program-within formula proof h k =
           let a = read-admitted formula 1024 16384 prefix clauses count e .admitted in
           let n : length proof ≡ length note + 4 * length words + 12 = rw laid (file-of-length note words count) in (
             omega arith,
-            words-within clauses words 8200 16384 (omega arith) (omega arith) (omega (arith, admitted-closed prefix clauses a, admitted-count prefix clauses a)),
+            words-within clauses words scratchBound 16384 (omega arith) (omega arith) (omega (arith, admitted-closed prefix clauses a, admitted-count prefix clauses a)),
           );
     }
 

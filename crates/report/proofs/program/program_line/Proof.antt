@@ -2,6 +2,7 @@
 use Prim.Native.Nat.{ℕ}
 use lib.IntN.{ℤ, pos}
 use lib.ListN.{replicate, length-replicate}
+use Rattle.dependency.specs.Scratch.{scratchBound}
 use Rattle.report.specs.Checking.{lent}
 use Rattle.report.specs.Line.{fileBound}
 use Rattle.report.specs.Program.Laws.{line-printed}
@@ -10,11 +11,12 @@ use Rattle.report.proofs.program.program_line.Statement.{statement}
 use Rattle.report.proofs.program.program_line.Tie as tie
 
 returns : tie.Need-returns
+unfolding scratchBound
 returns c =
     let called = c .before .before .before .before .before .before .before in
     line-printed
-    {room = lent fileBound (replicate 1024 (pos 0)) (replicate 16384 (pos 0)) (replicate 16384 (pos 0)) (replicate 8200 0) (replicate 16384 0)}
-    (rw (length-replicate {0} {A = ℤ} 1024 (pos 0), length-replicate {0} {A = ℤ} 16384 (pos 0), length-replicate {0} {A = ℕ} 8200 0, length-replicate {0} {A = ℕ} 16384 0))
+    {room = lent fileBound (replicate 1024 (pos 0)) (replicate 16384 (pos 0)) (replicate 16384 (pos 0)) (replicate scratchBound 0) (replicate 16384 0)}
+    (rw (length-replicate {0} {A = ℤ} 1024 (pos 0), length-replicate {0} {A = ℤ} 16384 (pos 0), length-replicate {0} {A = ℕ} scratchBound 0, length-replicate {0} {A = ℕ} 16384 0))
     (called .check-line .ensures)
 
 pub program-line-spec : {M : Type 1} → statement M

@@ -4,6 +4,7 @@ use mathlib.Core.Path.{refl}
 use mathlib.Core.List.{[]}
 use lib.IntN.{ℤ, pos}
 use lib.ListN.{replicate, length-replicate}
+use Rattle.dependency.specs.Scratch.{scratchBound}
 use Rattle.report.specs.Checking.{lent}
 use Rattle.report.specs.Line.{fileBound}
 use Rattle.report.specs.Program.Laws.{text-printed}
@@ -12,14 +13,15 @@ use Rattle.report.proofs.program.program_text.Statement.{statement}
 use Rattle.report.proofs.program.program_text.Tie as tie
 
 returns : tie.Need-returns
+unfolding scratchBound
 returns c =
     let called = c .before .before .before .before .before in
     text-printed
-    {room = lent fileBound (replicate 1024 (pos 0)) (replicate 16384 (pos 0)) [] (replicate 8200 0) []}
+    {room = lent fileBound (replicate 1024 (pos 0)) (replicate 16384 (pos 0)) [] (replicate scratchBound 0) []}
     refl
     (length-replicate {0} {A = ℤ} 1024 (pos 0))
     (length-replicate {0} {A = ℤ} 16384 (pos 0))
-    (length-replicate {0} {A = ℕ} 8200 0)
+    (length-replicate {0} {A = ℕ} scratchBound 0)
     (called .dependency-lines .ensures)
 
 pub program-text-spec : {M : Type 1} → statement M
