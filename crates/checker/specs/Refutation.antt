@@ -11,7 +11,7 @@ use lib.ListN.{length, getElem?}
 use lib.IntN.{ℤ}
 use Rattle.formula.specs.Bounds.{proofBound}
 use Rattle.formula.specs.Decode.{clausesOf, formulaOf}
-use Rattle.checker.specs.Rules.{scratchBound}
+use Rattle.dependency.specs.Scratch.{scratchBound}
 use Rattle.checker.specs.Words.{Words}
 use Rattle.checker.specs.Steps.{Step}
 use Rattle.checker.specs.Lawful.{stepWords, numberedClauses, LawfulSteps}

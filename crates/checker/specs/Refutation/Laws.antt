@@ -13,7 +13,7 @@ use Rattle.formula.specs.Decode.{clausesOf, formulaOf}
 use Rattle.formula.specs.Decode.Laws.{clauses-no-zero}
 use Rattle.formula.specs.Tables.{zeros}
 use Rattle.formula.specs.Tables.Laws.{zeros-cons}
-use Rattle.checker.specs.Rules.{scratchBound}
+use Rattle.dependency.specs.Scratch.{scratchBound}
 use Rattle.checker.specs.Words.{Words}
 use Rattle.checker.specs.Steps.{Step, resolution, reduction, statedBy}
 use Rattle.checker.specs.Steps.Written.{steps-size}
