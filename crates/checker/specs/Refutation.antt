@@ -11,7 +11,7 @@ use lib.ListN.{length, getElem?}
 use lib.IntN.{ℤ}
 use Rattle.formula.specs.Bounds.{proofBound}
 use Rattle.formula.specs.Decode.{clausesOf, formulaOf}
-use Rattle.checker.specs.Rules.{scratchBound}
+use Rattle.dependency.specs.Scratch.{scratchBound}
 use Rattle.checker.specs.Words.{Words}
 use Rattle.checker.specs.Steps.{Step}
 use Rattle.checker.specs.Lawful.{stepWords, numberedClauses, LawfulSteps}
@@ -31,8 +31,8 @@ pub record FirstEmpty (known : List Words) (place : ℕ) : Type 0 where
 
 -- The proof is within 01's bounds and room: at most 1,048,576 step words, scratch of 8,200 bytes, and a clause offset for every
 -- numbered clause, whatever steps the words are written from (for a refutation that is no more than one for each of its own:
--- `refutation-within` of Laws). `scratch` and `starts` are the lengths of what is lent.
-pub record Within (clauses words : List ℤ) (scratch starts : ℕ) : Type 0 where
+-- `refutation-within` of Laws). `scratch` and `offsets` are the lengths of what is lent.
+pub record Within (clauses words : List ℤ) (scratch offsets : ℕ) : Type 0 where
   pub sized : length words ≤ proofBound
   pub scratch-fits : scratchBound ≤ scratch
-  pub starts-fit : (steps : List Step) → words ≡ stepWords steps → length (numberedClauses (clausesOf clauses) steps) ≤ starts
+  pub offsets-fit : (steps : List Step) → words ≡ stepWords steps → length (numberedClauses (clausesOf clauses) steps) ≤ offsets

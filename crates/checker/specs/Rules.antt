@@ -7,6 +7,7 @@ use mathlib.Core.Option.{Option, none}
 use mathlib.Core.List.{List, [], _∷_}
 use lib.IntN.{ℤ, pos}
 use Rattle.formula.specs.declared.refusal.Reason.{Reason}
+use Rattle.dependency.specs.Scratch.{scratchBound}
 
 -- `scratch` is in bytes; `resolutions` and `reductions` are the kind words of each; `afterwards` is why a step after an empty
 -- clause is refused, if it is.
@@ -15,10 +16,6 @@ pub record Rules : Type 0 where
   pub resolutions : List ℤ
   pub reductions : List ℤ
   pub afterwards : Option Reason
-
--- 01's scratch: bytes.
-abbrev pub scratchBound : ℕ
-scratchBound = 8200
 
 -- 01's rules: `1 i j e L.. 0` resolves, `2 i a L.. 0` reduces, and steps may follow an empty clause.
 abbrev pub plainRules : Rules

@@ -161,7 +161,7 @@ abbrev pub refuseAfter : Option Reason → Bool → Judged → Judged
 refuseAfter none after later = later
 refuseAfter (some r) after later = require (not after) (wrong r) later
 
--- `room` is how many numbered clauses the starts table has a word for. Whether a step may stand here comes ahead of all that
+-- `room` is how many numbered clauses the clause offsets have a word for. Whether a step may stand here comes ahead of all that
 -- is wrong with it.
 unfoldable pub judgeFirst : Rules → Scope → ℕ → List Words → Words → Judged
 judgeFirst rules S room known ws = refuseAfter (rules .afterwards) (someEmpty known) (judgeRead S room known (readStep rules ws))

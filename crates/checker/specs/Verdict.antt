@@ -1,5 +1,5 @@
 -- The verdict on a proof (01, "What the checker says no with", order "A proof"): tables, 2 on step words, 3 for scratch and
--- starts, the steps, 19. `verdictOf plainRules` is what `check_proof` answers, Checked what it promises.
+-- clause offsets, the steps, 19. `verdictOf plainRules` is what `check_proof` answers, Checked what it promises.
 pub mod Examples
 pub mod TableScope
 pub mod Early
@@ -58,7 +58,7 @@ abbrev pub ifAdmitted : Option Refusal → Verdict → Verdict
 ifAdmitted none later = later
 ifAdmitted (some r) later = Refused r
 
--- After the tables; `scratch` and `room` are the lengths of the scratch and of the starts table.
+-- After the tables; `scratch` and `room` are the lengths of the scratch and of the clause offsets.
 unfoldable pub sizedVerdict : Rules → List ℤ → List ℤ → List ℤ → ℕ → ℕ → Verdict
 sizedVerdict rules prefix clauses steps scratch room =
     require (leb (length steps) proofBound)
@@ -72,10 +72,10 @@ sizedVerdict rules prefix clauses steps scratch room =
 unfoldable pub verdictOf : Rules → List ℤ → List ℤ → List ℤ → ℕ → ℕ → Verdict
 verdictOf rules prefix clauses steps scratch room = ifAdmitted (tablesRefusal prefix clauses) (sizedVerdict rules prefix clauses steps scratch room)
 
--- What `check_proof` promises: the verdict, scratch and starts of whatever length wholly 0, and that an accepted proof makes the
+-- What `check_proof` promises: the verdict, scratch and clause offsets of whatever length wholly 0, and that an accepted proof makes the
 -- game lost.
-pub record Checked (prefix clauses steps : List ℤ) (scratch starts : List ℕ) (r : Verdict) (scratch′ starts′ : List ℕ) : Type 0 where
-  pub verdict : r ≡ verdictOf plainRules prefix clauses steps (length scratch) (length starts)
+pub record Checked (prefix clauses steps : List ℤ) (scratch offsets : List ℕ) (r : Verdict) (scratch′ offsets′ : List ℕ) : Type 0 where
+  pub verdict : r ≡ verdictOf plainRules prefix clauses steps (length scratch) (length offsets)
   pub scratch-cleared : scratch′ ≡ replicate (length scratch) 0
-  pub starts-cleared : starts′ ≡ replicate (length starts) 0
+  pub offsets-cleared : offsets′ ≡ replicate (length offsets) 0
   pub lost : (empty : ClauseNumber) (count : ℕ) → r ≡ Accepted empty count → Lost (formulaOf prefix clauses)

@@ -10,7 +10,7 @@ use Rattle.qbf.specs.Formula.{Formula}
 use Rattle.dependency.specs.Row.{rowOf}
 
 -- The bytes that the entries of 01 ask for.
-unfoldable pub scratchBound : ℕ
+abbrev pub scratchBound : ℕ
 scratchBound = 8200
 
 -- The row: behind the marks of the two searches.

@@ -19,6 +19,7 @@ use lib.ListN.{length, replicate}
 use lib.Dec.{leb, ltb, eqb}
 use lib.IntN.{ℤ, pos, negsuc, negℤ}
 use Rattle.formula.specs.Bounds.{variableBound, countBound, matrixBound, textBound}
+use Rattle.formula.specs.Clear.{filledUp}
 use Rattle.qbf.specs.Formula.{Quantifier, existential, universal, entry, Prefix, listed}
 use Rattle.formula.specs.Refusal.{refusal, require}
 use Rattle.formula.specs.Prefix.{entryFits, prefixWords as wordsOf}
@@ -217,7 +218,7 @@ clauseWords (read prefix words count) = words
 clauseWords (refused r) = []
 
 abbrev pub padded : ℕ → List ℤ → List ℤ
-padded room words = words ++ replicate (room - length words) (pos 0)
+padded room words = filledUp (pos 0) room words
 
 -- The contract of `read_formula`: its answer, and both tables at its end.
 pub record ReadPost (text : List ℕ) (prefix clauses prefix′ clauses′ : List ℤ) (answer : ReadAnswer) : Type 0 where

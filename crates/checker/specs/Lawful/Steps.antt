@@ -21,7 +21,7 @@ use Rattle.checker.specs.Lawful.{wordsOf, stepWords, numberedClauses, La
 use Rattle.checker.specs.Lawful.Laws.{lawful-words, lawful-all-words, length-snoc}
 use Rattle.checker.specs.Lawful.Judged.{Decides, BlockedStep, judge-lawful, lawful-judge, judge-blocked}
 
--- What the run is to show of words it passes: they are lawful steps, and the starts have room for every clause.
+-- What the run is to show of words it passes: they are lawful steps, and the clause offsets have room for every clause.
 pub record RunEnds (F : Formula) (room : ℕ) (final known : List Words) (ws : Words) : Type 0 where
   pub steps : List Step
   pub written : ws ≡ stepWords steps

@@ -17,6 +17,7 @@ use mir.Val.{toZ, SFits}
 use mir.ValLaws.{toZ-fits}
 use Rattle.qbf.specs.Connectives.{and-both}
 use Rattle.formula.specs.Bounds.{proofBound}
+use Rattle.formula.specs.Clear.Laws.{clear-append}
 use Rattle.formula.specs.Clear.{clearFrom}
 use Rattle.formula.specs.Refusal.{refusal}
 use Rattle.formula.specs.declared.refusal.Reason.{Reason}
@@ -185,15 +186,10 @@ copy-end bytes n steps before len e d =
 
 -- ---- the table of steps
 
-clear-after : (z : ℤ) (words rest : List ℤ) → clearFrom z (length words) (words ++ rest) ≡ words ++ replicate (length rest) z
-unfolding clearFrom
-clear-after z [] rest = refl
-clear-after z (w ∷ words) rest = ap (λ l. w ∷ l) (clear-after z words rest)
-
 -- The words read, and the rest cleared.
 pub table-end : (words before : List ℤ) (n : ℕ) → length words ≡ n
     → clearFrom (pos 0) n (words ++ drop n before) ≡ words ++ replicate (length before - length words) (pos 0)
-table-end words before n e = rw (← e, clear-after (pos 0) words (drop (length words) before), length-drop)
+table-end words before n e = rw (← e, clear-append (pos 0) words (drop (length words) before), length-drop)
 
 pub step-words-length : (file : List ℕ) → Trailer file → length (wordsOf (stepBytes file)) ≡ stepCount file
 step-words-length file t = words-length (stepBytes file) ∙ ap (λ n. n / 4) (step-bytes-length file t)

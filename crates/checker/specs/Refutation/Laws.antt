@@ -13,7 +13,7 @@ use Rattle.formula.specs.Decode.{clausesOf, formulaOf}
 use Rattle.formula.specs.Decode.Laws.{clauses-no-zero}
 use Rattle.formula.specs.Tables.{zeros}
 use Rattle.formula.specs.Tables.Laws.{zeros-cons}
-use Rattle.checker.specs.Rules.{scratchBound}
+use Rattle.dependency.specs.Scratch.{scratchBound}
 use Rattle.checker.specs.Words.{Words}
 use Rattle.checker.specs.Steps.{Step, resolution, reduction, statedBy}
 use Rattle.checker.specs.Steps.Written.{steps-size}
@@ -23,14 +23,14 @@ use Rattle.checker.specs.Refutation.{Refutation, Within}
 
 -- A clause offset for each input clause and for each four step words is room enough.
 pub words-within :
-    (clauses words : List ℤ) (scratch starts : ℕ) → length words ≤ proofBound → scratchBound ≤ scratch
-    → length (clausesOf clauses) + length words / 4 ≤ starts
-    → Within clauses words scratch starts
-words-within clauses words scratch starts sized fits room =
+    (clauses words : List ℤ) (scratch offsets : ℕ) → length words ≤ proofBound → scratchBound ≤ scratch
+    → length (clausesOf clauses) + length words / 4 ≤ offsets
+    → Within clauses words scratch offsets
+words-within clauses words scratch offsets sized fits room =
     record {
       sized = sized;
       scratch-fits = fits;
-      starts-fit = λ steps e. let size : 4 * length steps ≤ length words = rw e (steps-size steps) in omega (arith, numbered-length (clausesOf clauses) steps);
+      offsets-fit = λ steps e. let size : 4 * length steps ≤ length words = rw e (steps-size steps) in omega (arith, numbered-length (clausesOf clauses) steps);
     }
 
 -- Words without a 0 add none; the others may.
@@ -97,15 +97,15 @@ refutation-zeros prefix clauses words r =
 
 -- A clause offset for each numbered clause of the refutation is room enough.
 pub refutation-within :
-    (prefix clauses words : List ℤ) (scratch starts : ℕ) (r : Refutation prefix clauses words)
+    (prefix clauses words : List ℤ) (scratch offsets : ℕ) (r : Refutation prefix clauses words)
     → length words ≤ proofBound → scratchBound ≤ scratch
-    → length (numberedClauses (clausesOf clauses) (r .steps)) ≤ starts
-    → Within clauses words scratch starts
-refutation-within prefix clauses words scratch starts r sized fits room =
+    → length (numberedClauses (clausesOf clauses) (r .steps)) ≤ offsets
+    → Within clauses words scratch offsets
+refutation-within prefix clauses words scratch offsets r sized fits room =
     record {
       sized = sized;
       scratch-fits = fits;
-      starts-fit = λ steps e.
+      offsets-fit = λ steps e.
           let other : length steps ≤ zeros words = rw e (steps-zeros steps) in
           omega (arith, refutation-zeros prefix clauses words r, numbered-length (clausesOf clauses) steps, numbered-length (clausesOf clauses) (r .steps));
     }

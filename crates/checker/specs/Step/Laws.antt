@@ -49,7 +49,6 @@ pub row-kept : (F : Formula) (u : ℕ) (scratch scratch′ : List ℕ) → RowMa
 row-kept F u scratch scratch′ h = sym (own-part scratch′) ∙ h .kept ∙ own-part scratch
 
 pub clean-bound : (scratch scratch′ : List ℕ) → Clean scratch → length scratch′ ≡ length scratch → scratchBound ≤ length scratch′
-unfolding scratchBound
 clean-bound scratch scratch′ c l = let e = c .size in omega arith
 
 module _ (prefix : List ℤ) (scratch : List ℕ) (ready : Ready prefix scratch) where

@@ -43,12 +43,12 @@ use Rattle.checker.specs.Verdict.Early.{tables-early}
 
 -- What an accepted verdict says: admitted tables, bounds and room, and a refutation; `empty` is the first empty clause's number,
 -- `count` the number of steps.
-pub record Accepting (rules : Rules) (prefix clauses words : List ℤ) (scratch starts empty count : ℕ) : Type 0 where
+pub record Accepting (rules : Rules) (prefix clauses words : List ℤ) (scratch offsets empty count : ℕ) : Type 0 where
   pub admitted : Admitted prefix clauses
   pub sized : length words ≤ proofBound
   pub scratch-fits : rules .scratch ≤ scratch
   pub refutation : Refutation prefix clauses words
-  pub starts-fit : length (numberedClauses (clausesOf clauses) (refutation .steps)) ≤ starts
+  pub offsets-fit : length (numberedClauses (clausesOf clauses) (refutation .steps)) ≤ offsets
   pub place : ℕ
   pub place-numbered : empty ≡ suc place
   pub first-empty : FirstEmpty (numberedClauses (clausesOf clauses) (refutation .steps)) place
@@ -157,7 +157,7 @@ module _ (rules : Rules) (plain : PlainKinds rules) (prefix clauses steps : List
                   lawful = ends .lawful;
                   some-empty = rw (ends .numbered) (first-empty-member final (first .0) (first .2));
                 };
-            starts-fit = rw (ends .numbered) (ends .fits (rw inputs (p .inputs-fit)));
+            offsets-fit = rw (ends .numbered) (ends .fits (rw inputs (p .inputs-fit)));
             place = first .0;
             place-numbered = sym (same .0) ∙ first .1;
             first-empty = rw (ends .numbered) (first .2);
@@ -176,7 +176,7 @@ module _ (rules : Rules) (plain : PlainKinds rules) (prefix clauses steps : List
   refutation-accepted goes-on n m r =
       let list = r .refutation .steps in
       let known = numberedClauses (clausesOf clauses) list in
-      let fits = r .starts-fit in
+      let fits = r .offsets-fit in
       let inputs : length (clausesOf clauses) ≡ zeros clauses = admitted-closed prefix clauses (r .admitted) in
       let size : length known ≡ length (clausesOf clauses) + length list = numbered-length (clausesOf clauses) list in
       let ran : outcome ≡ ended known =

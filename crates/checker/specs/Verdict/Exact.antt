@@ -24,34 +24,34 @@ pub record IsAccepted (v : Verdict) : Type 0 where
   pub count : ℕ
   pub accepted : v ≡ Accepted (record { 0 = empty }) count
 
-module _ (prefix clauses words : List ℤ) (scratch starts : ℕ) (admitted : Admitted prefix clauses) (within : Within clauses words scratch starts) where
+module _ (prefix clauses words : List ℤ) (scratch offsets : ℕ) (admitted : Admitted prefix clauses) (within : Within clauses words scratch offsets) where
   refuted :
       (r : Refutation prefix clauses words) (place : ℕ) → FirstEmpty (numberedClauses (clausesOf clauses) (r .steps)) place
-      → verdictOf plainRules prefix clauses words scratch starts ≡ Accepted (record { 0 = suc place }) (length (r .steps))
+      → verdictOf plainRules prefix clauses words scratch offsets ≡ Accepted (record { 0 = suc place }) (length (r .steps))
   refuted r place f =
-      refutation-accepted plainRules plain-kinds prefix clauses words scratch starts refl (suc place) (length (r .steps))
+      refutation-accepted plainRules plain-kinds prefix clauses words scratch offsets refl (suc place) (length (r .steps))
       (record {
         admitted = admitted;
         sized = within .sized;
         scratch-fits = within .scratch-fits;
         refutation = r;
-        starts-fit = within .starts-fit (r .steps) (r .written);
+        offsets-fit = within .offsets-fit (r .steps) (r .written);
         place = place;
         place-numbered = refl;
         first-empty = f;
         counted = refl;
       })
 
-  pub accepted-exactly : IsAccepted (verdictOf plainRules prefix clauses words scratch starts) ↔ Refutation prefix clauses words
+  pub accepted-exactly : IsAccepted (verdictOf plainRules prefix clauses words scratch offsets) ↔ Refutation prefix clauses words
   accepted-exactly = (
-    λ a. accepted-refutation plainRules plain-kinds prefix clauses words scratch starts (a .empty) (a .count) (a .accepted) .refutation,
+    λ a. accepted-refutation plainRules plain-kinds prefix clauses words scratch offsets (a .empty) (a .count) (a .accepted) .refutation,
     λ r. let f = empty-first (numberedClauses (clausesOf clauses) (r .steps)) (r .some-empty) in
         record { empty = suc (f .0); count = length (r .steps); accepted = refuted r (f .0) (f .1) },
   )
 
   -- The number of steps, and the number of the first empty clause.
   pub accepted-numbers :
-      (empty count : ℕ) → verdictOf plainRules prefix clauses words scratch starts ≡ Accepted (record { 0 = empty }) count
+      (empty count : ℕ) → verdictOf plainRules prefix clauses words scratch offsets ≡ Accepted (record { 0 = empty }) count
       → (r : Refutation prefix clauses words)
       → (count ≡ length (r .steps)) × ((place : ℕ) × (empty ≡ suc place) × FirstEmpty (numberedClauses (clausesOf clauses) (r .steps)) place)
   accepted-numbers empty count h r =

@@ -79,7 +79,7 @@ pub positions :
     ≡ Refused (refusal Tautology 3))
     -- the checklist: b with its second step's 4 made 3
     × (verdictOf plainRules examplePrefix exampleClauses (exampleSteps (pos 3)) 8200 9 ≡ Refused (refusal Misstated 6))
-    -- scratch of 8,199 bytes is short; starts are short by one, at an input clause and at the last step
+    -- scratch of 8,199 bytes is short; offsets are short by one, at an input clause and at the last step
     × (verdictOf plainRules examplePrefix exampleClauses (exampleSteps (pos 4)) 8199 9 ≡ Refused (refusal NoRoom 0))
     × (verdictOf plainRules examplePrefix exampleClauses (exampleSteps (pos 4)) 8200 3 ≡ Refused (refusal NoRoom 4))
     × (verdictOf plainRules examplePrefix exampleClauses (exampleSteps (pos 4)) 8200 8 ≡ Refused (refusal NoRoom 9))

@@ -14,6 +14,7 @@ use lib.IntN.{ℤ, pos, negsuc, natAbs}
 use Rattle.qbf.specs.Connectives.{and-both}
 use Rattle.qbf.specs.Formula.{Formula, Prefix, universal, entry}
 use Rattle.formula.specs.Bounds.{variableBound}
+use Rattle.formula.specs.Clear.Laws.{clear-append}
 use Rattle.formula.specs.Clear.{clearFrom}
 use Rattle.formula.specs.Refusal.{refusal, require}
 use Rattle.formula.specs.Prefix.{prefixOf, quantifies, Entries}
@@ -98,11 +99,6 @@ asked-variable P (negsuc n) v e = go (leb (suc n) variableBound) refl
     go false q = let k = rw q at e in let z : _≡_ {A = ℕ} 0 1 = cc in absurd (omega arith)
 
 -- Clearing what follows.
-clear-append : (xs ys : List ℕ) → clearFrom 0 (length xs) (xs ++ ys) ≡ xs ++ replicate (length ys) 0
-unfolding clearFrom
-clear-append [] ys = refl
-clear-append (x ∷ xs) ys = ap {B = List ℕ} (λ l. x ∷ l) (clear-append xs ys)
-
 module _ (F : Formula) (u : ℕ) (row copied row′ : List ℕ) where
   pub row-cleared : copied ≡ rowOf F u ++ drop 1025 row → row′ ≡ clearFrom 0 1025 copied → row′ ≡ rowOf F u ++ replicate (length row - 1025) 0
   row-cleared e f =
@@ -111,7 +107,7 @@ module _ (F : Formula) (u : ℕ) (row copied row′ : List ℕ) where
       f
       ∙ ap (clearFrom 0 1025) e
       ∙ sym (λ i. clearFrom 0 (size i) (rowOf F u ++ drop 1025 row))
-      ∙ clear-append (rowOf F u) (drop 1025 row)
+      ∙ clear-append 0 (rowOf F u) (drop 1025 row)
       ∙ (λ i. rowOf F u ++ replicate (rest i) 0)
 
 -- The bytes asked of a row: so many, one more, and those of a row that was made are the row.

@@ -19,7 +19,6 @@ unfolding ownPart
 own-part scratch = refl
 
 pub own-within : own ≤ scratchBound
-unfolding scratchBound
 own-within = omega arith
 
 -- Asked about a variable, a row that was made answers whether it depends.

@@ -23,15 +23,6 @@ use Rattle.dependency.specs.Search.Invariant.{Kept, passes-kept}
 use Rattle.dependency.specs.Search.Closed.{Ranged, paths-reached}
 use Rattle.dependency.specs.Search.Initial.{start-kept}
 
--- The entry at a place is in range.
-pub entry-at-ranged : (ws : List ℤ) → Entries ws → (i : ℕ) → i < entryCount ws → Ranged (entryAt ws i .variable)
-entry-at-ranged ws h i l = h .ranged (entryAt ws i) (member (prefixOf ws) i l)
-  where
-    member : (P : Prefix) (i : ℕ) → i < length P → List·Memᴰ (getD P i (entry 0 existential)) P
-    member [] i h = absurd (not-suc-le-zero h)
-    member (x ∷ P) zero h = List·Memᴰ·head refl
-    member (x ∷ P) (suc i) h = List·Memᴰ·tail (member P i (le-of-suc-le-suc h))
-
 module _ (p c : List ℤ) (admitted : Admitted p c) (u : ℕ) (range : Ranged u) (s : Bool) (m : List ℕ)
     (settled : Settled (clausesOf c) (set (openEntries (after u (prefixOf p)) (replicate 2050 0)) (slot u s) 3) m) where
   abbrev X : List ℕ

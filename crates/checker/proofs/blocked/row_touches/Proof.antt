@@ -22,9 +22,6 @@ Inv-loop words from scratch i₀ i = touches (rowIn scratch) (clauseAt words fro
 abbrev μ-loop : tie.MeasureT-loop
 μ-loop words from scratch i₀ i = length words - i
 
-loop-holds : tie.Need-loop-holds Inv-loop μ-loop
-loop-holds c = refl
-
 returns : tie.Need-returns Inv-loop μ-loop
 unfolding touches
 returns c =
@@ -80,7 +77,7 @@ row-touches-spec =
     (tie.spec
     Inv-loop
     μ-loop
-    loop-holds
+    (λ c. refl)
     (λ c. search needs)
     (λ c. search needs)
     (λ c κs. tt)

@@ -21,15 +21,6 @@ Inv-loop words from sought i₀ i = holds (toZ w32 sought) (clauseAt words from)
 abbrev μ-loop : tie.MeasureT-loop
 μ-loop words from sought i₀ i = length words - i
 
-loop-holds : tie.Need-loop-holds Inv-loop μ-loop
-loop-holds c = refl
-
-shared-slice-copy-out-word : tie.Need-shared-slice-copy-out-word Inv-loop μ-loop
-shared-slice-copy-out-word c = search needs
-
-is-zero-requires : tie.Need-is-zero-requires Inv-loop μ-loop
-is-zero-requires c κs = tt
-
 -- what the invariant says of the word sought
 settled : (c : tie.At-loop Inv-loop μ-loop) → holds (c .before .args .sought) (clauseAt (c .before .args .words .now) (c .before .args .from)) ≡ holds (c .before .args .sought) (clauseAt (c .before .args .words .now) (c .loop .i))
 settled c = let e : toZ w32 (ofZ w32 (c .before .args .sought)) ≡ c .before .args .sought = toZ-ofZ (c .before .fits .sought) in rw e at (c .loop .inv)
@@ -60,15 +51,6 @@ returns-2 c =
     let at = c .before .before .before .before .before .before in
     sym (settled at ∙ rw (literal-at (c .before), ← same-at (c .before), c .if2 .taken))
 
-same-requires : tie.Need-same-requires Inv-loop μ-loop
-same-requires c κs = tt
-
-add-i : tie.Need-add-i Inv-loop μ-loop
-add-i c = search needs
-
-loop-less : tie.Need-loop-less Inv-loop μ-loop
-loop-less c = search needs
-
 loop-again : tie.Need-loop-again Inv-loop μ-loop
 unfolding holds
 loop-again c =
@@ -85,4 +67,4 @@ returns-3 c =
 pub has-word-spec : {M : Type 1} → statement M
 has-word-spec =
     tie.close
-    (tie.spec Inv-loop μ-loop loop-holds (λ c. search needs) shared-slice-copy-out-word is-zero-requires returns same-requires returns-2 add-i loop-less loop-again returns-3)
+    (tie.spec Inv-loop μ-loop (λ c. refl) (λ c. search needs) (λ c. search needs) (λ c κs. tt) returns (λ c κs. tt) returns-2 (λ c. search needs) (λ c. search needs) loop-again returns-3)

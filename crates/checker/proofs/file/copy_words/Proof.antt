@@ -22,9 +22,6 @@ abbrev μ-loop : tie.MeasureT-loop
 loop-holds : tie.Need-loop-holds Inv-loop μ-loop
 loop-holds c = (omega arith, refl, refl, refl)
 
-loop-less : tie.Need-loop-less Inv-loop μ-loop
-loop-less c = omega arith
-
 loop-again : tie.Need-loop-again Inv-loop μ-loop
 loop-again c =
     let l = c .before .before .before .loop in
@@ -57,7 +54,7 @@ copy-words-spec =
     (λ c. search needs)
     (λ c. search needs)
     (λ c. search needs)
-    loop-less
+    (λ c. omega arith)
     loop-again
     (λ c. search needs)
     returns)

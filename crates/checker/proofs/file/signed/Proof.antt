@@ -8,12 +8,6 @@ use mir.Val.{toZ}
 use Rattle.checker.proofs.file.signed.Statement.{statement}
 use Rattle.checker.proofs.file.signed.Tie as tie
 
-cast-result-2 : tie.Need-cast-result-2
-cast-result-2 c = search needs
-
-returns : tie.Need-returns
-returns c = search needs
-
 returns-2 : tie.Need-returns-2
 returns-2 c =
     let n = c .before .args .n in
@@ -21,4 +15,4 @@ returns-2 c =
     ap (toZ w32) e
 
 pub signed-spec : {M : Type 1} → statement M
-signed-spec = tie.close (tie.spec (λ c. search needs) cast-result-2 returns returns-2)
+signed-spec = tie.close (tie.spec (λ c. search needs) (λ c. search needs) (λ c. search needs) returns-2)

@@ -4,8 +4,7 @@ use native.Mathlib.Omega.{arith}
 use borrow.Author.Needs.{needs}
 use Rattle.qbf.specs.Formula.{entry, existential, universal}
 use Rattle.formula.specs.Prefix.{entryAt}
-use Rattle.formula.specs.Prefix.Laws.{shown-existential, shown-universal}
-use Rattle.dependency.specs.Search.Laws.{entry-at-ranged}
+use Rattle.formula.specs.Prefix.Laws.{shown-existential, shown-universal, entry-at-ranged}
 use Rattle.checker.proofs.kinds.fill_entry.Statement.{statement}
 use Rattle.checker.proofs.kinds.fill_entry.Tie as tie
 

@@ -22,20 +22,11 @@ returns c =
     mark-left-out (start .args .marks .now) (start .args .except) (start .args .word)
     (read-same (start .args .except) (start .args .word) (start .fits .except) (start .fits .word) (c .before .same .ensures) (c .if1 .taken))
 
-slot-requires : tie.Need-slot-requires
-slot-requires c κs = search needs
-
-opposite-slot-requires : tie.Need-opposite-slot-requires
-opposite-slot-requires c κs = search needs
-
 slice-read-opposite : tie.Need-slice-read-opposite
 slice-read-opposite c = omega (arith, other-at c, slot-at-bound (negℤ (c .before .before .before .before .before .before .args .word)), c .before .before .before .before .before .before .pre)
 
 slice-write-marks : tie.Need-slice-write-marks
 slice-write-marks c = omega (arith, own-at c, slot-at-bound (c .before .before .before .before .before .before .args .word), c .before .before .before .before .before .before .pre)
-
-same-length : tie.Need-same-length
-same-length c = search needs
 
 returns-2 : tie.Need-returns-2
 returns-2 c =
@@ -47,4 +38,4 @@ returns-2 c =
 pub mark-word-spec : {M : Type 1} → statement M
 mark-word-spec =
     tie.close
-    (tie.spec (λ c κs. search needs) returns slot-requires opposite-slot-requires slice-read-opposite slice-write-marks same-length returns-2)
+    (tie.spec (λ c κs. search needs) returns (λ c κs. search needs) (λ c κs. search needs) slice-read-opposite slice-write-marks (λ c. search needs) returns-2)

@@ -18,9 +18,6 @@ slice-read-if1 c = omega (arith, own-at c, slot-at-bound (c .before .before .bef
 slice-write-marks : tie.Need-slice-write-marks
 slice-write-marks c = slice-read-if1 (c .before)
 
-same-length : tie.Need-same-length
-same-length c = search needs
-
 returns : tie.Need-returns
 returns c =
     let start = c .before .before .before .before in
@@ -32,4 +29,4 @@ returns-2 c =
     tick-none (start .args .marks .now) (start .args .word) (rw (own-at (c .before)) at (c .if1 .left))
 
 pub tick-word-spec : {M : Type 1} → statement M
-tick-word-spec = tie.close (tie.spec (λ c κs. search needs) slice-read-if1 slice-write-marks same-length returns returns-2)
+tick-word-spec = tie.close (tie.spec (λ c κs. search needs) slice-read-if1 slice-write-marks (λ c. search needs) returns returns-2)

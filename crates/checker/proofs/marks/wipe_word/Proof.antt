@@ -18,17 +18,11 @@ returns c =
     wipe-left-out (start .args .marks .now) (start .args .except) (start .args .word)
     (read-same (start .args .except) (start .args .word) (start .fits .except) (start .fits .word) (c .before .same .ensures) (c .if1 .taken))
 
-slot-requires : tie.Need-slot-requires
-slot-requires c κs = search needs
-
 slice-read-was : tie.Need-slice-read-was
 slice-read-was c = omega (arith, own-at c, slot-at-bound (c .before .before .before .before .before .args .word), c .before .before .before .before .before .pre)
 
 slice-write-marks : tie.Need-slice-write-marks
 slice-write-marks c = omega (arith, own-at c, slot-at-bound (c .before .before .before .before .before .args .word), c .before .before .before .before .before .pre)
-
-same-length : tie.Need-same-length
-same-length c = search needs
 
 returns-2 : tie.Need-returns-2
 returns-2 c =
@@ -39,4 +33,4 @@ returns-2 c =
 
 pub wipe-word-spec : {M : Type 1} → statement M
 wipe-word-spec =
-    tie.close (tie.spec (λ c κs. search needs) returns slot-requires slice-read-was slice-write-marks same-length returns-2)
+    tie.close (tie.spec (λ c κs. search needs) returns (λ c κs. search needs) slice-read-was slice-write-marks (λ c. search needs) returns-2)

@@ -20,7 +20,7 @@ returns c =
     record {
       verdict = judged .judge-proof .ensures;
       scratch-cleared = cleared .clear-lent .ensures .0 ∙ ap (λ (n : ℕ). replicate {A = ℕ} n 0) (judged .judge-proof .kept .1 .1 .1 .0);
-      starts-cleared = cleared .clear-lent .ensures .1 ∙ ap (λ (n : ℕ). replicate {A = ℕ} n 0) (judged .judge-proof .kept .1 .1 .1 .1 .0);
+      offsets-cleared = cleared .clear-lent .ensures .1 ∙ ap (λ (n : ℕ). replicate {A = ℕ} n 0) (judged .judge-proof .kept .1 .1 .1 .1 .0);
       lost = λ empty count e. accepted-lost plainRules plain-kinds prefix clauses steps (length (start .args .scratch .now)) (length (start .args .offsets .now)) (empty .0) count (sym (judged .judge-proof .ensures) ∙ e);
     }
 

@@ -4,9 +4,6 @@ use Rattle.checker.specs.Reading.Laws.{close-found, close-missing}
 use Rattle.checker.proofs.read.close_of.Statement.{statement}
 use Rattle.checker.proofs.read.close_of.Tie as tie
 
-add-t6 : tie.Need-add-t6
-add-t6 c = search needs
-
 returns : tie.Need-returns
 returns c =
     let start = c .before .before in
@@ -18,4 +15,4 @@ returns-2 c =
     close-missing (start .args .words .now) (start .args .from) (c .before .end-of .result) (c .before .end-of .ensures) (c .if1 .left)
 
 pub close-of-spec : {M : Type 1} → statement M
-close-of-spec = tie.close (tie.spec (λ c κs. search needs) add-t6 returns returns-2)
+close-of-spec = tie.close (tie.spec (λ c κs. search needs) (λ c. search needs) returns returns-2)

@@ -10,9 +10,6 @@ returns c =
     let start = c .before .before in
     kind-resolves (start .args .word) (read-number (start .args .word) 1 (start .fits .word) (c .before .same .ensures) (c .if1 .taken))
 
-same-requires-2 : tie.Need-same-requires-2
-same-requires-2 c κs = search needs
-
 returns-2 : tie.Need-returns-2
 returns-2 c =
     let start = c .before .before .before .before in
@@ -26,4 +23,4 @@ returns-3 c =
     (read-number (start .args .word) 2 (start .fits .word) (c .before .same2 .ensures) (c .if2 .left))
 
 pub kind-of-spec : {M : Type 1} → statement M
-kind-of-spec = tie.close (tie.spec (λ c κs. search needs) returns same-requires-2 returns-2 returns-3)
+kind-of-spec = tie.close (tie.spec (λ c κs. search needs) returns (λ c κs. search needs) returns-2 returns-3)

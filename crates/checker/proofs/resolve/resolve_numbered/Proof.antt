@@ -8,9 +8,6 @@ use Rattle.checker.specs.Step.Laws.{stored-by-number}
 use Rattle.checker.proofs.resolve.resolve_numbered.Statement.{statement}
 use Rattle.checker.proofs.resolve.resolve_numbered.Tie as tie
 
-table-of-requires-2 : tie.Need-table-of-requires-2
-table-of-requires-2 c κs = search needs
-
 place-of-requires : tie.Need-place-of-requires
 place-of-requires c κs = let p = c .before .before .before .before .pre in (p .1 .1 .0, p .1 .1 .1 .0)
 
@@ -35,9 +32,6 @@ resolve-on-requires c κs =
     let p = c .before .before .before .before .before .before .before .pre in
     (p .0, (p .1 .0, (rw (left-at (c .before)) (p .1 .1 .1 .1 .1 .1 .0), rw (right-at (c .before)) (p .1 .1 .1 .1 .1 .1 .1))))
 
-same-length : tie.Need-same-length
-same-length c = search needs
-
 returns : tie.Need-returns
 returns c =
     let found = c .before .before .before .before in
@@ -46,4 +40,4 @@ returns c =
 pub resolve-numbered-spec : {M : Type 1} → statement M
 resolve-numbered-spec =
     tie.close
-    (tie.spec (λ c κs. search needs) table-of-requires-2 place-of-requires place-of-requires-2 resolve-on-requires same-length returns)
+    (tie.spec (λ c κs. search needs) (λ c κs. search needs) place-of-requires place-of-requires-2 resolve-on-requires (λ c. search needs) returns)

@@ -24,9 +24,6 @@ wipe-requires c κs =
     let called = c .before .before .before in
     called .tick .kept .1 .1 .0 ∙ tick-requires (called .before) κs
 
-same-length : tie.Need-same-length
-same-length c = search needs
-
 returns : tie.Need-returns
 returns c =
     let wiped = c .before .before .before in
@@ -41,4 +38,4 @@ returns c =
     judged-statement (without a C) (clauseAt (start .args .steps .now) (start .args .statement)) (without-in-range a C (start .pre .1)) (marked .mark .result) (ticked .tick .result) (wiped .wipe .result) (start .args .marks .now) _ _ _ (start .pre .0) h (ticked .tick .ensures) l (c .decide .result) (c .decide .ensures)
 
 pub judge-reduct-spec : {M : Type 1} → statement M
-judge-reduct-spec = tie.close (tie.spec mark-requires tick-requires wipe-requires (λ c κs. search needs) same-length returns)
+judge-reduct-spec = tie.close (tie.spec mark-requires tick-requires wipe-requires (λ c κs. search needs) (λ c. search needs) returns)

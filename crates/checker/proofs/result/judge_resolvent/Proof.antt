@@ -24,9 +24,6 @@ wipe-both-requires c κs =
     let start = marked .before .before .before in
     (ticked .tick .kept .1 .1 .0 ∙ marked .mark-both .kept .1 .1 .1 .1 .1 .0 ∙ clean-length (start .pre .0), start .pre .1 .0)
 
-same-length : tie.Need-same-length
-same-length c = search needs
-
 returns : tie.Need-returns
 returns c =
     let wiped = c .before .before .before in
@@ -39,4 +36,4 @@ returns c =
     judged-result (resolvent e C D) (clauseAt (start .args .steps .now) (start .args .statement)) (resolvent-in-range e C D (start .pre .1 .1 .0) (start .pre .1 .1 .1)) (marked .mark-both .result) (ticked .tick .result) (wiped .wipe-both .result) (start .args .marks .now) _ _ _ (start .pre .0) (marked .mark-both .ensures) (ticked .tick .ensures) (wiped .wipe-both .ensures) (c .decide .result) (c .decide .ensures)
 
 pub judge-resolvent-spec : {M : Type 1} → statement M
-judge-resolvent-spec = tie.close (tie.spec mark-both-requires tick-requires wipe-both-requires (λ c κs. search needs) same-length returns)
+judge-resolvent-spec = tie.close (tie.spec mark-both-requires tick-requires wipe-both-requires (λ c κs. search needs) (λ c. search needs) returns)

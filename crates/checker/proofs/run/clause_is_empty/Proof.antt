@@ -12,12 +12,6 @@ use Rattle.checker.proofs.Signed.{read-zero}
 use Rattle.checker.proofs.run.clause_is_empty.Statement.{statement}
 use Rattle.checker.proofs.run.clause_is_empty.Tie as tie
 
-shared-slice-copy-out-word : tie.Need-shared-slice-copy-out-word
-shared-slice-copy-out-word c = search needs
-
-is-zero-requires : tie.Need-is-zero-requires
-is-zero-requires c κs = search needs
-
 returns : tie.Need-returns
 returns c = go (c .is-zero .result) (read-zero word (c .before .word .given) (c .is-zero .ensures) refl)
   where
@@ -32,4 +26,4 @@ returns-2 : tie.Need-returns-2
 returns-2 c = sym (ap isEmpty (clause-past (c .before .args .words .now) (c .before .args .from) (c .if1 .left)))
 
 pub clause-is-empty-spec : {M : Type 1} → statement M
-clause-is-empty-spec = tie.close (tie.spec (λ c. search needs) shared-slice-copy-out-word is-zero-requires returns returns-2)
+clause-is-empty-spec = tie.close (tie.spec (λ c. search needs) (λ c. search needs) (λ c κs. search needs) returns returns-2)

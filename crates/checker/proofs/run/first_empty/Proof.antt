@@ -21,9 +21,6 @@ Inv-loop clauses steps offsets inputs numbered k₀ k =
 abbrev μ-loop : tie.MeasureT-loop
 μ-loop clauses steps offsets inputs numbered k₀ k = numbered - k
 
-loop-holds : tie.Need-loop-holds Inv-loop μ-loop
-loop-holds c = refl
-
 number-is-empty-requires : tie.Need-number-is-empty-requires Inv-loop μ-loop
 number-is-empty-requires c κs = omega (arith, c .loop-test .taken, c .before .before .before .pre)
 
@@ -61,4 +58,4 @@ returns-2 c =
 
 pub first-empty-spec : {M : Type 1} → statement M
 first-empty-spec =
-    tie.close (tie.spec Inv-loop μ-loop loop-holds number-is-empty-requires at-requires returns add-k loop-less loop-again returns-2)
+    tie.close (tie.spec Inv-loop μ-loop (λ c. refl) number-is-empty-requires at-requires returns add-k loop-less loop-again returns-2)

@@ -20,9 +20,6 @@ abbrev μ-loop : tie.MeasureT-loop
 within : (c : tie.In-loop Inv-loop μ-loop) → c .before .loop .i < entryCount (c .before .before .before .args .prefix .now)
 within c = omega (arith, c .before .before .entry-count .ensures, c .loop-test .taken)
 
-loop-holds : tie.Need-loop-holds Inv-loop μ-loop
-loop-holds c = refl
-
 is-universal-at-requires : tie.Need-is-universal-at-requires Inv-loop μ-loop
 is-universal-at-requires c κs = (c .before .before .before .pre, within c)
 
@@ -54,7 +51,7 @@ is-universal-spec =
     Inv-loop
     μ-loop
     (λ c κs. search needs)
-    loop-holds
+    (λ c. refl)
     is-universal-at-requires
     returns
     (λ c. search needs)

@@ -9,11 +9,9 @@ returns : tie.Need-returns
 returns c = rw (c .new .ensures, lt-leb _ _ (c .before .if1 .taken))
 
 returns-2 : tie.Need-returns-2
-unfolding scratchBound
 returns-2 c = rw (c .new2 .ensures, le-leb _ _ (c .before .before .if1 .left), lt-leb _ _ (c .before .if2 .taken))
 
 returns-3 : tie.Need-returns-3
-unfolding scratchBound
 returns-3 c = rw (le-leb _ _ (c .before .if1 .left), le-leb _ _ (c .if2 .left))
 
 pub room-answer-spec : {M : Type 1} → statement M

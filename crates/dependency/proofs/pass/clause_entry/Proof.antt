@@ -42,9 +42,6 @@ step c =
     let l = c .before .before .before .before .before .loop in
     rw (seen-told c) (rw (clause-literal (c .before .before .before .before .before .before .before .args .clauses .now) (l .i) (search needs) k) at (l .inv))
 
-loop-holds : tie.Need-loop-holds Inv-loop μ-loop
-loop-holds c = refl
-
 returns : tie.Need-returns Inv-loop μ-loop
 unfolding clauseEntry
 returns c =
@@ -70,7 +67,7 @@ clause-entry-spec =
     (tie.spec
     Inv-loop
     μ-loop
-    loop-holds
+    (λ c. refl)
     (λ c. search needs)
     (λ c. search needs)
     (λ c κs. search needs)

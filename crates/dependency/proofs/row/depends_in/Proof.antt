@@ -6,7 +6,6 @@ use Rattle.dependency.proofs.row.depends_in.Statement.{statement}
 use Rattle.dependency.proofs.row.depends_in.Tie as tie
 
 shared-slice-read-result : tie.Need-shared-slice-read-result
-unfolding scratchBound
 shared-slice-read-result c = search needs
 
 returns : tie.Need-returns

@@ -12,11 +12,9 @@ use Rattle.dependency.proofs.row.make_row.Statement.{statement}
 use Rattle.dependency.proofs.row.make_row.Tie as tie
 
 lent : (c : tie.Start) → length (take 5125 (c .args .scratch .now)) ≡ 5125
-unfolding scratchBound
 lent c = let h : 8200 ≤ length (c .args .scratch .now) = c .pre .1 .1 in length-take-le 5125 (c .args .scratch .now) (omega arith)
 
 slice-relend-prefix-universal-row : tie.Need-slice-relend-prefix-universal-row
-unfolding scratchBound
 slice-relend-prefix-universal-row c = search needs
 
 slice-aggregate-universal-row : tie.Need-slice-aggregate-universal-row

@@ -6,9 +6,8 @@ use lib.ListN.{length-set}
 use borrow.Author.Needs.{needs}
 use Rattle.qbf.specs.Formula.{Entry, entry, existential}
 use Rattle.formula.specs.Prefix.{entryAt}
-use Rattle.formula.specs.Prefix.Laws.{shown-existential, shown-universal}
+use Rattle.formula.specs.Prefix.Laws.{shown-existential, shown-universal, entry-at-ranged}
 use Rattle.dependency.specs.Search.{openEntry}
-use Rattle.dependency.specs.Search.Laws.{entry-at-ranged}
 use Rattle.dependency.proofs.search.open_entry.Statement.{statement}
 use Rattle.dependency.proofs.search.open_entry.Tie as tie
 

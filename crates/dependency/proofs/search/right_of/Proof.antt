@@ -21,9 +21,6 @@ abbrev μ-loop : tie.MeasureT-loop
 within : (c : tie.In-loop Inv-loop μ-loop) → c .before .loop .i < entryCount (c .before .before .before .args .prefix .now)
 within c = omega (arith, c .before .before .entry-count .ensures, c .loop-test .taken)
 
-loop-holds : tie.Need-loop-holds Inv-loop μ-loop
-loop-holds c = refl
-
 variable-at-requires : tie.Need-variable-at-requires Inv-loop μ-loop
 variable-at-requires c κs = (c .before .before .before .pre, within c)
 
@@ -60,7 +57,7 @@ right-of-spec =
     Inv-loop
     μ-loop
     (λ c κs. search needs)
-    loop-holds
+    (λ c. refl)
     variable-at-requires
     (λ c. search needs)
     returns

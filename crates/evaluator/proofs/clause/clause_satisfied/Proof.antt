@@ -22,9 +22,6 @@ Inv-loop values clauses from i₀ i =
 abbrev μ-loop : tie.MeasureT-loop
 μ-loop values clauses from i₀ i = length clauses - i
 
-loop-holds : tie.Need-loop-holds Inv-loop μ-loop
-loop-holds c = refl
-
 abbrev word-at : (c : tie.After-word Inv-loop μ-loop) → ℤ
 word-at c = getD (c .before .before .before .before .args .clauses .now) (c .before .before .loop .i) (pos 0)
 
@@ -73,7 +70,7 @@ clause-satisfied-spec =
     (tie.spec
     Inv-loop
     μ-loop
-    loop-holds
+    (λ c. refl)
     (λ c. search needs)
     (λ c. search needs)
     (λ c κs. search needs)

@@ -19,9 +19,6 @@ Inv-loop values clauses i₀ i = falsified (valuesOf values) (matrixOf (drop i c
 abbrev μ-loop : tie.MeasureT-loop
 μ-loop values clauses i₀ i = length clauses - i
 
-loop-holds : tie.Need-loop-holds Inv-loop μ-loop
-loop-holds c = refl
-
 -- what the test of the clause at the place, answered b, says of the matrix
 tested :
     (c : tie.After-clause-satisfied Inv-loop μ-loop) (b : Bool)
@@ -60,7 +57,7 @@ matrix-falsified-spec =
     (tie.spec
     Inv-loop
     μ-loop
-    loop-holds
+    (λ c. refl)
     (λ c κs. search needs)
     (λ c κs. search needs)
     loop-less

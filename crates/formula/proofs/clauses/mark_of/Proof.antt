@@ -5,17 +5,8 @@ use borrow.Author.Needs.{needs}
 use Rattle.formula.proofs.clauses.mark_of.Statement.{statement}
 use Rattle.formula.proofs.clauses.mark_of.Tie as tie
 
-mul-result : tie.Need-mul-result
-mul-result c = search needs
-
-element-copy-out-result : tie.Need-element-copy-out-result
-element-copy-out-result c = search needs
-
-returns : tie.Need-returns
-returns c = search needs
-
 returns-2 : tie.Need-returns-2
 returns-2 c = sym (List·getD-eq-default (c .before .args .marks .now) 0 {n = c .before .args .n} (search needs))
 
 pub mark-of-spec : {M : Type 1} → statement M
-mark-of-spec = tie.close (tie.spec mul-result element-copy-out-result returns returns-2)
+mark-of-spec = tie.close (tie.spec (λ c. search needs) (λ c. search needs) (λ c. search needs) returns-2)

@@ -19,12 +19,6 @@ abbrev μ-loop : tie.MeasureT-loop
 loop-holds : tie.Need-loop-holds Inv-loop μ-loop
 loop-holds c = (refl, refl)
 
-slice-write-buffer : tie.Need-slice-write-buffer Inv-loop μ-loop
-slice-write-buffer c = search needs
-
-add-i : tie.Need-add-i Inv-loop μ-loop
-add-i c = omega arith
-
 loop-less : tie.Need-loop-less Inv-loop μ-loop
 loop-less c = simp length-set (omega arith)
 
@@ -33,12 +27,9 @@ loop-again c =
     let l = c .before .loop in
     (rw add-one (clear-step 0 (l .i) (l .buffer) (search needs) ∙ l .inv .0), simp length-set (l .inv .1))
 
-same-length : tie.Need-same-length Inv-loop μ-loop
-same-length c = search needs
-
 returns : tie.Need-returns Inv-loop μ-loop
 returns c = let l = c .before .loop in sym (clear-end 0 (l .i) (l .buffer) (search needs)) ∙ l .inv .0
 
 pub clear-bytes-spec : {M : Type 1} → statement M
 clear-bytes-spec =
-    tie.close (tie.spec Inv-loop μ-loop loop-holds slice-write-buffer add-i loop-less loop-again same-length returns)
+    tie.close (tie.spec Inv-loop μ-loop loop-holds (λ c. search needs) (λ c. omega arith) loop-less loop-again (λ c. search needs) returns)

@@ -20,15 +20,6 @@ abbrev μ-loop : tie.MeasureT-loop
 loop-holds : tie.Need-loop-holds Inv-loop μ-loop
 loop-holds c = (refl, refl)
 
-mul-buffer : tie.Need-mul-buffer Inv-loop μ-loop
-mul-buffer c = search needs
-
-slice-set-of-buffer : tie.Need-slice-set-of-buffer Inv-loop μ-loop
-slice-set-of-buffer c = search needs
-
-add-i : tie.Need-add-i Inv-loop μ-loop
-add-i c = omega arith
-
 loop-less : tie.Need-loop-less Inv-loop μ-loop
 loop-less c = simp length-set (omega arith)
 
@@ -37,12 +28,9 @@ loop-again c =
     let l = c .before .loop in
     (rw add-one (clear-step (pos 0) (l .i) (l .buffer) (search needs) ∙ l .inv .0), simp length-set (l .inv .1))
 
-same-length : tie.Need-same-length Inv-loop μ-loop
-same-length c = search needs
-
 returns : tie.Need-returns Inv-loop μ-loop
 returns c = let l = c .before .loop in sym (clear-end (pos 0) (l .i) (l .buffer) (search needs)) ∙ l .inv .0
 
 pub clear-words-spec : {M : Type 1} → statement M
 clear-words-spec =
-    tie.close (tie.spec Inv-loop μ-loop loop-holds mul-buffer slice-set-of-buffer add-i loop-less loop-again same-length returns)
+    tie.close (tie.spec Inv-loop μ-loop loop-holds (λ c. search needs) (λ c. search needs) (λ c. omega arith) loop-less loop-again (λ c. search needs) returns)

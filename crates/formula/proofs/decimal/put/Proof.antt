@@ -5,25 +5,10 @@ use lib.Seq.{set-out}
 use Rattle.formula.proofs.decimal.put.Statement.{statement}
 use Rattle.formula.proofs.decimal.put.Tie as tie
 
-slice-write-text : tie.Need-slice-write-text
-slice-write-text c = search needs
-
-add-result : tie.Need-add-result
-add-result c = search needs
-
-same-length : tie.Need-same-length
-same-length c = search needs
-
-returns : tie.Need-returns
-returns c = search needs
-
-add-result-2 : tie.Need-add-result-2
-add-result-2 c = search needs
-
 returns-2 : tie.Need-returns-2
 returns-2 c =
     let a = c .before .args in
     record { stored = sym (set-out (a .text .now) (a .at) (a .byte) (c .if1 .left)); reached = refl }
 
 pub put-spec : {M : Type 1} → statement M
-put-spec = tie.close (tie.spec slice-write-text add-result same-length returns add-result-2 returns-2)
+put-spec = tie.close (tie.spec (λ c. search needs) (λ c. search needs) (λ c. search needs) (λ c. search needs) (λ c. search needs) returns-2)

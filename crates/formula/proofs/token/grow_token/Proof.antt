@@ -16,9 +16,6 @@ Inv-loop text start token₀ i₀ token i = nextFrom start (within start (Word e
 abbrev μ-loop : tie.MeasureT-loop
 μ-loop text start token₀ i₀ token i = length text - i
 
-loop-holds : tie.Need-loop-holds Inv-loop μ-loop
-loop-holds c = refl
-
 returns : tie.Need-returns Inv-loop μ-loop
 returns c =
     let l = c .before .before .before .before .loop in
@@ -43,7 +40,7 @@ grow-token-spec =
     (tie.spec
     Inv-loop
     μ-loop
-    loop-holds
+    (λ c. refl)
     (λ c. search needs)
     (λ c κs. search needs)
     returns

@@ -8,9 +8,6 @@ use Rattle.formula.proofs.token.line_step.Tie as tie
 returns : tie.Need-returns
 returns c = simp (eq-eqb _ _ (c .if1 .taken))
 
-is-blank-requires : tie.Need-is-blank-requires
-is-blank-requires c κs = search needs
-
 returns-2 : tie.Need-returns-2
 returns-2 c = simp (ne-eqb _ _ (c .before .before .if1 .left), sym (c .before .is-blank .ensures) ∙ c .if2 .taken)
 
@@ -23,4 +20,4 @@ returns-4 c =
     simp (ne-eqb _ _ (c .before .before .before .if1 .left), sym (c .before .before .is-blank .ensures) ∙ c .before .if2 .left, c .if3 .left)
 
 pub line-step-spec : {M : Type 1} → statement M
-line-step-spec = tie.close (tie.spec returns is-blank-requires returns-2 returns-3 returns-4)
+line-step-spec = tie.close (tie.spec returns (λ c κs. search needs) returns-2 returns-3 returns-4)

@@ -6,12 +6,6 @@ use borrow.Author.Needs.{needs}
 use Rattle.formula.proofs.token.next_token.Statement.{statement}
 use Rattle.formula.proofs.token.next_token.Tie as tie
 
-skip-blanks-requires : tie.Need-skip-blanks-requires
-skip-blanks-requires c κs = search needs
-
-grow-token-requires : tie.Need-grow-token-requires
-grow-token-requires c κs = search needs
-
 returns : tie.Need-returns
 returns c =
     let start = c .before .before .skip-blanks .result in
@@ -26,4 +20,4 @@ returns-2 c =
     sym (c .before .skip-blanks .ensures .same ∙ next-end text start between (c .if1 .left))
 
 pub next-token-spec : {M : Type 1} → statement M
-next-token-spec = tie.close (tie.spec skip-blanks-requires grow-token-requires returns returns-2)
+next-token-spec = tie.close (tie.spec (λ c κs. search needs) (λ c κs. search needs) returns returns-2)

@@ -9,18 +9,6 @@ returns : tie.Need-returns
 unfolding numeral
 returns c = omega arith
 
-mul-m : tie.Need-mul-m
-mul-m c = search needs
-
-sub-m : tie.Need-sub-m
-sub-m c = search needs
-
-cast-m : tie.Need-cast-m
-cast-m c = search needs
-
-add-m : tie.Need-add-m
-add-m c = search needs
-
 returns-2 : tie.Need-returns-2
 unfolding numeral
 returns-2 c = omega arith
@@ -30,4 +18,4 @@ unfolding numeral
 returns-3 c = omega arith
 
 pub numeral-spec : {M : Type 1} → statement M
-numeral-spec = tie.close (tie.spec returns mul-m sub-m cast-m add-m returns-2 returns-3)
+numeral-spec = tie.close (tie.spec returns (λ c. search needs) (λ c. search needs) (λ c. search needs) (λ c. search needs) returns-2 returns-3)

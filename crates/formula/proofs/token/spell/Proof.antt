@@ -9,15 +9,9 @@ returns : tie.Need-returns
 unfolding spell
 returns c = omega arith
 
-mul-result : tie.Need-mul-result
-mul-result c = search needs
-
-add-result : tie.Need-add-result
-add-result c = search needs
-
 returns-2 : tie.Need-returns-2
 unfolding spell
 returns-2 c = omega arith
 
 pub spell-spec : {M : Type 1} → statement M
-spell-spec = tie.close (tie.spec returns mul-result add-result returns-2)
+spell-spec = tie.close (tie.spec returns (λ c. search needs) (λ c. search needs) returns-2)

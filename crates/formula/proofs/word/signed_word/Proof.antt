@@ -7,14 +7,8 @@ use borrow.Author.Needs.{needs}
 use Rattle.formula.proofs.word.signed_word.Statement.{statement}
 use Rattle.formula.proofs.word.signed_word.Tie as tie
 
-cast-result : tie.Need-cast-result
-cast-result c = search needs
-
 returns : tie.Need-returns
 returns c = rw (c .if1 .taken) (number-word (c .before .args .n) (c .before .pre))
-
-cast-result-2 : tie.Need-cast-result-2
-cast-result-2 c = search needs
 
 sub-result : tie.Need-sub-result
 sub-result c =
@@ -27,4 +21,4 @@ returns-2 c =
     rw (number-word n (c .before .pre), zero-sub (pos n), c .if1 .left) (signed-back false n (c .before .pre))
 
 pub signed-word-spec : {M : Type 1} → statement M
-signed-word-spec = tie.close (tie.spec cast-result returns cast-result-2 sub-result returns-2)
+signed-word-spec = tie.close (tie.spec (λ c. search needs) returns (λ c. search needs) sub-result returns-2)

@@ -21,15 +21,6 @@ Inv-loop words from at₀ at = closeFrom at (drop at words) ≡ closeFrom from (
 abbrev μ-loop : tie.MeasureT-loop
 μ-loop words from at₀ at = length words - at
 
-loop-holds : tie.Need-loop-holds Inv-loop μ-loop
-loop-holds c = refl
-
-clause-word-requires : tie.Need-clause-word-requires Inv-loop μ-loop
-clause-word-requires c κs = search needs
-
-enum-told : tie.Need-enum-told Inv-loop μ-loop
-enum-told c = search needs
-
 -- the words, the place reached and the word found there, at a literal
 abbrev words : tie.After-enum-told Inv-loop μ-loop → List ℤ
 words c = now (c .before .before .before .before .args .words)
@@ -52,17 +43,11 @@ loop-less c = omega (arith, within c)
 loop-again : tie.Need-loop-again Inv-loop μ-loop
 loop-again c = rw add-one (sym (close-past-word (place c) (words c) (place c) _ (found c)) ∙ c .before .before .before .loop .inv)
 
-enum-told-2 : tie.Need-enum-told-2 Inv-loop μ-loop
-enum-told-2 c = search needs
-
 returns : tie.Need-returns Inv-loop μ-loop
 returns c =
     let ws : List ℤ = now (c .before .before .before .before .args .words) in
     let l = c .before .before .before .loop in
     sym (close-at-zero (l .at) ws (l .at) (sym (c .before .before .clause-word .ensures) ∙ c .enum-told2 .given .1)) ∙ l .inv
-
-enum-told-3 : tie.Need-enum-told-3 Inv-loop μ-loop
-enum-told-3 c = search needs
 
 returns-2 : tie.Need-returns-2 Inv-loop μ-loop
 returns-2 c =
@@ -72,4 +57,4 @@ returns-2 c =
 
 pub clause-end-spec : {M : Type 1} → statement M
 clause-end-spec =
-    tie.close (tie.spec Inv-loop μ-loop loop-holds clause-word-requires enum-told add-at loop-less loop-again enum-told-2 returns enum-told-3 returns-2)
+    tie.close (tie.spec Inv-loop μ-loop (λ c. refl) (λ c κs. search needs) (λ c. search needs) add-at loop-less loop-again (λ c. search needs) returns (λ c. search needs) returns-2)

@@ -6,9 +6,6 @@ use Rattle.formula.specs.ClauseWords.Laws.{place-after-end, place-after-
 use Rattle.formula.proofs.words.place_after.Statement.{statement}
 use Rattle.formula.proofs.words.place_after.Tie as tie
 
-add-result : tie.Need-add-result
-add-result c = search needs
-
 returns : tie.Need-returns
 returns c = rw add-one (sym (place-after-word _ _ (c .if1 .taken)))
 
@@ -16,4 +13,4 @@ returns-2 : tie.Need-returns-2
 returns-2 c = sym (place-after-end _ _ (c .if1 .left))
 
 pub place-after-spec : {M : Type 1} → statement M
-place-after-spec = tie.close (tie.spec add-result returns returns-2)
+place-after-spec = tie.close (tie.spec (λ c. search needs) returns returns-2)

@@ -12,12 +12,6 @@ use Rattle.formula.proofs.Signed.{bits-zero}
 use Rattle.formula.proofs.words.word_at.Statement.{statement}
 use Rattle.formula.proofs.words.word_at.Tie as tie
 
-mul-word : tie.Need-mul-word
-mul-word c = search needs
-
-shared-slice-copy-out-word : tie.Need-shared-slice-copy-out-word
-shared-slice-copy-out-word c = search needs
-
 returns : tie.Need-returns
 unfolding wordIs
 returns c =
@@ -38,4 +32,4 @@ returns-3 : tie.Need-returns-3
 returns-3 c = sym (word-at-end _ _ (c .if1 .left))
 
 pub word-at-spec : {M : Type 1} → statement M
-word-at-spec = tie.close (tie.spec mul-word shared-slice-copy-out-word returns returns-2 returns-3)
+word-at-spec = tie.close (tie.spec (λ c. search needs) (λ c. search needs) returns returns-2 returns-3)

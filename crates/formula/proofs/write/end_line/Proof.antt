@@ -10,16 +10,10 @@ returns : tie.Need-returns
 unfolding lineEnd
 returns c = rw (c .if1 .taken) (stores-none _ _)
 
-slice-aggregate-write-bytes : tie.Need-slice-aggregate-write-bytes
-slice-aggregate-write-bytes c = search needs
-
 write-bytes-requires : tie.Need-write-bytes-requires
 write-bytes-requires c κs =
     let s = c .before .before .before .before in
     rw (line-end-open (s .args .last) (c .before .before .if1 .left)) at (s .pre)
-
-same-length : tie.Need-same-length
-same-length c = search needs
 
 returns-2 : tie.Need-returns-2
 returns-2 c =
@@ -29,4 +23,4 @@ returns-2 c =
 pub end-line-spec : {M : Type 1} → statement M
 end-line-spec =
     tie.close
-    (tie.spec returns slice-aggregate-write-bytes write-bytes-requires same-length returns-2)
+    (tie.spec returns (λ c. search needs) write-bytes-requires (λ c. search needs) returns-2)

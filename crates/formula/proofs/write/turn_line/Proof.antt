@@ -43,9 +43,6 @@ put-requires-2 c κs =
     (below-rest (s .args .letter ∷ 32 ∷ []) (rw (turned (ended .before)) at (s .pre)) (ended .end-line .ensures))
     (lettered .put .ensures)
 
-same-length : tie.Need-same-length
-same-length c = search needs
-
 returns-2 : tie.Need-returns-2
 returns-2 c =
     let spaced = c .before .before in
@@ -56,4 +53,4 @@ returns-2 c =
 pub turn-line-spec : {M : Type 1} → statement M
 turn-line-spec =
     tie.close
-    (tie.spec returns end-line-requires put-requires put-requires-2 same-length returns-2)
+    (tie.spec returns end-line-requires put-requires put-requires-2 (λ c. search needs) returns-2)

@@ -12,11 +12,8 @@ write-number-requires c κs = below-first _ (decimal (c .before .before .args .n
 put-requires : tie.Need-put-requires
 put-requires c κs = below-rest (32 ∷ []) (c .before .before .before .before .before .before .pre) (c .before .before .before .write-number .ensures)
 
-same-length : tie.Need-same-length
-same-length c = search needs
-
 returns : tie.Need-returns
 returns c = stores-append (c .before .before .before .before .before .before .write-number .ensures) (c .before .before .put .ensures)
 
 pub write-spaced-spec : {M : Type 1} → statement M
-write-spaced-spec = tie.close (tie.spec write-number-requires put-requires same-length returns)
+write-spaced-spec = tie.close (tie.spec write-number-requires put-requires (λ c. search needs) returns)
