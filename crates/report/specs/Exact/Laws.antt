@@ -81,7 +81,7 @@ module _ (room : Room) (formula proof : List ℕ) (within : FilesWithin room for
         sized = fits .1 .sized;
         scratch-fits = fits .1 .scratch-fits;
         refutation = r .refutation;
-        starts-fit = fits .1 .starts-fit (r .refutation .steps) (r .refutation .written);
+        offsets-fit = fits .1 .offsets-fit (r .refutation .steps) (r .refutation .written);
         place = place;
         place-numbered = refl;
         first-empty = f;
@@ -99,7 +99,6 @@ module _ (room : Room) (formula proof : List ℕ) (within : FilesWithin room for
 
 -- Files of 65,536 bytes at most are within the room of 01's programs.
 pub program-within : (formula proof : List ℕ) → length formula ≤ fileBound → length proof ≤ fileBound → FilesWithin programRoom formula proof
-unfolding scratchBound
 program-within formula proof h k =
     record {
       formula-fits = h;

@@ -10,7 +10,7 @@ use Rattle.report.proofs.dependents.write_tables.Statement.{statement}
 use Rattle.report.proofs.dependents.write_tables.Tie as tie
 
 returns : tie.Need-returns
-unfolding tablesText scratchBound
+unfolding tablesText
 returns c =
     let other = c .before .before .before .before .before in
     let s = other .before .before .before in
@@ -18,7 +18,7 @@ returns c =
     rw (lt-leb scratchBound (length (s .args .scratch .now)) (other .if1 .taken)) (record { stores = stored .stores; short = omega (arith, stored .short) })
 
 returns-2 : tie.Need-returns-2
-unfolding tablesText scratchBound
+unfolding tablesText
 returns-2 c =
     let other = c .before .before .before .before .before .before .before in
     let s = other .before .before .before in
@@ -26,7 +26,6 @@ returns-2 c =
     (record { stores = c .before .before .before .before .write-lines .ensures; short = universal-lines-short _ _ (s .pre) })
 
 pub write-tables-spec : {M : Type 1} → statement M
-unfolding scratchBound
 write-tables-spec =
     tie.close
     (tie.spec

@@ -11,7 +11,6 @@ use Rattle.report.proofs.program.program_line.Statement.{statement}
 use Rattle.report.proofs.program.program_line.Tie as tie
 
 returns : tie.Need-returns
-unfolding scratchBound
 returns c =
     let called = c .before .before .before .before .before .before .before in
     line-printed

@@ -13,7 +13,6 @@ use Rattle.report.proofs.program.program_text.Statement.{statement}
 use Rattle.report.proofs.program.program_text.Tie as tie
 
 returns : tie.Need-returns
-unfolding scratchBound
 returns c =
     let called = c .before .before .before .before .before in
     text-printed
