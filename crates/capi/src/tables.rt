@@ -8,7 +8,7 @@ use formula::tables::check_tables;
 ghost use mathlib.Core.Path.{_≡_};
 ghost use Rattle.formula.specs.Tables.{tablesAnswer};
 ghost use Rattle.formula.specs.declared.tables.TablesAnswer.{TablesAnswer as Check};
-ghost use Rattle.dependency.specs.Row.{RowDone};
+ghost use Rattle.dependency.specs.Answer.{RowDone};
 ghost use Rattle.dependency.specs.declared.answer.RowAnswer.{RowAnswer as Row};
 ghost use Rattle.evaluator.specs.Evaluation.{evaluationOf};
 ghost use Rattle.evaluator.specs.declared.evaluation.Evaluation.{Evaluation as Verdict};

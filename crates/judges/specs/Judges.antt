@@ -4,10 +4,10 @@ use mathlib.Core.Path.{_≡_}
 use mathlib.Core.List.{List}
 use native.Mathlib.Decide.{decLe}
 use native.Mathlib.Omega.{arith}
-use lib.ListN.{length}
 use lib.IntN.{ℤ}
 use Rattle.qbf.specs.Play.{Lost}
 use Rattle.formula.specs.Decode.{formulaOf}
+use Rattle.formula.specs.Prefix.{entryCount}
 use Rattle.formula.specs.Refusal.{refusal}
 use Rattle.formula.specs.declared.refusal.Reason.the-variants.{Oversized}
 use Rattle.checker.specs.declared.verdict.Verdict.the-variants.{Accepted}
@@ -27,7 +27,7 @@ module _ (prefix clauses steps : List ℤ) (scratch room empty count : ℕ) wher
   accepted-game-lost accepted = accepted-lost plainRules plain-kinds prefix clauses steps scratch room empty count accepted
 
   -- Up to 16 variables the evaluator then answers false.
-  pub accepted-evaluated-false : verdictOf plainRules prefix clauses steps scratch room ≡ Accepted (record { 0 = empty }) count → length prefix ≤ gameBound → evaluationOf prefix clauses ≡ False
+  pub accepted-evaluated-false : verdictOf plainRules prefix clauses steps scratch room ≡ Accepted (record { 0 = empty }) count → entryCount prefix ≤ gameBound → evaluationOf prefix clauses ≡ False
   accepted-evaluated-false accepted small =
       let r = accepted-refutation plainRules plain-kinds prefix clauses steps scratch room empty count accepted in
       evaluation-false-lost prefix clauses (r .admitted) small .1 (accepted-game-lost accepted)
@@ -35,9 +35,9 @@ module _ (prefix clauses steps : List ℤ) (scratch room empty count : ℕ) wher
 -- No formula that the evaluator calls true has an accepted proof.
 module _ (prefix clauses steps : List ℤ) (scratch room empty count : ℕ) where
   pub true-never-accepted : evaluationOf prefix clauses ≡ True → verdictOf plainRules prefix clauses steps scratch room ≡ Accepted (record { 0 = empty }) count → ⊥
-  true-never-accepted says-true accepted = go (decLe (length prefix) gameBound)
+  true-never-accepted says-true accepted = go (decLe (entryCount prefix) gameBound)
     where
-      go : Dec (length prefix ≤ gameBound) → ⊥
+      go : Dec (entryCount prefix ≤ gameBound) → ⊥
       go (yes small) =
           let says-false : evaluationOf prefix clauses ≡ False = accepted-evaluated-false prefix clauses steps scratch room empty count accepted small in
           let z : _≡_ {A = ℕ} 0 1 = cc in

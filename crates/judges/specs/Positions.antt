@@ -11,13 +11,16 @@ use Rattle.qbf.specs.Formula.{after, existentials}
 use Rattle.qbf.specs.Path.{holds as holdsLiteral, together, joined, literals, reach}
 use Rattle.qbf.specs.Dependency.{member, pair, depends}
 use Rattle.qbf.specs.Play.{satisfied, falsified, lost}
-use Rattle.formula.specs.Word.{wordOf}
+use Rattle.formula.specs.Word.{wordOf, isZero}
+use Rattle.formula.specs.Prefix.{prefixOf, quantifies}
 use Rattle.formula.specs.Decode.{firstClause, clausesOf, formulaOf}
 use Rattle.formula.specs.Tables.{isIn, zeros, prefixRefusal, clausesRefusal, tablesRefusal}
 use Rattle.formula.specs.Refusal.{refusal}
 use Rattle.formula.specs.declared.refusal.Reason.the-variants.{WrongPivot, Tautology, Blocked, Misstated, NoConclusion}
 use Rattle.dependency.specs.declared.answer.RowAnswer.the-variants.{Filled}
-use Rattle.dependency.specs.Row.{isUniversal, rowBelow, rowOf, rowRefusal, answerRow, rowBuffer}
+use Rattle.dependency.specs.Row.{rowBelow, rowOf}
+use Rattle.dependency.specs.Scratch.{scratchBound}
+use Rattle.dependency.specs.Answer.{rowRefusal, answerRow, rowBuffer}
 use Rattle.checker.specs.declared.verdict.Verdict.{Verdict}
 use Rattle.checker.specs.declared.verdict.Verdict.the-variants.{Accepted, Refused}
 use Rattle.checker.specs.Rules.{plainRules}
@@ -40,12 +43,12 @@ abbrev pub marked : List ℕ → List ℕ
 marked [] = replicate 1025 0
 marked (e ∷ es) = set (marked es) e 1
 
--- The entry answers so, with a row of 1,025 bytes, scratch of 8,200 and 16 starts.
+-- The entry answers so, with a row of 1,025 bytes, scratch of the bytes asked for and 16 clause offsets.
 abbrev pub Answered : Position → Type 0
 Answered (row prefix clauses variable dependents) =
-    (answerRow (rowRefusal prefix clauses variable 1025 8200) ≡ Filled)
-    × (rowBuffer (rowRefusal prefix clauses variable 1025 8200) (formulaOf prefix clauses) (natAbs variable) 1025 ≡ marked dependents)
-Answered (proof prefix clauses steps verdict) = verdictOf plainRules prefix clauses steps 8200 16 ≡ verdict
+    (answerRow (rowRefusal scratchBound prefix clauses variable 1025 scratchBound) ≡ Filled)
+    × (rowBuffer (rowRefusal scratchBound prefix clauses variable 1025 scratchBound) (formulaOf prefix clauses) (natAbs variable) 1025 ≡ marked dependents)
+Answered (proof prefix clauses steps verdict) = verdictOf plainRules prefix clauses steps scratchBound 16 ≡ verdict
 Answered (game prefix clauses evaluation) = evaluationOf prefix clauses ≡ evaluation
 
 abbrev pub AllAnswered : List Position → Type 0
@@ -97,6 +100,6 @@ knownPositions =
     ∷ []
 
 pub known-positions : AllAnswered knownPositions
-unfolding sameWord holds without firstClause closes readStep opposed lists covers states blocked judgeResolution judgeReduction judgeFirst run firstEmpty sizedVerdict verdictOf wordOf clausesOf isIn zeros prefixRefusal clausesRefusal tablesRefusal same after existentials holdsLiteral together joined literals reach member pair depends ℕ-discrete isUniversal rowBelow rowOf rowRefusal evaluationOf lost falsified satisfied
+unfolding prefixOf sameWord isZero holds without firstClause closes readStep opposed lists covers states blocked judgeResolution judgeReduction judgeFirst run firstEmpty sizedVerdict verdictOf wordOf clausesOf isIn zeros prefixRefusal clausesRefusal tablesRefusal same after existentials holdsLiteral together joined literals reach member pair depends ℕ-discrete quantifies rowBelow rowOf rowRefusal evaluationOf lost falsified satisfied
 known-positions =
     ((refl, refl), (refl, ((refl, refl), ((refl, refl), (refl, ((refl, refl), (refl, (refl, (refl, (refl, (refl, (refl, (refl, (refl, ((refl, refl), (refl, tt))))))))))))))))
