@@ -16,10 +16,10 @@ pub extern "C" fn qdr_check_line(
     clauses: &mut [i32],
     steps: &mut [i32],
     scratch: &mut [u8],
-    starts: &mut [u32],
+    offsets: &mut [u32],
     line: &mut [u8],
 ) -> usize
-    ensures { λ r. ⌜ LineChecked (lent «file_bound» (now (prefix .entry)) (now (clauses .entry)) (now (steps .entry)) (now (scratch .entry)) (now (starts .entry))) (now (formula .entry)) (now (proof .entry)) (now (line .entry)) (now (line .exit)) r (now (prefix .exit)) (now (clauses .exit)) (now (steps .exit)) (now (scratch .exit)) (now (starts .exit)) ⌝ }
+    ensures { λ r. ⌜ LineChecked (lent «file_bound» (now (prefix .entry)) (now (clauses .entry)) (now (steps .entry)) (now (scratch .entry)) (now (offsets .entry))) (now (formula .entry)) (now (proof .entry)) (now (line .entry)) (now (line .exit)) r (now (prefix .exit)) (now (clauses .exit)) (now (steps .exit)) (now (scratch .exit)) (now (offsets .exit)) ⌝ }
 {
     check_line(
         formula,
@@ -29,7 +29,7 @@ pub extern "C" fn qdr_check_line(
         clauses,
         steps,
         scratch,
-        starts,
+        offsets,
         line,
     )
 }

@@ -29,11 +29,11 @@ pub extern "C" fn qdr_check<'a>(
     clauses: &'a [i32],
     steps: &'a [i32],
     scratch: &mut [u8],
-    starts: &mut [u32],
+    offsets: &mut [u32],
     out: &mut [u64; 5],
 ) -> u32
-    ensures { λ r. ⌜ Tells verdictCode (λ (a : Answer). Checked (now (prefix .entry)) (now (clauses .entry)) (now (steps .entry)) (now (scratch .entry)) (now (starts .entry)) a (now (scratch .exit)) (now (starts .exit))) r (now (out .exit)) ⌝ }
+    ensures { λ r. ⌜ Tells verdictCode (λ (a : Answer). Checked (now (prefix .entry)) (now (clauses .entry)) (now (steps .entry)) (now (scratch .entry)) (now (offsets .entry)) a (now (scratch .exit)) (now (offsets .exit))) r (now (out .exit)) ⌝ }
 {
-    let verdict = check_proof(prefix, clauses, steps, scratch, starts);
+    let verdict = check_proof(prefix, clauses, steps, scratch, offsets);
     tell_verdict(out, verdict)
 }

@@ -5,7 +5,7 @@ pub mod Lines
 pub mod Laws
 pub mod Length
 pub mod Room
-pub mod Example
+pub mod Examples
 use Prim.Native.Nat.{ℕ, suc, max}
 use mathlib.Core.Path.{_≡_}
 use mathlib.Core.Bool.{Bool, true, false}

@@ -27,7 +27,7 @@ pub record Room : Type 0 where
   pub clauses : ℕ
   pub steps : ℕ
   pub scratch : ℕ
-  pub starts : ℕ
+  pub offsets : ℕ
 
 abbrev pub verdictLine : (variables clauses : ℕ) → Verdict → List ℕ
 verdictLine variables clauses (Accepted empty steps) = acceptedLine variables clauses steps (empty .0)
@@ -37,15 +37,15 @@ verdictLine variables clauses (Refused r) = refusedLine r
 unfoldable pub settledProof : (bound : ℕ) → List ℕ → (count room : ℕ) → ProofReading
 settledProof bound file count room = require (leb (length file) bound) (refusedFile (refusal Oversized 0)) (proofReading file count room)
 
--- The steps of the proof file are known, or it is turned away; `scratch` and `starts` are the lengths of what is lent.
-unfoldable pub stepsLine : (scratch starts : ℕ) (prefix clauses : List ℤ) (count : ℕ) → ProofReading → List ℕ
-stepsLine scratch starts prefix clauses count (readSteps steps) = verdictLine (entryCount prefix) count (verdictOf plainRules prefix clauses steps scratch starts)
-stepsLine scratch starts prefix clauses count (refusedFile r) = refusedLine r
+-- The steps of the proof file are known, or it is turned away; `scratch` and `offsets` are the lengths of what is lent.
+unfoldable pub stepsLine : (scratch offsets : ℕ) (prefix clauses : List ℤ) (count : ℕ) → ProofReading → List ℕ
+stepsLine scratch offsets prefix clauses count (readSteps steps) = verdictLine (entryCount prefix) count (verdictOf plainRules prefix clauses steps scratch offsets)
+stepsLine scratch offsets prefix clauses count (refusedFile r) = refusedLine r
 
 -- The formula is settled, then the proof file.
 abbrev pub proofLine : Room → (proof : List ℕ) → Reading → List ℕ
 proofLine room proof (read prefix clauses count) =
-    stepsLine (room .scratch) (room .starts) prefix clauses count (settledProof (room .file) proof count (room .steps))
+    stepsLine (room .scratch) (room .offsets) prefix clauses count (settledProof (room .file) proof count (room .steps))
 proofLine room proof (refused r) = refusedLine r
 
 unfoldable pub checkLine : Room → (formula proof : List ℕ) → List ℕ
@@ -59,8 +59,8 @@ pub record DenotesLost (room : Room) (formula : List ℕ) : Type 0 where
   pub denotes : reading formula (room .prefix) (room .clauses) ≡ read prefix clauses count
   pub lost : Lost (formulaOf prefix clauses)
 
--- What `check_line` promises; `lineRoom` bytes hold every line. Its tables, scratch and starts end as zeros, each of its own length.
-pub record LineChecked (room : Room) (formula proof line line′ : List ℕ) (answer : ℕ) (prefix′ clauses′ steps′ : List ℤ) (scratch′ starts′ : List ℕ) : Type 0 where
+-- What `check_line` promises; `lineRoom` bytes hold every line. Its tables, scratch and clause offsets end as zeros, each of its own length.
+pub record LineChecked (room : Room) (formula proof line line′ : List ℕ) (answer : ℕ) (prefix′ clauses′ steps′ : List ℤ) (scratch′ offsets′ : List ℕ) : Type 0 where
   pub answers : answer ≡ used (checkLine room formula proof) (length line)
   pub prints : line′ ≡ held (checkLine room formula proof) (length line)
   pub short : length (checkLine room formula proof) ≤ lineRoom
@@ -68,6 +68,6 @@ pub record LineChecked (room : Room) (formula proof line line′ : List ℕ) (an
   pub clauses-cleared : clauses′ ≡ replicate (room .clauses) (pos 0)
   pub steps-cleared : steps′ ≡ replicate (room .steps) (pos 0)
   pub scratch-cleared : scratch′ ≡ replicate (room .scratch) 0
-  pub starts-cleared : starts′ ≡ replicate (room .starts) 0
+  pub offsets-cleared : offsets′ ≡ replicate (room .offsets) 0
   -- The headline: where the line is an `accepted` line, the text denotes a formula whose game is lost.
   pub accepted-lost : take 9 line′ ≡ acceptedText → DenotesLost room formula

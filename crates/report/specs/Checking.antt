@@ -7,13 +7,13 @@ use lib.IntN.{ℤ}
 use Rattle.report.specs.Check.{Room}
 
 -- The largest file taken, and the lengths of the buffers lent.
-abbrev pub lent : (file : ℕ) (prefix clauses steps : List ℤ) (scratch starts : List ℕ) → Room
-lent file prefix clauses steps scratch starts =
+abbrev pub lent : (file : ℕ) (prefix clauses steps : List ℤ) (scratch offsets : List ℕ) → Room
+lent file prefix clauses steps scratch offsets =
     record {
       file = file;
       prefix = length prefix;
       clauses = length clauses;
       steps = length steps;
       scratch = length scratch;
-      starts = length starts;
+      offsets = length offsets;
     }

@@ -54,7 +54,7 @@ abbrev pub linesOf : (scratch : ℕ) → Reading → List ℕ
 linesOf scratch (read prefix clauses count) = tablesText scratch prefix clauses
 linesOf scratch (refused r) = refusedLine r
 
--- No steps are read: of the room that is lent, `steps` and `starts` are not used.
+-- No steps are read: of the room that is lent, `steps` and `offsets` are not used.
 unfoldable pub dependencyText : Room → (formula : List ℕ) → List ℕ
 dependencyText room formula = linesOf (room .scratch) (settled (room .file) formula (room .prefix) (room .clauses))
 

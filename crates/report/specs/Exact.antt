@@ -45,4 +45,4 @@ pub record FilesWithin (room : Room) (formula proof : List ℕ) : Type 0 where
   pub steps-fit :
       (prefix clauses : List ℤ) (count : ℕ) → reading formula (room .prefix) (room .clauses) ≡ read prefix clauses count
       → (note : List ℕ) (words : List ℤ) → proof ≡ fileOf note words count
-      → (length words ≤ room .steps) × Within clauses words (room .scratch) (room .starts)
+      → (length words ≤ room .steps) × Within clauses words (room .scratch) (room .offsets)

@@ -21,7 +21,7 @@ programRoom =
       clauses = 16384;
       steps = 16384;
       scratch = scratchBound;
-      starts = 16384;
+      offsets = 16384;
     }
 
 -- A text is printed whole into a buffer of `room` bytes: zeros follow it.

@@ -40,12 +40,12 @@ fn judged_line<'a>(
     count: usize,
     steps: &'a [i32],
     scratch: &mut [u8],
-    starts: &mut [u32],
+    offsets: &mut [u32],
     line: &mut [u8],
 ) -> usize
-    ensures { λ r. ⌜ StoresShort lineRoom (now (line .entry)) (verdictLine (entryCount (now (prefix .entry))) count (verdictOf plainRules (now (prefix .entry)) (now (clauses .entry)) (now (steps .entry)) (length (now (scratch .entry))) (length (now (starts .entry))))) (now (line .exit)) r ⌝ }
+    ensures { λ r. ⌜ StoresShort lineRoom (now (line .entry)) (verdictLine (entryCount (now (prefix .entry))) count (verdictOf plainRules (now (prefix .entry)) (now (clauses .entry)) (now (steps .entry)) (length (now (scratch .entry))) (length (now (offsets .entry))))) (now (line .exit)) r ⌝ }
 {
-    let verdict = check_proof(prefix, clauses, steps, scratch, starts);
+    let verdict = check_proof(prefix, clauses, steps, scratch, offsets);
     verdict_line(line, entry_count(prefix), count, verdict)
 }
 
@@ -58,11 +58,11 @@ fn proof_line(
     count: usize,
     steps: &mut [i32],
     scratch: &mut [u8],
-    starts: &mut [u32],
+    offsets: &mut [u32],
     line: &mut [u8],
 ) -> usize
     requires { ⌜ count ≤ countBound ⌝ }
-    ensures { λ r. ⌜ StoresShort lineRoom (now (line .entry)) (stepsLine (length (now (scratch .entry))) (length (now (starts .entry))) (now (prefix .entry)) (now (clauses .entry)) count (settledProof «file_bound» (now (proof .entry)) count (length (now (steps .entry))))) (now (line .exit)) r ⌝ }
+    ensures { λ r. ⌜ StoresShort lineRoom (now (line .entry)) (stepsLine (length (now (scratch .entry))) (length (now (offsets .entry))) (now (prefix .entry)) (now (clauses .entry)) count (settledProof «file_bound» (now (proof .entry)) count (length (now (steps .entry))))) (now (line .exit)) r ⌝ }
 {
     match settle_proof(proof, file_bound, count as u32, steps) {
         ProofAnswer::Refused(r) => refused_line(line, r),
@@ -72,7 +72,7 @@ fn proof_line(
             count,
             &steps[..n],
             scratch,
-            starts,
+            offsets,
             line,
         ),
     }
@@ -87,10 +87,10 @@ fn files_line(
     clauses: &mut [i32],
     steps: &mut [i32],
     scratch: &mut [u8],
-    starts: &mut [u32],
+    offsets: &mut [u32],
     line: &mut [u8],
 ) -> usize
-    ensures { λ r. ⌜ StoresShort lineRoom (now (line .entry)) (checkLine (lent «file_bound» (now (prefix .entry)) (now (clauses .entry)) (now (steps .entry)) (now (scratch .entry)) (now (starts .entry))) (now (formula .entry)) (now (proof .entry))) (now (line .exit)) r ⌝ }
+    ensures { λ r. ⌜ StoresShort lineRoom (now (line .entry)) (checkLine (lent «file_bound» (now (prefix .entry)) (now (clauses .entry)) (now (steps .entry)) (now (scratch .entry)) (now (offsets .entry))) (now (formula .entry)) (now (proof .entry))) (now (line .exit)) r ⌝ }
 {
     match settle_formula(formula, file_bound, prefix, clauses) {
         ReadAnswer::Refused(r) => refused_line(line, r),
@@ -106,7 +106,7 @@ fn files_line(
             count,
             steps,
             scratch,
-            starts,
+            offsets,
             line,
         ),
     }
@@ -122,10 +122,10 @@ pub fn check_line(
     clauses: &mut [i32],
     steps: &mut [i32],
     scratch: &mut [u8],
-    starts: &mut [u32],
+    offsets: &mut [u32],
     line: &mut [u8],
 ) -> usize
-    ensures { λ r. ⌜ LineChecked (lent «file_bound» (now (prefix .entry)) (now (clauses .entry)) (now (steps .entry)) (now (scratch .entry)) (now (starts .entry))) (now (formula .entry)) (now (proof .entry)) (now (line .entry)) (now (line .exit)) r (now (prefix .exit)) (now (clauses .exit)) (now (steps .exit)) (now (scratch .exit)) (now (starts .exit)) ⌝ }
+    ensures { λ r. ⌜ LineChecked (lent «file_bound» (now (prefix .entry)) (now (clauses .entry)) (now (steps .entry)) (now (scratch .entry)) (now (offsets .entry))) (now (formula .entry)) (now (proof .entry)) (now (line .entry)) (now (line .exit)) r (now (prefix .exit)) (now (clauses .exit)) (now (steps .exit)) (now (scratch .exit)) (now (offsets .exit)) ⌝ }
 {
     let end = files_line(
         formula,
@@ -135,13 +135,13 @@ pub fn check_line(
         clauses,
         steps,
         scratch,
-        starts,
+        offsets,
         line,
     );
     clear_words(prefix, 0);
     clear_words(clauses, 0);
     clear_words(steps, 0);
     clear_bytes(scratch, 0);
-    clear_numbers(starts, 0);
+    clear_numbers(offsets, 0);
     finish(line, end)
 }

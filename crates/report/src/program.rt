@@ -17,7 +17,7 @@ pub fn program_line(formula: &[u8], proof: &[u8], line: &mut [u8]) -> usize
     let mut clauses = [0i32; 16_384];
     let mut steps = [0i32; 16_384];
     let mut scratch = [0u8; SCRATCH];
-    let mut starts = [0u32; 16_384];
+    let mut offsets = [0u32; 16_384];
     check_line(
         formula,
         proof,
@@ -26,7 +26,7 @@ pub fn program_line(formula: &[u8], proof: &[u8], line: &mut [u8]) -> usize
         &mut clauses,
         &mut steps,
         &mut scratch,
-        &mut starts,
+        &mut offsets,
         line,
     )
 }

@@ -34,7 +34,7 @@ module _ (room : Room) (formula proof : List ℕ) where
   -- The formula is read.
   pub read-line :
       (prefix clauses : List ℤ) (count : ℕ) → settled (room .file) formula (room .prefix) (room .clauses) ≡ read prefix clauses count
-      → checkLine room formula proof ≡ stepsLine (room .scratch) (room .starts) prefix clauses count (settledProof (room .file) proof count (room .steps))
+      → checkLine room formula proof ≡ stepsLine (room .scratch) (room .offsets) prefix clauses count (settledProof (room .file) proof count (room .steps))
   unfolding checkLine
   read-line prefix clauses count e = rw e
 
@@ -92,7 +92,7 @@ pub record MadeFrom (room : Room) (formula proof : List ℕ) : Type 0 where
   pub proof-fits : length proof ≤ room .file
   pub formula-read : reading formula (room .prefix) (room .clauses) ≡ read prefix clauses count
   pub proof-read : proofReading proof count (room .steps) ≡ readSteps words
-  pub accepted : verdictOf plainRules prefix clauses words (room .scratch) (room .starts) ≡ Accepted (record { 0 = empty }) steps
+  pub accepted : verdictOf plainRules prefix clauses words (room .scratch) (room .offsets) ≡ Accepted (record { 0 = empty }) steps
 
 module _ (room : Room) (formula proof : List ℕ) (P : List ℕ → Type 0) (unlike : (r : Refusal) → P (refusedLine r) → ⊥) where
   pub made-from : P (checkLine room formula proof) → MadeFrom room formula proof
@@ -102,7 +102,7 @@ module _ (room : Room) (formula proof : List ℕ) (P : List ℕ → Type 0) (unl
       judged :
           (prefix clauses words : List ℤ) (count : ℕ) → settled (room .file) formula (room .prefix) (room .clauses) ≡ read prefix clauses count
           → settledProof (room .file) proof count (room .steps) ≡ readSteps words
-          → (v : Verdict) → verdictOf plainRules prefix clauses words (room .scratch) (room .starts) ≡ v
+          → (v : Verdict) → verdictOf plainRules prefix clauses words (room .scratch) (room .offsets) ≡ v
           → P (verdictLine (entryCount prefix) count v) → MadeFrom room formula proof
       judged prefix clauses words count e f (Accepted empty m) q k =
           let text = settled-read (room .file) formula (room .prefix) (room .clauses) prefix clauses count e in
@@ -125,8 +125,8 @@ module _ (room : Room) (formula proof : List ℕ) (P : List ℕ → Type 0) (unl
       proved :
           (prefix clauses : List ℤ) (count : ℕ) → settled (room .file) formula (room .prefix) (room .clauses) ≡ read prefix clauses count
           → (s : ProofReading) → settledProof (room .file) proof count (room .steps) ≡ s
-          → P (stepsLine (room .scratch) (room .starts) prefix clauses count s) → MadeFrom room formula proof
-      proved prefix clauses count e (readSteps words) f k = judged prefix clauses words count e f (verdictOf plainRules prefix clauses words (room .scratch) (room .starts)) refl k
+          → P (stepsLine (room .scratch) (room .offsets) prefix clauses count s) → MadeFrom room formula proof
+      proved prefix clauses count e (readSteps words) f k = judged prefix clauses words count e f (verdictOf plainRules prefix clauses words (room .scratch) (room .offsets)) refl k
       proved prefix clauses count e (refusedFile r) f k = absurd (unlike r k)
 
       go : (s : Reading) → settled (room .file) formula (room .prefix) (room .clauses) ≡ s → MadeFrom room formula proof
@@ -143,5 +143,5 @@ accepted-denotes-lost room formula proof n h =
       clauses = m .clauses;
       count = m .count;
       denotes = m .formula-read;
-      lost = accepted-lost plainRules plain-kinds (m .prefix) (m .clauses) (m .words) (room .scratch) (room .starts) (m .empty) (m .steps) (m .accepted);
+      lost = accepted-lost plainRules plain-kinds (m .prefix) (m .clauses) (m .words) (room .scratch) (room .offsets) (m .empty) (m .steps) (m .accepted);
     }

@@ -15,7 +15,7 @@ use Rattle.qbf.specs.Connectives.{and-both}
 use Rattle.formula.specs.Prefix.{prefixOf}
 use Rattle.formula.specs.Tables.{zeros, Admitted}
 use Rattle.formula.specs.Written.{written}
-use Rattle.formula.specs.Written.Example.{written-example}
+use Rattle.formula.specs.Written.Examples.{written-example}
 use Rattle.formula.specs.RoundTrip.Laws.{written-read}
 use Rattle.checker.specs.ProofFile.Layout.{fileOf}
 use Rattle.checker.specs.ProofFile.Layout.Laws.{file-of-length}

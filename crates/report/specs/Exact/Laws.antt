@@ -56,7 +56,7 @@ accepted-refuting room formula proof bytes a =
         words = m .words;
         signed = read-fits proof (m .count) (room .steps) (m .words) bytes (m .proof-read);
         laid-out = read-layout proof (m .count) (room .steps) (m .words) bytes (m .proof-read);
-        refutation = accepted-refutation plainRules plain-kinds (m .prefix) (m .clauses) (m .words) (room .scratch) (room .starts) (m .empty) (m .steps) (m .accepted) .refutation;
+        refutation = accepted-refutation plainRules plain-kinds (m .prefix) (m .clauses) (m .words) (room .scratch) (room .offsets) (m .empty) (m .steps) (m .accepted) .refutation;
       },
     )
 
@@ -74,8 +74,8 @@ module _ (room : Room) (formula proof : List ℕ) (within : FilesWithin room for
       rw (r .laid-out) (layout-read (r .note) (r .words) (r .count) (fits .1 .sized) (room .steps) (fits .0) (r .signed)) in
       let file : settledProof (room .file) proof (r .count) (room .steps) ≡ readSteps (r .words) =
       rw (le-leb (length proof) (room .file) (within .proof-fits), steps) in
-      let verdict : verdictOf plainRules (r .prefix) (r .clauses) (r .words) (room .scratch) (room .starts) ≡ Accepted (record { 0 = suc place }) (length (r .refutation .steps)) =
-      refutation-accepted plainRules plain-kinds (r .prefix) (r .clauses) (r .words) (room .scratch) (room .starts) refl (suc place) (length (r .refutation .steps))
+      let verdict : verdictOf plainRules (r .prefix) (r .clauses) (r .words) (room .scratch) (room .offsets) ≡ Accepted (record { 0 = suc place }) (length (r .refutation .steps)) =
+      refutation-accepted plainRules plain-kinds (r .prefix) (r .clauses) (r .words) (room .scratch) (room .offsets) refl (suc place) (length (r .refutation .steps))
       (record {
         admitted = read-admitted formula (room .prefix) (room .clauses) (r .prefix) (r .clauses) (r .count) (r .reads) .admitted;
         sized = fits .1 .sized;

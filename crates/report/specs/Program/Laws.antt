@@ -25,8 +25,8 @@ printed-whole text room answer after a p h = record { answers = rw fits at a; pr
     fits = le-leb (length text) room h
 
 -- What `check_line` promises, lent the programs' room.
-module _ {formula proof line line′ : List ℕ} {answer : ℕ} {prefix′ clauses′ steps′ : List ℤ} {scratch′ starts′ : List ℕ} where
-  line-in-room : LineChecked programRoom formula proof line line′ answer prefix′ clauses′ steps′ scratch′ starts′ → ProgramLine formula proof line line′ answer
+module _ {formula proof line line′ : List ℕ} {answer : ℕ} {prefix′ clauses′ steps′ : List ℤ} {scratch′ offsets′ : List ℕ} where
+  line-in-room : LineChecked programRoom formula proof line line′ answer prefix′ clauses′ steps′ scratch′ offsets′ → ProgramLine formula proof line line′ answer
   line-in-room c =
       record {
         answers = c .answers;
@@ -36,11 +36,11 @@ module _ {formula proof line line′ : List ℕ} {answer : ℕ} {prefix′ claus
       }
 
   pub line-printed :
-      {room : Room} → room ≡ programRoom → LineChecked room formula proof line line′ answer prefix′ clauses′ steps′ scratch′ starts′
+      {room : Room} → room ≡ programRoom → LineChecked room formula proof line line′ answer prefix′ clauses′ steps′ scratch′ offsets′
       → ProgramLine formula proof line line′ answer
   line-printed e c = line-in-room (rw e at c)
 
--- What `dependency_lines` promises, lent as much of the programs' room as it uses: no steps and no starts.
+-- What `dependency_lines` promises, lent as much of the programs' room as it uses: no steps and no clause offsets.
 text-in-room :
     (room : Room) (formula : List ℕ) → room .file ≡ programRoom .file → room .prefix ≡ programRoom .prefix → room .clauses ≡ programRoom .clauses → room .scratch ≡ programRoom .scratch
     → dependencyText room formula ≡ dependencyText programRoom formula

@@ -13,15 +13,15 @@ use Rattle.report.proofs.check.check_line.Tie as tie
 returns : tie.Need-returns
 returns c =
     let done = c .before .before in
-    let starts = done .before .before .before .before in
-    let scratch = starts .before .before .before .before in
+    let offsets = done .before .before .before .before in
+    let scratch = offsets .before .before .before .before in
     let steps = scratch .before .before .before in
     let clauses = steps .before .before .before in
     let prefix = clauses .before .before .before in
     let files = prefix .before .before .before .before .before .before .before .before .before .before .before in
     let given = files .before .before .before .before .before .before .before .before .before .before .before .before .args in
     let kept = files .files-line .kept in
-    let room = lent (given .file-bound) (given .prefix .now) (given .clauses .now) (given .steps .now) (given .scratch .now) (given .starts .now) in
+    let room = lent (given .file-bound) (given .prefix .now) (given .clauses .now) (given .steps .now) (given .scratch .now) (given .offsets .now) in
     let printed = stored-prints {text = checkLine room (given .formula .now) (given .proof .now)} (files .files-line .ensures .stores) (done .finish .ensures) in
     record {
       answers = printed .answers;
@@ -31,7 +31,7 @@ returns c =
       clauses-cleared = cleared-kept (pos 0) (given .clauses .now) _ _ (clauses .clear-words2 .ensures) (kept .1 .1 .1 .1 .0);
       steps-cleared = cleared-kept (pos 0) (given .steps .now) _ _ (steps .clear-words3 .ensures) (kept .1 .1 .1 .1 .1 .0);
       scratch-cleared = cleared-kept 0 (given .scratch .now) _ _ (scratch .clear-bytes .ensures) (kept .1 .1 .1 .1 .1 .1 .0);
-      starts-cleared = cleared-kept 0 (given .starts .now) _ _ (starts .clear-numbers .ensures) (kept .1 .1 .1 .1 .1 .1 .1 .0);
+      offsets-cleared = cleared-kept 0 (given .offsets .now) _ _ (offsets .clear-numbers .ensures) (kept .1 .1 .1 .1 .1 .1 .1 .0);
       accepted-lost = λ h. accepted-denotes-lost room (given .formula .now) (given .proof .now) (length (given .line .now)) (ap (take 9) (sym (printed .prints)) ∙ h);
     }
 

@@ -17,9 +17,6 @@ put-requires c κs =
     let s = number .before .before .before in
     omega (arith, length-decimal 19 (s .args .n) (omega (arith, s .fits)), s .pre, number .write-number .ensures .reached)
 
-same-length : tie.Need-same-length
-same-length c = search needs
-
 returns : tie.Need-returns
 returns c =
     let space = c .before .before in
@@ -30,4 +27,4 @@ returns c =
     )
 
 pub write-spaced-spec : {M : Type 1} → statement M
-write-spaced-spec = tie.close (tie.spec write-number-requires put-requires same-length returns)
+write-spaced-spec = tie.close (tie.spec write-number-requires put-requires (λ c. search needs) returns)
