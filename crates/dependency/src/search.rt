@@ -14,6 +14,7 @@ use formula::literal::Variable;
 use formula::prefix::Entry;
 use formula::prefix::entry_at;
 use formula::prefix::entry_count;
+use formula::prefix::variable_at;
 
 // How many literals may be passed and are not reached.
 fn count_open(marks: &[u8]) -> usize
@@ -46,18 +47,6 @@ fn settle(clauses: &[i32], marks: &mut [u8])
     }
 }
 
-// The number of the variable of the entry at a place.
-fn variable_at(prefix: &[i32], place: usize) -> usize
-    requires { ⌜ Entries (now prefix) ⌝ }
-    requires { ⌜ place < entryCount (now prefix) ⌝ }
-    ensures { λ r. ⌜ r ≡ entryAt (now (prefix .entry)) place .variable ⌝ }
-{
-    match entry_at(prefix, place) {
-        Entry::Existential(v) => v.0,
-        Entry::Universal(v) => v.0,
-    }
-}
-
 // Where the entries right of a variable begin.
 fn right_of(prefix: &[i32], variable: Variable) -> usize
     requires { ⌜ Entries (now prefix) ⌝ }
@@ -66,9 +55,9 @@ fn right_of(prefix: &[i32], variable: Variable) -> usize
     let count = entry_count(prefix);
     let mut i = 0;
     while i < count {
-        let number = variable_at(prefix, i);
+        let other = variable_at(prefix, i);
         i += 1;
-        if number == variable.0 {
+        if other.0 == variable.0 {
             return i;
         }
     }

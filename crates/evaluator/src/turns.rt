@@ -5,6 +5,7 @@ use formula::prefix::Entry;
 use formula::prefix::entry_at;
 use formula::prefix::entry_count;
 use formula::prefix::later_entries;
+use formula::prefix::variable_at;
 ghost use mathlib.Core.Path.{_≡_};
 ghost use Prim.Native.Nat.{_<_};
 ghost use lib.ListN.{length};
@@ -36,10 +37,7 @@ fn first_variable(prefix: &[i32]) -> usize
     requires { ⌜ 0 < entryCount (now prefix) ⌝ }
     ensures { λ r. ⌜ r ≡ entryAt (now (prefix .entry)) 0 .variable ⌝ }
 {
-    match entry_at(prefix, 0) {
-        Entry::Existential(v) => v.0,
-        Entry::Universal(v) => v.0,
-    }
+    variable_at(prefix, 0).0
 }
 
 // The position is lost: both values of the first variable, an existential, lose. With none left, the matrix decides.

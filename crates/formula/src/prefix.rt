@@ -38,6 +38,18 @@ pub fn entry_at(prefix: &[i32], place: usize) -> Entry
     }
 }
 
+// The variable of the entry at a place.
+pub fn variable_at(prefix: &[i32], place: usize) -> Variable
+    requires { ⌜ Entries (now prefix) ⌝ }
+    requires { ⌜ place < entryCount (now prefix) ⌝ }
+    ensures { λ r. ⌜ r .0 ≡ entryAt (now (prefix .entry)) place .variable ⌝ }
+{
+    match entry_at(prefix, place) {
+        Entry::Existential(v) => v,
+        Entry::Universal(v) => v,
+    }
+}
+
 // The table of the entries after the first.
 pub fn later_entries(prefix: &[i32]) -> &[i32]
     requires { ⌜ 0 < entryCount (now prefix) ⌝ }

@@ -28,18 +28,6 @@ pub enum WriteAnswer {
     Refused(Refusal),
 }
 
-// The number of the variable of the entry at a place.
-fn variable_at(prefix: &[i32], place: usize) -> usize
-    requires { ⌜ Entries (now prefix) ⌝ }
-    requires { ⌜ place < entryCount (now prefix) ⌝ }
-    ensures { λ r. ⌜ r ≡ entryAt (now (prefix .entry)) place .variable ⌝ }
-{
-    match prefix::entry_at(prefix, place) {
-        Entry::Existential(v) => v.0,
-        Entry::Universal(v) => v.0,
-    }
-}
-
 // The letter of the quantifier of the entry at a place.
 fn letter_at(prefix: &[i32], place: usize) -> u8
     requires { ⌜ Entries (now prefix) ⌝ }
@@ -68,7 +56,7 @@ fn largest_variable(prefix: &[i32]) -> usize
     let mut top = 0;
     let mut i = 0;
     while i < count {
-        top = larger(top, variable_at(prefix, i));
+        top = larger(top, prefix::variable_at(prefix, i).0);
         i += 1;
     }
     top
@@ -140,8 +128,8 @@ fn write_prefix(prefix: &[i32], text: &mut [u8], at: usize) -> usize
     let mut i = 0;
     while i < count {
         let letter = letter_at(prefix, i);
-        let variable = variable_at(prefix, i);
-        next = write_entry(text, next, last, letter, variable);
+        let variable = prefix::variable_at(prefix, i);
+        next = write_entry(text, next, last, letter, variable.0);
         last = letter;
         i += 1;
     }

@@ -29,21 +29,10 @@ use formula::literal::Variable;
 use formula::prefix::Entry;
 use formula::prefix::entry_at;
 use formula::prefix::entry_count;
+use formula::prefix::variable_at;
 use formula::read::ReadAnswer;
 use formula::refusal::Reason;
 use formula::refusal::Refusal;
-
-// The variable of the entry at a place.
-fn variable_at(prefix: &[i32], place: usize) -> Variable
-    requires { ⌜ Entries (now prefix) ⌝ }
-    requires { ⌜ place < entryCount (now prefix) ⌝ }
-    ensures { λ r. ⌜ r .0 ≡ entryAt (now (prefix .entry)) place .variable ⌝ }
-{
-    match entry_at(prefix, place) {
-        Entry::Existential(v) => v,
-        Entry::Universal(v) => v,
-    }
-}
 
 // A variable with the space before it, where it is a dependent.
 fn write_dependent(text: &mut [u8], at: usize, dependent: bool, variable: Variable) -> usize

@@ -1,14 +1,15 @@
 -- The tests of Dependency.antt say what they test, each both ways: member, pair, and depends, which is true exactly when
 -- the existential depends on the universal. What a search for paths needs is closed-holds-paths of Path/Laws.antt.
 use Prim.Native.Nat.{ℕ}
-use mathlib.Core.Path.{_≡_, refl, sym, _∙_}
+use mathlib.Core.Path.{_≡_, refl, sym, _∙_, subst}
 use mathlib.Core.Logic.{_⊎_, inl, inr}
 use mathlib.Core.Bool.{Bool, true, false, not, _||_, false≢true}
 use mathlib.Core.List.{List, [], _∷_, List·Memᴰ, List·Memᴰ·head, List·Memᴰ·tail, List·Memᴰ·not-nil, List·Memᴰ·cases-cons}
 use native.Mathlib.Decide.{ℕ-discrete}
 use Rattle.qbf.specs.Connectives.{and-both, both-and, or-either, or-left, or-right}
 use Rattle.qbf.specs.Literal.{literal, Matrix}
-use Rattle.qbf.specs.Formula.{Formula}
+use Rattle.qbf.specs.Formula.{Formula, Entry, Prefix, after, Existential}
+use Rattle.qbf.specs.Formula.Laws.{existentials-member, after-own, after-other}
 use Rattle.qbf.specs.Path.{Path, literals, reach}
 use Rattle.qbf.specs.Path.Laws.{reach-sound, reach-complete}
 use Rattle.qbf.specs.Dependency.{passable, Depends, member, pair, depends}
@@ -89,3 +90,16 @@ module _ (F : Formula) (u e : ℕ) where
   -- The other answer: what a reduction asks of the existentials of its clause.
   pub depends-false : depends F u e ≡ false → Depends F u e → ⊥
   depends-false h d = false≢true (sym h ∙ depends-complete d)
+
+-- What depends is existential: it stands right of the universal, so in the prefix.
+after-member : (v : ℕ) (P : Prefix) {x : Entry} → List·Memᴰ x (after v P) → List·Memᴰ x P
+unfolding after
+after-member v [] m = m
+after-member v (y ∷ P) {x} m = go (ℕ-discrete (y .variable) v) (λ k. after-member v P k)
+  where
+    go : Dec (y .variable ≡ v) → (List·Memᴰ x (after v P) → List·Memᴰ x P) → List·Memᴰ x (y ∷ P)
+    go (yes e) later = List·Memᴰ·tail (subst (λ (Q : Prefix). List·Memᴰ x Q) (after-own v y P e) m)
+    go (no n) later = List·Memᴰ·tail (later (subst (λ (Q : Prefix). List·Memᴰ x Q) (after-other v y P n) m))
+
+pub depends-existential : (F : Formula) (u e : ℕ) → Depends F u e → Existential (F .prefix) e
+depends-existential F u e d = after-member u (F .prefix) (existentials-member (after u (F .prefix)) (d .right))

@@ -12,7 +12,7 @@ use lib.IntN.{ℤ}
 use Rattle.qbf.specs.Formula.{Quantifier, existential, universal, Entry, entry, Prefix, Formula, Existential, after}
 use Rattle.qbf.specs.Formula.Laws.{quantifiers-exclusive, existentials-member, after-own, after-other}
 use Rattle.qbf.specs.Dependency.{depends, Depends}
-use Rattle.qbf.specs.Dependency.Laws.{depends-sound}
+use Rattle.qbf.specs.Dependency.Laws.{depends-sound, depends-existential}
 use Rattle.formula.specs.Decimal.Laws.{length-decimal}
 use Rattle.formula.specs.Decode.{formulaOf}
 use Rattle.formula.specs.Prefix.{prefixOf, isQuantifier}
@@ -62,19 +62,6 @@ product-bound u e h = go (decLt u e)
     go (no k) =
         let same : e + (u - e) ≡ u = omega arith in
         rw (mul-comm u e) (rw same at (product-by-difference e (u - e) (omega arith)))
-
--- What depends is existential: it stands right of the universal, so in the prefix.
-after-member : (v : ℕ) (P : Prefix) {x : Entry} → List·Memᴰ x (after v P) → List·Memᴰ x P
-unfolding after
-after-member v [] m = m
-after-member v (y ∷ P) {x} m = go (ℕ-discrete (y .variable) v) (λ k. after-member v P k)
-  where
-    go : Dec (y .variable ≡ v) → (List·Memᴰ x (after v P) → List·Memᴰ x P) → List·Memᴰ x (y ∷ P)
-    go (yes e) later = List·Memᴰ·tail (subst (λ (Q : Prefix). List·Memᴰ x Q) (after-own v y P e) m)
-    go (no n) later = List·Memᴰ·tail (later (subst (λ (Q : Prefix). List·Memᴰ x Q) (after-other v y P n) m))
-
-depends-existential : (F : Formula) (u e : ℕ) → Depends F u e → Existential (F .prefix) e
-depends-existential F u e d = after-member u (F .prefix) (existentials-member (after u (F .prefix)) (d .right))
 
 -- A space and four digits.
 length-dependent : (b : Bool) (e : ℕ) → e ≤ 1024 → length (ifDependent b e) ≤ 5

@@ -26,19 +26,19 @@ variable-at-requires c κs = (c .before .before .before .pre, within c)
 
 returns : tie.Need-returns Inv-loop μ-loop
 returns c =
-    let loop = c .before .before .before in
+    let loop = c .before .before .before .before in
     let v = loop .before .before .before .args .variable .0 in
     rw add-one
-    (sym (after-own v _ _ (sym (c .before .before .variable-at .ensures) ∙ c .if1 .taken))
+    (sym (after-own v _ _ (sym (c .before .before .before .variable-at .ensures) ∙ c .if1 .taken))
     ∙ ap (after v) (sym (entries-drop (loop .before .before .before .args .prefix .now) (loop .before .loop .i) (within loop)))
     ∙ loop .before .loop .inv)
 
 loop-again : tie.Need-loop-again Inv-loop μ-loop
 loop-again c =
-    let loop = c .before .before .before in
+    let loop = c .before .before .before .before in
     let v = loop .before .before .before .args .variable .0 in
     rw add-one
-    (sym (after-other v _ _ (λ e. c .if1 .left (c .before .before .variable-at .ensures ∙ e)))
+    (sym (after-other v _ _ (λ e. c .if1 .left (c .before .before .before .variable-at .ensures ∙ e)))
     ∙ ap (after v) (sym (entries-drop (loop .before .before .before .args .prefix .now) (loop .before .loop .i) (within loop)))
     ∙ loop .before .loop .inv)
 

@@ -44,18 +44,18 @@ body c = c .before .before
 entry-left :
     (c : tie.After-variable-at Inv-loop μ-loop)
     → prefixText (body c .before .loop .last) (drop (body c .before .loop .i) (prefixOf (body c .before .before .before .before .args .prefix .now)))
-    ≡ entryText (body c .before .loop .last) (c .before .letter-at .result) (c .variable-at .result)
+    ≡ entryText (body c .before .loop .last) (c .before .letter-at .result) (c .variable-at .result .0)
     ++ prefixText (c .before .letter-at .result) (drop (suc (body c .before .loop .i)) (prefixOf (body c .before .before .before .before .args .prefix .now)))
 entry-left c =
     let l = body c .before .loop in
-    prefix-text-drop (l .i) (prefixOf (body c .before .before .before .before .args .prefix .now)) (within (body c)) (l .last) (c .before .letter-at .result) (c .variable-at .result)
+    prefix-text-drop (l .i) (prefixOf (body c .before .before .before .before .args .prefix .now)) (within (body c)) (l .last) (c .before .letter-at .result) (c .variable-at .result .0)
     (c .before .letter-at .ensures) (c .variable-at .ensures)
 
 write-entry-requires : tie.Need-write-entry-requires Inv-loop μ-loop
 write-entry-requires c κs =
     let k = c .before in
     let l = body k .before .loop in
-    below-first (l .next) (entryText (l .last) (k .before .letter-at .result) (k .variable-at .result)) (prefixText (k .before .letter-at .result) (drop (suc (l .i)) (prefixOf (body k .before .before .before .before .args .prefix .now))))
+    below-first (l .next) (entryText (l .last) (k .before .letter-at .result) (k .variable-at .result .0)) (prefixText (k .before .letter-at .result) (drop (suc (l .i)) (prefixOf (body k .before .before .before .before .args .prefix .now))))
     (rw (entry-left k) at (below-remains (body k .before .before .before .before .pre .1) (l .inv .0)))
 
 loop-again : tie.Need-loop-again Inv-loop μ-loop

@@ -1,11 +1,11 @@
 -- `variable_at` answers the variable with either quantifier. Assumes nothing.
-use mathlib.Core.Path.{_≡_, ap, sym, _∙_}
+use mathlib.Core.Path.{ap, sym, _∙_}
 use borrow.Author.Needs.{needs}
 use Rattle.qbf.specs.Formula.{Entry}
 use Rattle.formula.specs.Prefix.{entryAt}
 use Rattle.formula.specs.Prefix.Laws.{shown-existential, shown-universal}
-use Rattle.dependency.proofs.search.variable_at.Statement.{statement}
-use Rattle.dependency.proofs.search.variable_at.Tie as tie
+use Rattle.formula.proofs.prefix.variable_at.Statement.{statement}
+use Rattle.formula.proofs.prefix.variable_at.Tie as tie
 
 -- the entry at the place
 abbrev shown : (c : tie.Start) → Entry
