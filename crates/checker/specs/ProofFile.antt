@@ -16,7 +16,7 @@ use lib.ListN.{length, getD, take, drop, replicate}
 use mir.Syntax.{w32}
 use mir.Val.{toZ}
 use Rattle.formula.specs.Bounds.{proofBound}
-use Rattle.formula.specs.Refusal.{refusal, require}
+use Rattle.formula.specs.Refusal.{refusal, require, unless}
 use Rattle.formula.specs.declared.refusal.Reason.{Reason}
 use Rattle.formula.specs.declared.refusal.Reason.the-variants.{Oversized, NoRoom, NoTrailer, OtherFormula}
 use Rattle.formula.specs.declared.refusal.Refusal.{Refusal}
@@ -87,8 +87,7 @@ pub data ProofReading : Type 0 where
   refused : Refusal → ProofReading
 
 abbrev pub unlessRefused : Option Refusal → List ℤ → ProofReading
-unlessRefused none words = read words
-unlessRefused (some r) words = refused r
+unlessRefused r words = unless refused r (read words)
 
 -- The step words of a file, or the refusal.
 unfoldable pub proofReading : List ℕ → (count room : ℕ) → ProofReading
@@ -106,8 +105,7 @@ stepTable (refused r) room = replicate room (pos 0)
 
 -- The same answer, by the count of words alone.
 abbrev pub lengthAnswer : Option Refusal → ℕ → ProofAnswer
-lengthAnswer none n = Read n
-lengthAnswer (some r) n = Refused r
+lengthAnswer r n = unless Refused r (Read n)
 
 -- What `read_proof` promises, `before` and `after` being the contents of the table lent for the steps.
 pub record ProofRead (file : List ℕ) (count : ℕ) (before after : List ℤ) (r : ProofAnswer) : Type 0 where

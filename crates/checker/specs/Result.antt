@@ -11,7 +11,7 @@ use Rattle.formula.specs.declared.refusal.Reason.the-variants.{Tautology, Misst
 use Rattle.checker.specs.declared.result.Judgement.{Judgement}
 use Rattle.checker.specs.declared.result.Judgement.the-variants.{Right, Wrong}
 use Rattle.checker.specs.Words.{Words, without}
-use Rattle.checker.specs.Steps.{opposed, unless, judgeStatement}
+use Rattle.checker.specs.Steps.{opposed, demand, judgeStatement}
 use Rattle.checker.specs.Marks.{clean}
 
 abbrev pub judgementOf : Option Reason → Judgement
@@ -19,14 +19,14 @@ judgementOf none = Right
 judgementOf (some r) = Wrong r
 
 abbrev pub resultReason : Words → Words → Option Reason
-resultReason R L = unless (not (opposed [] R)) Tautology (judgeStatement R L)
+resultReason R L = demand (not (opposed [] R)) Tautology (judgeStatement R L)
 
 abbrev pub statementReason : ℤ → Words → Words → Option Reason
 statementReason a C L = judgeStatement (without a C) L
 
 -- From what marking, ticking and wiping told.
 abbrev pub decided : Bool → Bool → Bool → Judgement
-decided met ticked unstated = judgementOf (unless (not met) Tautology (unless (ticked && not unstated) Misstated none))
+decided met ticked unstated = judgementOf (demand (not met) Tautology (demand (ticked && not unstated) Misstated none))
 
 pub record JudgedClean (reason : Option Reason) (r : Judgement) (marks : List ℕ) : Type 0 where
   pub answer : r ≡ judgementOf reason

@@ -18,7 +18,7 @@ use Rattle.checker.specs.declared.result.Judgement.{Judgement}
 use Rattle.checker.specs.declared.step.StepAnswer.{StepAnswer}
 use Rattle.checker.specs.declared.step.StepAnswer.the-variants.{Right as RightStep, Wrong as WrongStep}
 use Rattle.checker.specs.Words.{Words, holds}
-use Rattle.checker.specs.Steps.{Scope, sizeOf, resolvent, blocked, unless, Judged, right, wrong}
+use Rattle.checker.specs.Steps.{Scope, sizeOf, resolvent, blocked, demand, Judged, right, wrong}
 use Rattle.checker.specs.Marks.{clean}
 use Rattle.checker.specs.Kinds.{kindsOf, existentialOf, universalOf}
 use Rattle.checker.specs.Result.{judgementOf, resultReason, statementReason}
@@ -41,7 +41,7 @@ pub record Ready (prefix : List ℤ) (scratch : List ℕ) : Type 0 where
 
 -- The pivot stands in both clauses, then the result.
 abbrev pub pivotReason : ℤ → Words → Words → Words → Option Reason
-pivotReason e C D L = unless (holds e C && holds (negℤ e) D) WrongPivot (resultReason (resolvent e C D) L)
+pivotReason e C D L = demand (holds e C && holds (negℤ e) D) WrongPivot (resultReason (resolvent e C D) L)
 
 abbrev pub resolvingReason : VariableFit → Words → Words → Words → Option Reason
 resolvingReason Outside C D L = some WrongPivot
@@ -55,11 +55,11 @@ resolutionReason kinds e L (some C) (some D) = resolvingReason (existentialOf ki
 
 -- No variable of the clause depends on u, then the result.
 abbrev pub freeReason : Scope → ℕ → ℤ → Words → Words → Option Reason
-freeReason S u a C L = unless (not (blocked S u C)) Blocked (statementReason a C L)
+freeReason S u a C L = demand (not (blocked S u C)) Blocked (statementReason a C L)
 
 abbrev pub reducingReason : Scope → VariableFit → ℤ → Words → Words → Option Reason
 reducingReason S Outside a C L = some WrongPivot
-reducingReason S (Within v) a C L = unless (holds a C) WrongPivot (freeReason S (v .0) a C L)
+reducingReason S (Within v) a C L = demand (holds a C) WrongPivot (freeReason S (v .0) a C L)
 
 abbrev pub reductionReason : Scope → List ℕ → ℤ → Words → Option Words → Option Reason
 reductionReason S kinds a L none = some NotEarlier

@@ -113,24 +113,24 @@ blocked S u [] = false
 blocked S u (x ∷ C) = S .dependent u (natAbs x) || blocked S u C
 
 -- The reason if the test fails, what comes later if it holds.
-abbrev pub unless : Bool → Reason → Option Reason → Option Reason
-unless b r later = require b (some r) later
+abbrev pub demand : Bool → Reason → Option Reason → Option Reason
+demand b r later = require b (some r) later
 
 abbrev pub judgeStatement : Words → Words → Option Reason
-judgeStatement R L = unless (states R L) Misstated none
+judgeStatement R L = demand (states R L) Misstated none
 
 unfoldable pub judgeResolution : Scope → ℤ → Words → Option Words → Option Words → Option Reason
 judgeResolution S e L none D = some NotEarlier
 judgeResolution S e L (some C) none = some NotEarlier
 judgeResolution S e L (some C) (some D) =
-    unless (positiveExistential S e && holds e C && holds (negℤ e) D)
+    demand (positiveExistential S e && holds e C && holds (negℤ e) D)
     WrongPivot
-    (unless (not (opposed [] (resolvent e C D))) Tautology (judgeStatement (resolvent e C D) L))
+    (demand (not (opposed [] (resolvent e C D))) Tautology (judgeStatement (resolvent e C D) L))
 
 unfoldable pub judgeReduction : Scope → ℤ → Words → Option Words → Option Reason
 judgeReduction S a L none = some NotEarlier
 judgeReduction S a L (some C) =
-    unless (S .universal (natAbs a) && holds a C) WrongPivot (unless (not (blocked S (natAbs a) C)) Blocked (judgeStatement (without a C) L))
+    demand (S .universal (natAbs a) && holds a C) WrongPivot (demand (not (blocked S (natAbs a) C)) Blocked (judgeStatement (without a C) L))
 
 -- What is wrong with a step after the numbered clauses: nothing, or the first reason in 01's order.
 abbrev pub judge : Scope → List Words → Step → Option Reason

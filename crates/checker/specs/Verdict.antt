@@ -19,7 +19,7 @@ use Rattle.formula.specs.Prefix.{prefixOf, quantifies}
 use Rattle.formula.specs.Bounds.{proofBound}
 use Rattle.formula.specs.Decode.{formulaOf, clausesOf}
 use Rattle.formula.specs.Tables.{zeros, tablesRefusal}
-use Rattle.formula.specs.Refusal.{refusal, require}
+use Rattle.formula.specs.Refusal.{refusal, require, unless}
 use Rattle.qbf.specs.Play.{Lost}
 use Rattle.formula.specs.declared.literal.ClauseNumber.{ClauseNumber}
 use Rattle.formula.specs.declared.refusal.Refusal.{Refusal}
@@ -55,8 +55,7 @@ conclude inputs (ended known) = concluded inputs known (firstEmpty 1 known)
 conclude inputs (refused r) = Refused r
 
 abbrev pub ifAdmitted : Option Refusal → Verdict → Verdict
-ifAdmitted none later = later
-ifAdmitted (some r) later = Refused r
+ifAdmitted r later = unless Refused r later
 
 -- After the tables; `scratch` and `room` are the lengths of the scratch and of the clause offsets.
 unfoldable pub sizedVerdict : Rules → List ℤ → List ℤ → List ℤ → ℕ → ℕ → Verdict

@@ -10,7 +10,7 @@ use lib.ListN.{length, getD, replicate}
 use lib.Dec.{eqb, leb}
 use lib.IntN.{ℤ, pos, negsuc, natAbs}
 use Rattle.qbf.specs.Formula.{Formula, Prefix, universal}
-use Rattle.formula.specs.Refusal.{refusal, require}
+use Rattle.formula.specs.Refusal.{refusal, require, unless}
 use Rattle.formula.specs.Prefix.{prefixOf, quantifies}
 use Rattle.formula.specs.Tables.{tablesRefusal, firstRefusal}
 use Rattle.formula.specs.Decode.{formulaOf}
@@ -41,8 +41,7 @@ unfoldable pub rowRefusal : (bytes : ℕ) → List ℤ → List ℤ → ℤ → 
 rowRefusal bytes prefix clauses variable row scratch = firstRefusal (tablesRefusal prefix clauses) (askedRefusal bytes (prefixOf prefix) variable row scratch)
 
 abbrev pub answerRow : Option Refusal → RowAnswer
-answerRow none = Filled
-answerRow (some r) = Refused r
+answerRow r = unless Refused r Filled
 
 -- The row's buffer of n bytes: the row, and 0 from 1,025 on; wholly 0 after a refusal.
 abbrev pub rowBuffer : Option Refusal → Formula → ℕ → ℕ → List ℕ

@@ -8,7 +8,7 @@ use mathlib.Core.List.{List}
 use lib.Dec.{leb}
 use lib.IntN.{ℤ}
 use Rattle.qbf.specs.Play.{Values, lost}
-use Rattle.formula.specs.Refusal.{refusal, require}
+use Rattle.formula.specs.Refusal.{refusal, require, unless}
 use Rattle.formula.specs.Prefix.{prefixOf, entryCount}
 use Rattle.formula.specs.Tables.{tablesRefusal}
 use Rattle.formula.specs.Decode.{matrixOf}
@@ -33,8 +33,7 @@ verdict true = False
 verdict false = True
 
 abbrev pub afterTables : Option Refusal → Evaluation → Evaluation
-afterTables (some r) later = Refused r
-afterTables none later = later
+afterTables r later = unless Refused r later
 
 -- The values of the first position: 0 stands where no variable is set yet.
 abbrev pub unset : Values

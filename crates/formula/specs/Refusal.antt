@@ -1,8 +1,10 @@
--- The reasons of 01's table ("What the checker says no with"): the number and the word of each. Laws are in Refusal/Laws.antt.
+-- Refusals (01, "What the checker says no with"): a reason joined with its place; tests that refuse, and what answers by a refusal;
+-- the number of each reason, and the table of reasons with their words. Laws are in Refusal/Laws.antt.
 pub mod Laws
 use Prim.Native.Nat.{ℕ, _-_, _≤_}
 use mathlib.Core.Path.{_≡_}
 use mathlib.Core.Bool.{Bool, true, false, _&&_}
+use mathlib.Core.Option.{Option, none, some}
 use mathlib.Core.List.{List, [], _∷_}
 use lib.ListN.{length, getD, take}
 use lib.Dec.{eqb}
@@ -40,6 +42,11 @@ refusal r p = record { reason = r; place = p }
 abbrev pub require : {A : Type 0} → Bool → (refused later : A) → A
 require true refused later = later
 require false refused later = refused
+
+-- What answers by the refusal that there may be: without one, what is done.
+abbrev pub unless : {A : Type 0} → (Refusal → A) → Option Refusal → (done : A) → A
+unless refuses (some r) done = refuses r
+unless refuses none done = done
 
 -- 01's number of each reason.
 abbrev pub number : Reason → ℕ

@@ -16,7 +16,7 @@ use lib.IntN.{ℤ, pos, negsuc}
 use Rattle.qbf.specs.Formula.{listed}
 use Rattle.formula.specs.Bounds.{variableBound, countBound, matrixBound}
 use Rattle.formula.specs.Word.{wordOf}
-use Rattle.formula.specs.Refusal.{refusal, require}
+use Rattle.formula.specs.Refusal.{refusal, require, unless}
 use Rattle.formula.specs.Prefix.{prefixOf, entryCount}
 use Rattle.formula.specs.declared.literal.Word.{Word}
 use Rattle.formula.specs.declared.literal.Word.the-variants.{Zero, TooLarge, Positive, Negative}
@@ -85,8 +85,7 @@ sized prefix clauses = leb (length prefix) variableBound && leb (length clauses)
 
 -- The first of two refusals, in order.
 abbrev pub firstRefusal : Option Refusal → Option Refusal → Option Refusal
-firstRefusal none later = later
-firstRefusal (some r) later = some r
+firstRefusal r later = unless some r later
 
 abbrev pub ifSized : Bool → Option Refusal → Option Refusal
 ifSized fits later = require fits (some (refusal Oversized 0)) later
@@ -96,8 +95,7 @@ unfoldable pub tablesRefusal : List ℤ → List ℤ → Option Refusal
 tablesRefusal prefix clauses = ifSized (sized prefix clauses) (firstRefusal (prefixRefusal 0 [] prefix) (clausesRefusal (listedIn prefix) 0 [] clauses))
 
 abbrev pub answerTables : Option Refusal → ℕ → ℕ → TablesAnswer
-answerTables none variables count = Admits variables count
-answerTables (some r) variables count = Refused r
+answerTables r variables count = unless Refused r (Admits variables count)
 
 -- What `check_tables` answers: the number of variables and of clauses, or the refusal.
 abbrev pub tablesAnswer : List ℤ → List ℤ → TablesAnswer

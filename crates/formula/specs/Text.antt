@@ -21,8 +21,8 @@ use lib.IntN.{ℤ, pos, negsuc, negℤ}
 use Rattle.formula.specs.Bounds.{variableBound, countBound, matrixBound, textBound}
 use Rattle.formula.specs.Clear.{filledUp}
 use Rattle.qbf.specs.Formula.{Quantifier, existential, universal, entry, Prefix, listed}
-use Rattle.formula.specs.Refusal.{refusal, require}
-use Rattle.formula.specs.Prefix.{entryFits, prefixWords as wordsOf}
+use Rattle.formula.specs.Refusal.{refusal, require, unless}
+use Rattle.formula.specs.Prefix.{entryFits, prefixWords}
 use Rattle.formula.specs.Tables.{isIn, zeros}
 use Rattle.formula.specs.Token.{Placed, tokens, tokensAt, pWord, cnfWord, aWord, eWord}
 use Rattle.formula.specs.declared.refusal.Refusal.{Refusal}
@@ -58,11 +58,6 @@ pub data State : Type 0 where
   inSet : (v c : ℕ) (q : Quantifier) (filled : Bool) (P : Prefix) → State
   clauses : (v c : ℕ) (P : Prefix) (words : List ℤ) → State
   stopped : Refusal → State
-
--- What answers by the refusal that there may be: without one, what is done.
-abbrev pub unless : {A : Type 0} → (Refusal → A) → Option Refusal → (done : A) → A
-unless refuses (some r) done = refuses r
-unless refuses none done = done
 
 -- The variable n with a sign.
 abbrev pub signed : Bool → ℕ → ℤ
@@ -133,7 +128,7 @@ module _ (prefixRoom clauseRoom : ℕ) where
   abbrev pub setNumber : (at v c : ℕ) (q : Quantifier) (filled : Bool) (P : Prefix) → ℕ → State
   setNumber at v c q filled P zero = require filled (stopped (refusal BadToken at)) (betweenSets v c P)
   setNumber at v c q filled P (suc n) =
-      unless stopped (variableRefusal at v (suc n) (isIn (suc n) (listed P)) (entryFits prefixRoom (length (wordsOf P))))
+      unless stopped (variableRefusal at v (suc n) (isIn (suc n) (listed P)) (entryFits prefixRoom (length (prefixWords P))))
       (inSet v c q true (P ++ (entry (suc n) q ∷ [])))
 
   abbrev pub setToken : (at v c : ℕ) (q : Quantifier) (filled : Bool) (P : Prefix) → Token → State
@@ -188,10 +183,10 @@ ending at wantsP = refused (refusal Headless at)
 ending at wantsCnf = refused (refusal Headless at)
 ending at wantsV = refused (refusal Headless at)
 ending at (wantsC v) = refused (refusal Headless at)
-ending at (betweenSets v c P) = clausesEnding at false (ltb 0 c) (read (wordsOf P) [] c)
+ending at (betweenSets v c P) = clausesEnding at false (ltb 0 c) (read (prefixWords P) [] c)
 ending at (inSet v c q filled P) = refused (refusal Unfinished at)
 ending at (clauses v c P words) =
-    clausesEnding at (isOpen (openClause words)) (ltb (zeros words) c) (read (wordsOf P) words c)
+    clausesEnding at (isOpen (openClause words)) (ltb (zeros words) c) (read (prefixWords P) words c)
 ending at (stopped r) = refused r
 
 -- What a text is read as, with so many words of room for the prefix and for the clauses.
@@ -209,13 +204,13 @@ abbrev pub readAnswer : Reading → ReadAnswer
 readAnswer (read prefix words count) = Read (length prefix) (length words) count
 readAnswer (refused r) = Refused r
 
-abbrev pub prefixWords : Reading → List ℤ
-prefixWords (read prefix words count) = prefix
-prefixWords (refused r) = []
+abbrev pub prefixRead : Reading → List ℤ
+prefixRead (read prefix words count) = prefix
+prefixRead (refused r) = []
 
-abbrev pub clauseWords : Reading → List ℤ
-clauseWords (read prefix words count) = words
-clauseWords (refused r) = []
+abbrev pub clausesRead : Reading → List ℤ
+clausesRead (read prefix words count) = words
+clausesRead (refused r) = []
 
 abbrev pub padded : ℕ → List ℤ → List ℤ
 padded room words = filledUp (pos 0) room words
@@ -223,5 +218,5 @@ padded room words = filledUp (pos 0) room words
 -- The contract of `read_formula`: its answer, and both tables at its end.
 pub record ReadPost (text : List ℕ) (prefix clauses prefix′ clauses′ : List ℤ) (answer : ReadAnswer) : Type 0 where
   pub answers : answer ≡ readAnswer (reading text (length prefix) (length clauses))
-  pub fillsPrefix : prefix′ ≡ padded (length prefix) (prefixWords (reading text (length prefix) (length clauses)))
-  pub fillsClauses : clauses′ ≡ padded (length clauses) (clauseWords (reading text (length prefix) (length clauses)))
+  pub fillsPrefix : prefix′ ≡ padded (length prefix) (prefixRead (reading text (length prefix) (length clauses)))
+  pub fillsClauses : clauses′ ≡ padded (length clauses) (clausesRead (reading text (length prefix) (length clauses)))

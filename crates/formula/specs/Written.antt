@@ -15,7 +15,7 @@ use lib.ListN.{length, replicate}
 use lib.Dec.{leb, eqb}
 use lib.IntN.{ℤ, pos, negsuc}
 use Rattle.qbf.specs.Formula.{Quantifier, existential, universal, Entry, Prefix}
-use Rattle.formula.specs.Refusal.{refusal, require}
+use Rattle.formula.specs.Refusal.{refusal, require, unless}
 use Rattle.formula.specs.Clear.{filledUp}
 use Rattle.formula.specs.Prefix.{prefixOf}
 use Rattle.formula.specs.Decode.{clausesOf}
@@ -88,8 +88,7 @@ unfoldable pub writingRefusal : List ℤ → List ℤ → ℕ → Option Refusal
 writingRefusal prefix clauses room = firstRefusal (tablesRefusal prefix clauses) (ifRoom (leb (length (written prefix clauses)) room))
 
 abbrev pub answerWriting : Option Refusal → ℕ → WriteAnswer
-answerWriting none used = Written used
-answerWriting (some r) used = Refused r
+answerWriting r used = unless Refused r (Written used)
 
 -- The text's bytes at the end: what was written and zeros behind it, or zeros alone.
 abbrev pub textAfter : Option Refusal → List ℕ → ℕ → List ℕ

@@ -33,7 +33,9 @@ impl Variable {
     }
 
     // The variable 1, where one is due that nothing depends on.
-    pub fn first() -> Variable {
+    pub fn first() -> Variable
+        ensures { λ r. ⌜ r .0 ≡ 1 ⌝ }
+    {
         Variable(1)
     }
 

@@ -14,10 +14,10 @@ use Rattle.qbf.specs.Formula.{Formula, Existential, Universal}
 use Rattle.qbf.specs.Dependency.{Depends}
 use Rattle.formula.specs.declared.refusal.Reason.{Reason}
 use Rattle.formula.specs.declared.refusal.Reason.the-variants.{WrongPivot, Tautology, Blocked, Misstated}
-use Rattle.checker.specs.Rules.Laws.{require-passed}
+use Rattle.formula.specs.Refusal.Laws.{require-none}
 use Rattle.checker.specs.Words.{Words, holds, without}
 use Rattle.checker.specs.Words.Laws.{not-true-false, holds-sound, holds-complete, without-member, member-without}
-use Rattle.checker.specs.Steps.{Scope, Step, resolution, reduction, antecedent, resolvent, opposed, states, positiveExistential, blocked, unless, judgeStatement, judgeResolution, judgeReduction, judge}
+use Rattle.checker.specs.Steps.{Scope, Step, resolution, reduction, antecedent, resolvent, opposed, states, positiveExistential, blocked, demand, judgeStatement, judgeResolution, judgeReduction, judge}
 use Rattle.checker.specs.Steps.Tests.{opposed-found, unopposed, states-sound, states-complete, in-resolvent, resolvent-in, blocked-found, unblocked}
 use Rattle.checker.specs.Lawful.{Numbered, Resolvent, Reduct, LawfulResolution, LawfulReduction, Lawful, NoZeros}
 use Rattle.checker.specs.Lawful.Laws.{numbered-member, antecedent-numbered, numbered-antecedent}
@@ -34,14 +34,10 @@ pub record Decides (S : Scope) (F : Formula) : Type 0 where
 no-reason : {r : Reason} {A : Type 0} → _≡_ {A = Option Reason} (some r) none → A
 no-reason e = let z : _≡_ {A = ℕ} 0 1 = cc in absurd (omega arith)
 
--- A test that must pass.
-unless-none : (b : Bool) (r : Reason) (o : Option Reason) → unless b r o ≡ none → (b ≡ true) × (o ≡ none)
-unless-none b r o e = require-passed b (some r) o none (λ q. no-reason q) e
-
 statement-blocked : (R L : Words) → judgeStatement R L ≡ some Blocked → ⊥
 statement-blocked R L h = go (states R L) h
   where
-    go : (b : Bool) → unless b Misstated none ≡ some Blocked → ⊥
+    go : (b : Bool) → demand b Misstated none ≡ some Blocked → ⊥
     go true e = let z : _≡_ {A = ℕ} 0 1 = cc in omega arith
     go false e = let z : _≡_ {A = ℕ} 0 1 = cc in omega arith
 
@@ -72,12 +68,12 @@ module _ (S : Scope) (F : Formula) (D : Decides S F) where
         → LawfulResolution F known i j e L
     unfolding judgeResolution
     resolution-sound i j e L C E n m h =
-        let pivots = unless-none (positiveExistential S e && holds e C && holds (negℤ e) E) WrongPivot _ h in
+        let pivots = require-none (positiveExistential S e && holds e C && holds (negℤ e) E) WrongPivot _ h in
         let both = and-both (positiveExistential S e && holds e C) (holds (negℤ e) E) (pivots .0) in
         let first = and-both (positiveExistential S e) (holds e C) (both .0) in
         let v = pivot-sound e (first .0) in
-        let signs = unless-none (not (opposed [] (resolvent e C E))) Tautology _ (pivots .1) in
-        let stated = unless-none (states (resolvent e C E) L) Misstated none (signs .1) in
+        let signs = require-none (not (opposed [] (resolvent e C E))) Tautology _ (pivots .1) in
+        let stated = require-none (states (resolvent e C E) L) Misstated none (signs .1) in
         record {
           left = C;
           right = E;
@@ -102,10 +98,10 @@ module _ (S : Scope) (F : Formula) (D : Decides S F) where
         → LawfulReduction F known i a L
     unfolding judgeReduction
     reduction-sound i a L C n h =
-        let pivots = unless-none (S .universal (natAbs a) && holds a C) WrongPivot _ h in
+        let pivots = require-none (S .universal (natAbs a) && holds a C) WrongPivot _ h in
         let both = and-both (S .universal (natAbs a)) (holds a C) (pivots .0) in
-        let free = unless-none (not (blocked S (natAbs a) C)) Blocked _ (pivots .1) in
-        let stated = unless-none (states (without a C) L) Misstated none (free .1) in
+        let free = require-none (not (blocked S (natAbs a) C)) Blocked _ (pivots .1) in
+        let stated = require-none (states (without a C) L) Misstated none (free .1) in
         record {
           clause = C;
           numbered = n;
@@ -188,7 +184,7 @@ module _ (S : Scope) (F : Formula) (D : Decides S F) where
   unfolding judgeResolution judgeReduction
   judge-blocked known (resolution i j e L) h = go (antecedent known i) (antecedent known j) h
     where
-      tests : (C E : Words) (a b : Bool) → unless a WrongPivot (unless b Tautology (judgeStatement (resolvent e C E) L)) ≡ some Blocked → ⊥
+      tests : (C E : Words) (a b : Bool) → demand a WrongPivot (demand b Tautology (judgeStatement (resolvent e C E) L)) ≡ some Blocked → ⊥
       tests C E false b k = let z : _≡_ {A = ℕ} 0 1 = cc in omega arith
       tests C E true false k = let z : _≡_ {A = ℕ} 0 1 = cc in omega arith
       tests C E true true k = statement-blocked (resolvent e C E) L k
@@ -203,7 +199,7 @@ module _ (S : Scope) (F : Formula) (D : Decides S F) where
       tests :
           (C : Words) → Numbered known i C
           → (p b : Bool) → (S .universal (natAbs a) && holds a C) ≡ p → blocked S (natAbs a) C ≡ b
-          → unless p WrongPivot (unless (not b) Blocked (judgeStatement (without a C) L)) ≡ some Blocked
+          → demand p WrongPivot (demand (not b) Blocked (judgeStatement (without a C) L)) ≡ some Blocked
           → Blocks F known i a
       tests C n false b q e k = let z : _≡_ {A = ℕ} 0 1 = cc in absurd (omega arith)
       tests C n true true q e k =

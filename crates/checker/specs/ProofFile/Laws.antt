@@ -23,7 +23,7 @@ use Rattle.formula.specs.Refusal.{refusal}
 use Rattle.formula.specs.declared.refusal.Reason.{Reason}
 use Rattle.formula.specs.declared.refusal.Reason.the-variants.{Oversized, NoRoom, NoTrailer, OtherFormula}
 use Rattle.formula.specs.declared.refusal.Refusal.{Refusal}
-use Rattle.checker.specs.Rules.Laws.{require-passed}
+use Rattle.formula.specs.Refusal.Laws.{require-none}
 use Rattle.checker.specs.ProofFile.{
   number4,
   word4,
@@ -117,16 +117,13 @@ module _ (file : List ℕ) (count room : ℕ) where
         unfolding proofRefusal
         refusal-none h = rw (t, b, eq-eqb (clauseCount file) count e, le-leb (stepCount file) room h)
 
-unless-none : (b : Bool) (reason : Reason) (later : Option Refusal) → refuseUnless b reason later ≡ none → (b ≡ true) × (later ≡ none)
-unless-none b reason later e = require-passed b (some (refusal reason 0)) later none (λ q. let z : _≡_ {A = ℕ} 0 1 = cc in omega arith) e
-
 pub passed-of : (file : List ℕ) (count room : ℕ) → proofRefusal file count room ≡ none → Passed file count room
 unfolding proofRefusal
 passed-of file count room e =
-    let a = unless-none (hasTrailer file) _ _ e in
-    let b = unless-none (leb (stepCount file) proofBound) _ _ (a .1) in
-    let c = unless-none (eqb (clauseCount file) count) _ _ (b .1) in
-    let d = unless-none (leb (stepCount file) room) _ _ (c .1) in
+    let a = require-none (hasTrailer file) _ _ e in
+    let b = require-none (leb (stepCount file) proofBound) _ _ (a .1) in
+    let c = require-none (eqb (clauseCount file) count) _ _ (b .1) in
+    let d = require-none (leb (stepCount file) room) _ _ (c .1) in
     record { trailer = trailer-of file (a .0); bounded = leb-true _ _ (b .0); same = eqb-true _ _ (c .0); fits = leb-true _ _ (d .0) }
 
 -- ---- the words

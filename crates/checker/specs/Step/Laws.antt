@@ -26,7 +26,7 @@ use Rattle.formula.specs.Decode.{clauseAt}
 use Rattle.checker.specs.declared.result.Judgement.{Judgement}
 use Rattle.checker.specs.declared.result.Judgement.the-variants.{Right, Wrong}
 use Rattle.checker.specs.declared.step.StepAnswer.the-variants.{Right as RightStep, Wrong as WrongStep}
-use Rattle.checker.specs.Steps.{Scope, Step, resolution, reduction, sizeOf, readStep, antecedent, resolvent, positiveExistential, unless, judgeResolution, judgeReduction, judge, judgeFirst}
+use Rattle.checker.specs.Steps.{Scope, Step, resolution, reduction, sizeOf, readStep, antecedent, resolvent, positiveExistential, demand, judgeResolution, judgeReduction, judge, judgeFirst}
 use Rattle.checker.specs.Lawful.Laws.{found-member}
 use Rattle.checker.specs.Verdict.{scopeOf}
 use Rattle.checker.specs.Numbered.{tableOf, placeOf, storedAt, stored}
@@ -90,7 +90,7 @@ module _ (prefix clauses : List ℤ) (a : Admitted prefix clauses) where
   unfolding judgeResolution
   resolving (pos v) C D L = go (quantifies existential (prefixOf prefix) v)
     where
-      go : (b : Bool) → resolvingReason (variableFit b v) C D L ≡ unless (b && holds (pos v) C && holds (negℤ (pos v)) D) WrongPivot (resultReason (resolvent (pos v) C D) L)
+      go : (b : Bool) → resolvingReason (variableFit b v) C D L ≡ demand (b && holds (pos v) C && holds (negℤ (pos v)) D) WrongPivot (resultReason (resolvent (pos v) C D) L)
       go true = refl
       go false = refl
   resolving (negsuc n) C D L = refl
@@ -101,7 +101,7 @@ module _ (prefix clauses : List ℤ) (a : Admitted prefix clauses) where
   resolution-judged e L (some C) none = refl
   resolution-judged e L (some C) (some D) = ap (λ (f : VariableFit). resolvingReason f C D L) (existential-fit prefix clauses a e) ∙ resolving e C D L
 
-  reducing : (x : ℤ) (C L : Words) (b : Bool) → reducingReason (scopeOf prefix clauses) (variableFit b (natAbs x)) x C L ≡ unless (b && holds x C) WrongPivot (freeReason (scopeOf prefix clauses) (natAbs x) x C L)
+  reducing : (x : ℤ) (C L : Words) (b : Bool) → reducingReason (scopeOf prefix clauses) (variableFit b (natAbs x)) x C L ≡ demand (b && holds x C) WrongPivot (freeReason (scopeOf prefix clauses) (natAbs x) x C L)
   reducing x C L true = refl
   reducing x C L false = refl
 

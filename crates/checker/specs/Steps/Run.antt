@@ -16,7 +16,7 @@ use Rattle.formula.specs.declared.refusal.Reason.{Reason}
 use Rattle.formula.specs.declared.refusal.Refusal.{Refusal}
 use Rattle.formula.specs.declared.refusal.Reason.the-variants.{NoRoom, BrokenStep, Blocked}
 use Rattle.checker.specs.Rules.{Rules}
-use Rattle.checker.specs.Rules.Laws.{require-passed}
+use Rattle.formula.specs.Refusal.Laws.{require-passed}
 use Rattle.checker.specs.Words.{Words}
 use Rattle.checker.specs.Steps.{
   Scope,

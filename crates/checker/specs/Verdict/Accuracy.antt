@@ -27,7 +27,7 @@ use Rattle.formula.specs.declared.refusal.Reason.the-variants.{Oversized, NoRoo
 use Rattle.checker.specs.declared.verdict.Verdict.{Verdict}
 use Rattle.checker.specs.declared.verdict.Verdict.the-variants.{Accepted, Refused}
 use Rattle.checker.specs.Rules.{Rules, PlainKinds}
-use Rattle.checker.specs.Rules.Laws.{require-passed}
+use Rattle.formula.specs.Refusal.Laws.{require-passed}
 use Rattle.checker.specs.Words.{Words}
 use Rattle.checker.specs.Steps.{Outcome, ended, refused, run}
 use Rattle.checker.specs.Steps.Tests.{opposite-zero}

@@ -1,9 +1,10 @@
--- Laws of the table of reasons: its rows stand in the order of their numbers, so a row's place tells its reason's number; and
--- of words filled up with dots, as the code lists them.
--- Definitions: Refusal. Assumes nothing.
+-- Laws of refusals: a test that must hold, taken apart; the rows of the table stand in the order of their numbers, so a row's place
+-- tells its reason's number; words filled up with dots. Definitions: Refusal. Assumes nothing.
 use Prim.Native.Nat.{ℕ, zero, suc, _+_, _-_, _≤_, _<_}
 use mathlib.Core.Path.{_≡_, refl, ap, sym, _∙_}
 use mathlib.Core.Bool.{Bool, true, false, _&&_, false≢true}
+use mathlib.Core.Logic.{_≢_}
+use mathlib.Core.Option.{Option, none, some}
 use mathlib.Core.List.{List, [], _∷_}
 use native.Mathlib.Nat.{le-of-suc-le-suc, not-suc-le-zero}
 use native.Mathlib.Omega.{arith}
@@ -13,7 +14,7 @@ use lib.Dec.{eqb}
 use lib.ListN.{length, getD, take, drop}
 use lib.Seq.{drop-cons, drop-nil, drop-length, drop-drop}
 use Rattle.qbf.specs.Connectives.{and-both}
-use Rattle.formula.specs.Refusal.{number, Named, named, table, rowAt, reasonAt, word, wordIn, beforeDot, same, filled, Spells}
+use Rattle.formula.specs.Refusal.{number, Named, named, table, rowAt, reasonAt, word, wordIn, beforeDot, same, filled, Spells, require}
 use Rattle.formula.specs.declared.refusal.Reason.{Reason}
 use Rattle.formula.specs.declared.refusal.Reason.the-variants.{Headless}
 
@@ -109,3 +110,11 @@ module _ (ws : List (List ℕ)) (f : filled ws table ≡ true) (n : ℕ) (l : 1 
       let is : word r ≡ wordIn row =
       ap (λ (m : ℕ). rowAt m .bytes) (ap number e ∙ number-at n l h) ∙ sym (filled-at ws table f (n - 1) (omega arith) .1) in
       record { spelled = rw (q, is) (word-first row); short = omega (arith, q, word-shorter row, row-length); whole = row-length }
+
+-- A test that must hold: an answer that is not the refusal; no refusal at all.
+pub require-passed : {A : Type 0} (b : Bool) (refused later answer : A) → refused ≢ answer → require b refused later ≡ answer → (b ≡ true) × (later ≡ answer)
+require-passed true refused later answer n e = (refl, e)
+require-passed false refused later answer n e = absurd (n e)
+
+pub require-none : {A : Type 0} (b : Bool) (r : A) (later : Option A) → require b (some r) later ≡ none → (b ≡ true) × (later ≡ none)
+require-none b r later e = require-passed b (some r) later none (λ q. let z : _≡_ {A = ℕ} 0 1 = cc in omega arith) e

@@ -8,6 +8,7 @@ use mathlib.Core.List.{List, [], _∷_}
 use lib.ListN.{length, getD, drop}
 use lib.Dec.{eqb}
 use lib.IntN.{ℤ, pos, natAbs}
+use Rattle.formula.specs.Refusal.{unless}
 use Rattle.formula.specs.Bounds.{variableBound, inRange}
 use Rattle.formula.specs.Tables.{isIn, prefixRefusal, clausesRefusal, listedIn, firstRefusal}
 use Rattle.formula.specs.declared.refusal.Refusal.{Refusal}
@@ -17,8 +18,7 @@ use Rattle.formula.specs.declared.tables.ClauseCheck.{ClauseCheck}
 use Rattle.formula.specs.declared.tables.ClauseCheck.the-variants.{Closed, Refused as Stopped}
 
 abbrev pub checkOf : Option Refusal → Check
-checkOf none = Passed
-checkOf (some r) = Refused r
+checkOf r = unless Refused r Passed
 
 -- Prefix words, then clause words.
 unfoldable pub wordsRefusal : List ℤ → List ℤ → Option Refusal

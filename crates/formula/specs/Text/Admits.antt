@@ -16,7 +16,7 @@ use Rattle.qbf.specs.Formula.{Quantifier, existential, universal, entry, Prefix
 use Rattle.formula.specs.Word.{wordOf}
 use Rattle.formula.specs.Prefix.{entryWord, prefixWords, entryFits}
 use Rattle.formula.specs.Prefix.Laws.{words-listed, words-append, words-length}
-use Rattle.formula.specs.Refusal.{refusal, require}
+use Rattle.formula.specs.Refusal.{refusal, require, unless}
 use Rattle.formula.specs.Tables.{
   isIn,
   zeros,
@@ -28,7 +28,7 @@ use Rattle.formula.specs.Tables.{
   Admitted,
 }
 use Rattle.formula.specs.Token.{pWord, cnfWord, aWord, eWord, Placed, tokens}
-use Rattle.formula.specs.Text.{read, refused, State, wantsP, wantsCnf, wantsV, wantsC, betweenSets, inSet, clauses, stopped, isWord, unless, signed, openClause, openFrom, isOpen, headerNumber, opens, setToken, putLiteral, clauseToken, clausesToken, clausesEnding, step, run, ending, reading}
+use Rattle.formula.specs.Text.{read, refused, State, wantsP, wantsCnf, wantsV, wantsC, betweenSets, inSet, clauses, stopped, isWord, signed, openClause, openFrom, isOpen, headerNumber, opens, setToken, putLiteral, clauseToken, clausesToken, clausesEnding, step, run, ending, reading}
 use Rattle.formula.specs.Text.Laws.{variable-fine, literal-fine, closing-fine}
 use Rattle.formula.specs.Text.Distinct.{Apart, Ranged, ranged-in, apart-few}
 use Rattle.formula.specs.Text.Sets.Laws.{listed-snoc}

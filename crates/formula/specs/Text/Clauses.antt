@@ -11,10 +11,10 @@ use lib.ListN.{length, getD, set, take}
 use lib.Dec.{ltb, eqb}
 use Rattle.qbf.specs.Formula.{Prefix, listed}
 use Rattle.formula.specs.Bounds.{variableBound}
-use Rattle.formula.specs.Refusal.{refusal, require}
+use Rattle.formula.specs.Refusal.{refusal, require, unless}
 use Rattle.formula.specs.Prefix.{prefixWords}
 use Rattle.formula.specs.Tables.{isIn, zeros}
-use Rattle.formula.specs.Text.{read, refused, clauses, stopped, unless, signed, openClause, isOpen, literalRefusal, closingRefusal, clauseToken, readingFrom}
+use Rattle.formula.specs.Text.{read, refused, clauses, stopped, signed, openClause, isOpen, literalRefusal, closingRefusal, clauseToken, readingFrom}
 use Rattle.formula.specs.declared.refusal.Reason.the-variants.{Unfinished, Miscount}
 use Rattle.formula.specs.declared.refusal.Refusal.{Refusal}
 use Rattle.formula.specs.declared.token.Token.{Token}

@@ -8,6 +8,7 @@ use native.Mathlib.Omega.{arith}
 use borrow.Author.Tests.{ltb-true, leb-true, not-true}
 use lib.Dec.{ltb, leb}
 use lib.ListN.{length}
+use Rattle.formula.specs.Refusal.Laws.{require-none}
 use Rattle.formula.specs.Bounds.{matrixBound}
 use Rattle.formula.specs.Refusal.{require}
 use Rattle.formula.specs.Token.{Placed, placed, nextToken}
@@ -16,11 +17,6 @@ use Rattle.formula.specs.Text.{refused, State, stopped, variableRefusal,
 use Rattle.formula.specs.declared.refusal.Refusal.{Refusal}
 use Rattle.formula.specs.declared.token.Token.{Token}
 use Rattle.formula.specs.declared.token.Next.the-variants.{End}
-
--- A test that did not refuse.
-pub require-none : (b : Bool) (r : Refusal) (later : Option Refusal) → require b (some r) later ≡ none → (b ≡ true) × (later ≡ none)
-require-none true r later e = (refl, e)
-require-none false r later e = let z : _≡_ {A = ℕ} 0 1 = cc in absurd (omega arith)
 
 -- A variable that is listed.
 pub record VariableFine (v n : ℕ) (known fits : Bool) : Type 0 where

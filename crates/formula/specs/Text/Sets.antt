@@ -11,10 +11,10 @@ use lib.ListN.{length, getD, set, take}
 use lib.Dec.{ltb}
 use Rattle.qbf.specs.Formula.{Quantifier, entry, Prefix, listed}
 use Rattle.formula.specs.Bounds.{variableBound}
-use Rattle.formula.specs.Refusal.{refusal, require}
+use Rattle.formula.specs.Refusal.{refusal, require, unless}
 use Rattle.formula.specs.Prefix.{prefixOf, entryFits, putEntry, usedAfter}
 use Rattle.formula.specs.Tables.{isIn}
-use Rattle.formula.specs.Text.{refused, betweenSets, inSet, clauses, stopped, unless, variableRefusal, setToken, readingFrom}
+use Rattle.formula.specs.Text.{refused, betweenSets, inSet, clauses, stopped, variableRefusal, setToken, readingFrom}
 use Rattle.formula.specs.declared.refusal.Reason.the-variants.{BadToken}
 use Rattle.formula.specs.declared.refusal.Refusal.{Refusal}
 use Rattle.formula.specs.declared.token.Token.{Token}

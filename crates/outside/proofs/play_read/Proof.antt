@@ -7,7 +7,7 @@ use borrow.Author.Needs.{needs}
 use lib.ListN.{length}
 use lib.Seq.{length-take-le}
 use lib.IntN.{ℤ}
-use Rattle.formula.specs.Text.{Reading, read, refused, reading, readAnswer, prefixWords, clauseWords, padded, ReadPost}
+use Rattle.formula.specs.Text.{Reading, read, refused, reading, readAnswer, prefixRead, clausesRead, padded, ReadPost}
 use Rattle.formula.specs.declared.read.ReadAnswer.{ReadAnswer}
 use Rattle.formula.specs.declared.read.ReadAnswer.the-variants.{Read, Refused}
 use Rattle.report.specs.Settled.Laws.{padded-within}
@@ -18,7 +18,7 @@ used-within : (text : List ℕ) (p₀ c₀ p c : List ℤ) (answer : ReadAnswer)
     → (prefix-used clauses-used count : ℕ) → answer ≡ Read prefix-used clauses-used count → (prefix-used ≤ length p) × (clauses-used ≤ length c)
 used-within text p₀ c₀ p c answer post i j n e = go (reading text (length p₀) (length c₀)) (post .answers) (post .fillsPrefix) (post .fillsClauses)
   where
-    go : (r : Reading) → answer ≡ readAnswer r → p ≡ padded (length p₀) (prefixWords r) → c ≡ padded (length c₀) (clauseWords r) → (i ≤ length p) × (j ≤ length c)
+    go : (r : Reading) → answer ≡ readAnswer r → p ≡ padded (length p₀) (prefixRead r) → c ≡ padded (length c₀) (clausesRead r) → (i ≤ length p) × (j ≤ length c)
     go (read ps cs m) a f g =
         let x : i ≡ length ps = cc in
         let y : j ≡ length cs = cc in

@@ -10,7 +10,7 @@ use lib.Dec.{leb}
 use lib.IntN.{ℤ, pos}
 use Rattle.formula.specs.Refusal.{refusal}
 use Rattle.formula.specs.Tables.Laws.{admitted-count}
-use Rattle.formula.specs.Text.{Reading, read, refused, reading, readAnswer, prefixWords, clauseWords, padded, ReadPost}
+use Rattle.formula.specs.Text.{Reading, read, refused, reading, readAnswer, prefixRead, clausesRead, padded, ReadPost}
 use Rattle.formula.specs.Text.Admits.{read-admitted}
 use Rattle.formula.specs.declared.read.ReadAnswer.{ReadAnswer}
 use Rattle.formula.specs.declared.read.ReadAnswer.the-variants.{Read, Refused}
@@ -60,7 +60,7 @@ module _ (bound : ℕ) (file : List ℕ) where
   formula-read p₀ c₀ prefix clauses answer e post =
       go (reading file (length p₀) (length c₀)) refl (post .answers) (post .fillsPrefix) (post .fillsClauses)
     where
-      go : (r : Reading) → reading file (length p₀) (length c₀) ≡ r → answer ≡ readAnswer r → prefix ≡ padded (length p₀) (prefixWords r) → clauses ≡ padded (length c₀) (clauseWords r)
+      go : (r : Reading) → reading file (length p₀) (length c₀) ≡ r → answer ≡ readAnswer r → prefix ≡ padded (length p₀) (prefixRead r) → clauses ≡ padded (length c₀) (clausesRead r)
           → FormulaSettled bound file (length p₀) (length c₀) prefix clauses answer
       go (read ps cs n) q a f g =
           rw (a, f, g)

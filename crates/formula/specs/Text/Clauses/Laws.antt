@@ -17,24 +17,8 @@ use Rattle.formula.specs.Bounds.{variableBound}
 use Rattle.qbf.specs.Formula.{Prefix, listed}
 use Rattle.formula.specs.Prefix.{prefixWords}
 use Rattle.formula.specs.Tables.{isIn, zeros}
-use Rattle.formula.specs.Text.{
-  readingFrom,
-  read,
-  clauses,
-  stopped,
-  signed,
-  openFrom,
-  openClause,
-  isOpen,
-  unless,
-  literalRefusal,
-  closingRefusal,
-  putLiteral,
-  clauseToken,
-  clausesEnding,
-  step,
-  ending,
-}
+use Rattle.formula.specs.Text.{readingFrom, read, clauses, stopped, signed, openFrom, openClause, isOpen, literalRefusal, closingRefusal, putLiteral, clauseToken, clausesEnding, step, ending}
+use Rattle.formula.specs.Refusal.{unless, refusal, require}
 use Rattle.formula.specs.Text.Sets.{Listed}
 use Rattle.formula.specs.Text.Clauses.{
   Marked,
@@ -49,7 +33,6 @@ use Rattle.formula.specs.Text.Clauses.{
   ClausesPost,
 }
 use Rattle.formula.specs.Text.Laws.{literal-fine, closing-fine, from-end, from-token, from-stopped}
-use Rattle.formula.specs.Refusal.{refusal, require}
 use Rattle.formula.specs.Token.{nextToken}
 use Rattle.formula.specs.Token.Laws.{FoundAt}
 use Rattle.formula.specs.declared.refusal.Reason.the-variants.{Miscount}

@@ -14,13 +14,13 @@ use lib.Dec.{ltb, leb, eqb}
 use lib.IntN.{ℤ}
 use Rattle.qbf.specs.Formula.{Quantifier, entry, Prefix, listed}
 use Rattle.formula.specs.Bounds.{variableBound}
-use Rattle.formula.specs.Refusal.{refusal}
+use Rattle.formula.specs.Refusal.{refusal, unless}
 use Rattle.formula.specs.Prefix.{prefixOf, entryFits, usedAfter, quantifierOf}
 use Rattle.formula.specs.Prefix.Laws.{prefix-none, prefix-words, put-entries, put-more, put-within}
 use Rattle.formula.specs.Tables.{isIn, zeros}
 use Rattle.formula.specs.Token.{aWord, eWord, nextToken}
 use Rattle.formula.specs.Token.Laws.{FoundAt}
-use Rattle.formula.specs.Text.{betweenSets, inSet, clauses, stopped, isWord, unless, opens, openFrom, variableRefusal, setToken, clausesToken, step, ending, readingFrom}
+use Rattle.formula.specs.Text.{betweenSets, inSet, clauses, stopped, isWord, opens, openFrom, variableRefusal, setToken, clausesToken, step, ending, readingFrom}
 use Rattle.formula.specs.Text.Distinct.{or-no}
 use Rattle.formula.specs.Text.Laws.{variable-fine, from-end, from-token, from-stopped}
 use Rattle.formula.specs.Text.Sets.{Listed, listing, ListingPost, setClosing, SetTokenPost, SetPost, SetsPost}
