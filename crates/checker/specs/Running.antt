@@ -17,6 +17,7 @@ use Rattle.checker.specs.Words.{Words}
 use Rattle.checker.specs.Steps.{Step, statedBy, sizeOf, readStep, Outcome, ended, refused, run}
 use Rattle.checker.specs.Verdict.{scopeOf}
 use Rattle.checker.specs.Numbered.{storedAt, stored}
+use Rattle.checker.specs.Step.{Ready}
 
 -- The run's answer with the offsets it leaves.
 abbrev pub outcomeOf : ℕ → Words → Words → List ℕ → Run → Outcome
@@ -55,11 +56,13 @@ pub record Placed (clauses steps : Words) (inputs : ℕ) (offsets : List ℕ) (n
   pub input-clauses : stored inputs clauses steps offsets inputs ≡ clausesOf clauses
   pub derived : (k : ℕ) → inputs ≤ k → k < numbered → StepStands steps (k - inputs) (getD offsets k 0) (storedAt inputs clauses steps offsets k)
 
-pub record RunDone (prefix clauses steps : List ℤ) (inputs : ℕ) (r : Run) (offsets : List ℕ) : Type 0 where
+-- `scratch` and `offsets` are as the run leaves them: marks and kinds are ready for another run.
+pub record RunDone (prefix clauses steps : List ℤ) (inputs : ℕ) (r : Run) (scratch offsets : List ℕ) : Type 0 where
   pub outcome : run plainRules (scopeOf prefix clauses) (length offsets) (clausesOf clauses) zero steps ≡ outcomeOf inputs clauses steps offsets r
   pub counted : countOf r ≤ length offsets
   pub grown : Grown inputs r
   pub placed : Placed clauses steps inputs offsets (countOf r)
+  pub ready : Ready prefix scratch
 
 abbrev pub isEmpty : Words → Bool
 isEmpty [] = true

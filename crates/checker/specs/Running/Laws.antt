@@ -240,17 +240,25 @@ module _ (prefix clauses steps : List ℤ) (inputs room : ℕ) (scratch offsets 
 
   -- A wrong one ends the run.
   pub going-refused :
-      (r : Reason) → at < length steps
+      (r : Reason) (scratch′ : List ℕ) → at < length steps
       → WrongStep r ≡ stepAnswer at (judgeFirst plainRules (scopeOf prefix clauses) (length offsets) (stored inputs clauses steps offsets numbered) (drop at steps))
-      → RunDone prefix clauses steps inputs (Refused (refusal r (numbered + 1))) offsets
-  going-refused r h e =
+      → length scratch′ ≡ length scratch
+      → drop own scratch′ ≡ drop own scratch
+      → RunDone prefix clauses steps inputs (Refused (refusal r (numbered + 1))) scratch′ offsets
+  going-refused r scratch′ h e l k =
       let w = wrong-run (scopeOf prefix clauses) (length offsets) (stored inputs clauses steps offsets numbered) steps at h r e in
       let n : suc (length (stored inputs clauses steps offsets numbered)) ≡ numbered + 1 = let l = stored-length inputs clauses steps offsets numbered in omega arith in
-      record { outcome = rw (g .room-is) (g .whole ∙ rw (← g .room-is) (w ∙ ap (λ (p : ℕ). refused (refusal r p)) n)); counted = omega arith; grown = tt; placed = record { input-clauses = g .placed .input-clauses; derived = λ k l m. absurd (omega arith) } }
+      record {
+        outcome = rw (g .room-is) (g .whole ∙ rw (← g .room-is) (w ∙ ap (λ (p : ℕ). refused (refusal r p)) n));
+        counted = omega arith;
+        grown = tt;
+        placed = record { input-clauses = g .placed .input-clauses; derived = λ k l m. absurd (omega arith) };
+        ready = ready-kept prefix scratch (g .ready) scratch′ l k;
+      }
 
   -- No word is left.
-  pub going-ends : length steps ≤ at → RunDone prefix clauses steps inputs (Ended numbered) offsets
+  pub going-ends : length steps ≤ at → RunDone prefix clauses steps inputs (Ended numbered) scratch offsets
   unfolding run
   going-ends h =
       let nothing : drop at steps ≡ [] = drop-of-length-le steps {i = at} h in
-      record { outcome = rw (g .room-is) (g .whole ∙ rw nothing); counted = let e = g .room-is in let f = g .fits in omega arith; grown = g .past; placed = g .placed }
+      record { outcome = rw (g .room-is) (g .whole ∙ rw nothing); counted = let e = g .room-is in let f = g .fits in omega arith; grown = g .past; placed = g .placed; ready = g .ready }
