@@ -22,8 +22,8 @@ pub enum Run {
     Refused(Refusal),
 }
 
-// Every step in turn. The offsets are left filled: the input clauses' as they came, and that of each right step. Costs no more
-// than the words and the antecedents of the steps, and a row a reduction.
+// Every step in turn. The offsets are left filled: the input clauses' as they came, and that of each right step. Marks and kinds
+// are left as they came. Costs no more than the words and the antecedents of the steps, and a row a reduction.
 pub fn run_steps<'a>(
     prefix: &[i32],
     clauses: &'a [i32],
@@ -34,7 +34,7 @@ pub fn run_steps<'a>(
 ) -> Run
     requires { ⌜ Ready (now prefix) (now scratch) ⌝ ∗ ⌜ Admitted (now prefix) (now clauses) ⌝ ∗ ⌜ length (now steps) ≤ 1048576 ⌝ }
     requires { ⌜ inputs ≤ length (now offsets) ⌝ ∗ ⌜ stored inputs (now clauses) (now steps) (now offsets) inputs ≡ clausesOf (now clauses) ⌝ }
-    ensures { λ r. ⌜ RunDone (now (prefix .entry)) (now (clauses .entry)) (now (steps .entry)) inputs r (now (offsets .exit)) ⌝ }
+    ensures { λ r. ⌜ RunDone (now (prefix .entry)) (now (clauses .entry)) (now (steps .entry)) inputs r (now (scratch .exit)) (now (offsets .exit)) ⌝ }
 {
     let mut numbered = inputs;
     let mut at = 0;

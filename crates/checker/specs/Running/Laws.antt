@@ -1,5 +1,5 @@
 -- A right step taken by the run, and the search for an empty clause one by one. Assumes nothing.
-use Prim.Native.Nat.{ℕ, zero, suc, _+_, _≤_, _<_}
+use Prim.Native.Nat.{ℕ, zero, suc, _+_, _-_, _≤_, _<_}
 use mathlib.Core.Path.{_≡_, refl, ap, ap₂, sym, _∙_}
 use mathlib.Core.Bool.{true, false, false≢true}
 use mathlib.Core.Option.{Option, none, some}
@@ -33,12 +33,17 @@ use Rattle.checker.specs.Reading.{statementOf}
 use Rattle.checker.specs.Reading.Laws.{statement-read}
 use Rattle.checker.specs.Step.{stepAnswer, Ready}
 use Rattle.checker.specs.Step.Laws.{ready-kept}
-use Rattle.checker.specs.Running.{isEmpty, StepStands, Placed, RunDone}
+use Rattle.checker.specs.Running.{isEmpty, stepPlace, StepStands, Placed, RunDone}
 use Rattle.checker.specs.declared.run.Run.the-variants.{Ended, Refused}
 
 -- Clauses in range hold no 0.
 pub in-range-nonzero : (known : List Words) → AllWords InRange known → NoZeros known
 in-range-nonzero known all C m x k e = let r = all C m x k in let z : natAbs x ≡ 0 = ap natAbs e in omega (arith, r .0, z)
+
+-- Right behind a step that is read at its place stands the next one.
+pub place-onward : (steps : Words) (before at : ℕ) (s : Step) → at ≡ stepPlace steps before → readStep plainRules (drop at steps) ≡ some s → at + sizeOf s ≡ stepPlace steps (suc before)
+unfolding stepPlace
+place-onward steps before at s e h = rw (← e, h)
 
 -- What a right answer says.
 pub record Taken (S : Scope) (room : ℕ) (known : List Words) (steps : Words) (at next : ℕ) : Type 0 where
@@ -117,19 +122,24 @@ module _ (prefix clauses steps : List ℤ) (inputs : ℕ) (offsets : List ℕ) (
       let l = judge-lawful S F (scope-decides prefix clauses) (stored inputs clauses steps offsets numbered) (in-range-nonzero (stored inputs clauses steps offsets numbered) all) (taken .taken) (taken .judged) in
       rw taken-stored (lawful-all-words InRange F (stored inputs clauses steps offsets numbered) all (taken .taken) l)
 
-  pub taken-placed : Placed clauses steps inputs offsets numbered → Placed clauses steps inputs (set offsets numbered at) (numbered + 1)
-  taken-placed p =
+  pub taken-reached : at ≡ stepPlace steps (numbered - inputs) → next ≡ stepPlace steps (numbered + 1 - inputs)
+  taken-reached e =
+      let n : numbered + 1 - inputs ≡ suc (numbered - inputs) = omega arith in
+      rw n (taken .after ∙ place-onward steps (numbered - inputs) at (taken .taken) e (taken .was-read))
+
+  pub taken-placed : at ≡ stepPlace steps (numbered - inputs) → Placed clauses steps inputs offsets numbered → Placed clauses steps inputs (set offsets numbered at) (numbered + 1)
+  taken-placed reached p =
       record {
         input-clauses = stored-set-later inputs clauses steps offsets inputs numbered at past ∙ p .input-clauses;
         derived = λ k l m. go k (decLt k numbered) l m;
       }
     where
-      go : (k : ℕ) → Dec (k < numbered) → inputs ≤ k → k < numbered + 1 → StepStands steps (getD (set offsets numbered at) k 0) (storedAt inputs clauses steps (set offsets numbered at) k)
+      go : (k : ℕ) → Dec (k < numbered) → inputs ≤ k → k < numbered + 1 → StepStands steps (k - inputs) (getD (set offsets numbered at) k 0) (storedAt inputs clauses steps (set offsets numbered at) k)
       go k (yes h) l m = rw (getD-set-other offsets numbered k at 0 (λ e. omega arith), stored-at-later inputs clauses steps offsets k numbered at h) (p .derived k l h)
       go k (no h) l m =
           let e : k ≡ numbered = omega arith in
           rw (e, getD-set-same offsets numbered at 0 room-left, stored-at-step inputs clauses steps offsets numbered at past room-left)
-          (record { step = taken .taken; was-read = taken .was-read; states = sym (taken .statement) })
+          (record { place = reached; step = taken .taken; was-read = taken .was-read; states = sym (taken .statement) })
 
 -- Empty clauses one by one.
 got : (known : List Words) (k : ℕ) (C : Words) → getElem? known k ≡ some C → getD known k [] ≡ C
@@ -186,12 +196,14 @@ pub record Going (prefix clauses steps : List ℤ) (inputs room : ℕ) (scratch 
   pub fits : numbered ≤ room
   pub in-range : AllWords InRange (stored inputs clauses steps offsets numbered)
   pub placed : Placed clauses steps inputs offsets numbered
+  pub reached : at ≡ stepPlace steps (numbered - inputs)
 
 module _ (prefix clauses steps : List ℤ) (inputs : ℕ) (scratch offsets : List ℕ) where
   pub going-begins :
       Ready prefix scratch → Admitted prefix clauses → inputs ≤ length offsets
       → stored inputs clauses steps offsets inputs ≡ clausesOf clauses
       → Going prefix clauses steps inputs (length offsets) scratch offsets inputs 0
+  unfolding stepPlace
   going-begins r a h e =
       record {
         whole = rw e;
@@ -201,6 +213,7 @@ module _ (prefix clauses steps : List ℤ) (inputs : ℕ) (scratch offsets : Lis
         fits = h;
         in-range = rw e (λ C m x k. let l = admitted-literal prefix clauses a C m x k in (l .0, l .1));
         placed = record { input-clauses = e; derived = λ k l m. absurd (omega arith) };
+        reached = let n : inputs - inputs ≡ 0 = omega arith in rw n;
       }
 
 module _ (prefix clauses steps : List ℤ) (inputs room : ℕ) (scratch offsets : List ℕ) (numbered at : ℕ) (g : Going prefix clauses steps inputs room scratch offsets numbered at) where
@@ -221,22 +234,31 @@ module _ (prefix clauses steps : List ℤ) (inputs room : ℕ) (scratch offsets 
         past = let p = g .past in omega arith;
         fits = let e = g .room-is in omega arith;
         in-range = taken-in-range prefix clauses steps inputs offsets numbered at next t (g .past) (g .in-range);
-        placed = taken-placed prefix clauses steps inputs offsets numbered at next t (g .past) (g .placed);
+        placed = taken-placed prefix clauses steps inputs offsets numbered at next t (g .past) (g .reached) (g .placed);
+        reached = taken-reached prefix clauses steps inputs offsets numbered at next t (g .past) (g .reached);
       }
 
   -- A wrong one ends the run.
   pub going-refused :
-      (r : Reason) → at < length steps
+      (r : Reason) (scratch′ : List ℕ) → at < length steps
       → WrongStep r ≡ stepAnswer at (judgeFirst plainRules (scopeOf prefix clauses) (length offsets) (stored inputs clauses steps offsets numbered) (drop at steps))
-      → RunDone prefix clauses steps inputs (Refused (refusal r (numbered + 1))) offsets
-  going-refused r h e =
+      → length scratch′ ≡ length scratch
+      → drop own scratch′ ≡ drop own scratch
+      → RunDone prefix clauses steps inputs (Refused (refusal r (numbered + 1))) scratch′ offsets
+  going-refused r scratch′ h e l k =
       let w = wrong-run (scopeOf prefix clauses) (length offsets) (stored inputs clauses steps offsets numbered) steps at h r e in
       let n : suc (length (stored inputs clauses steps offsets numbered)) ≡ numbered + 1 = let l = stored-length inputs clauses steps offsets numbered in omega arith in
-      record { outcome = rw (g .room-is) (g .whole ∙ rw (← g .room-is) (w ∙ ap (λ (p : ℕ). refused (refusal r p)) n)); counted = omega arith; grown = tt; placed = record { input-clauses = g .placed .input-clauses; derived = λ k l m. absurd (omega arith) } }
+      record {
+        outcome = rw (g .room-is) (g .whole ∙ rw (← g .room-is) (w ∙ ap (λ (p : ℕ). refused (refusal r p)) n));
+        counted = omega arith;
+        grown = tt;
+        placed = record { input-clauses = g .placed .input-clauses; derived = λ k l m. absurd (omega arith) };
+        ready = ready-kept prefix scratch (g .ready) scratch′ l k;
+      }
 
   -- No word is left.
-  pub going-ends : length steps ≤ at → RunDone prefix clauses steps inputs (Ended numbered) offsets
+  pub going-ends : length steps ≤ at → RunDone prefix clauses steps inputs (Ended numbered) scratch offsets
   unfolding run
   going-ends h =
       let nothing : drop at steps ≡ [] = drop-of-length-le steps {i = at} h in
-      record { outcome = rw (g .room-is) (g .whole ∙ rw nothing); counted = let e = g .room-is in let f = g .fits in omega arith; grown = g .past; placed = g .placed }
+      record { outcome = rw (g .room-is) (g .whole ∙ rw nothing); counted = let e = g .room-is in let f = g .fits in omega arith; grown = g .past; placed = g .placed; ready = g .ready }

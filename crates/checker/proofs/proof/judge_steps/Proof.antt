@@ -25,7 +25,7 @@ room-at : (c : tie.After-run-steps) → length (c .run-steps .last .1 .1 .1 .1 .
 room-at c = c .run-steps .kept .1 .1 .1 .1 .1 .0 ∙ c .before .before .before .before .before .fill-offsets .kept .1 .0 ∙ c .before .before .before .before .before .before .before .before .before .before .before .before .before .before .before .clear-lent .kept .1 .0
 
 -- the run ended
-ended-at : (c : tie.After-known-told2) → let start = c .before .before .before .before .before .before .before .before .before .before .before .before .before .before .before .before .before .before .before .before .before .before .before .before .before .before .before in RunDone (start .args .prefix .now) (start .args .clauses .now) (start .args .steps .now) (start .args .inputs) (Ended (c .before .numbered .given .0 .0)) (c .before .before .before .before .before .before .before .run-steps .last .1 .1 .1 .1 .1 .0)
+ended-at : (c : tie.After-known-told2) → let start = c .before .before .before .before .before .before .before .before .before .before .before .before .before .before .before .before .before .before .before .before .before .before .before .before .before .before .before in RunDone (start .args .prefix .now) (start .args .clauses .now) (start .args .steps .now) (start .args .inputs) (Ended (c .before .numbered .given .0 .0)) (c .before .before .before .before .before .before .before .run-steps .last .1 .1 .1 .1 .0) (c .before .before .before .before .before .before .before .run-steps .last .1 .1 .1 .1 .1 .0)
 ended-at c = rw (c .before .numbered .given .1) at (c .before .before .before .before .before .before .before .run-steps .ensures)
 
 fill-kinds-requires : tie.Need-fill-kinds-requires
