@@ -1,28 +1,44 @@
 -- Wish 2 as its sentence: within 01's bounds and room, on tables that 01 admits, the verdict is accepted exactly when the step
--- words are a refutation; its two numbers are then those of the refutation. Definitions: Refutation.antt. Assumes nothing.
+-- words are a refutation; its two numbers are then those of the refutation; and refused as blocked only where a path of each
+-- sign exists. Definitions: Refutation.antt. Assumes nothing.
 use Prim.Native.Nat.{ℕ, suc}
 use mathlib.Core.Path.{_≡_, refl, sym, _∙_}
-use mathlib.Core.Logic.{_↔_}
+use mathlib.Core.Logic.{_↔_, _≢_}
+use mathlib.Core.Option.{Option, none, some}
 use mathlib.Core.List.{List}
+use native.Mathlib.Omega.{arith}
 use lib.ListN.{length}
 use lib.IntN.{ℤ}
-use Rattle.formula.specs.Decode.{clausesOf}
+use Rattle.formula.specs.Decode.{clausesOf, formulaOf}
+use Rattle.formula.specs.Refusal.{refusal}
+use Rattle.formula.specs.declared.refusal.Reason.{Reason}
+use Rattle.formula.specs.declared.refusal.Reason.the-variants.{Blocked}
 use Rattle.formula.specs.Tables.{Admitted}
 use Rattle.checker.specs.declared.verdict.Verdict.{Verdict}
-use Rattle.checker.specs.declared.verdict.Verdict.the-variants.{Accepted}
+use Rattle.checker.specs.declared.verdict.Verdict.the-variants.{Accepted, Refused}
 use Rattle.checker.specs.Rules.{plainRules}
 use Rattle.checker.specs.Rules.Laws.{plain-kinds}
 use Rattle.checker.specs.Lawful.{numberedClauses}
+use Rattle.checker.specs.Lawful.Steps.{RunBlocked}
 use Rattle.checker.specs.Refutation.{Refutation, FirstEmpty, Within}
 use Rattle.checker.specs.Refutation.FirstEmptyClause.{empty-first}
 use Rattle.checker.specs.Verdict.{verdictOf}
-use Rattle.checker.specs.Verdict.Accuracy.{numbers-same, accepted-refutation, refutation-accepted}
+use Rattle.checker.specs.Verdict.Accuracy.{numbers-same, accepted-refutation, refutation-accepted, blocked-depends}
 
 -- The verdict is accepted, with some numbers.
 pub record IsAccepted (v : Verdict) : Type 0 where
   pub empty : ℕ
   pub count : ℕ
   pub accepted : v ≡ Accepted (record { 0 = empty }) count
+
+-- After lawful steps stands a reduction whose clause holds an existential that depends. No reason follows an empty clause here.
+pub refused-blocked-depends :
+    (prefix clauses words : List ℤ) (scratch offsets place : ℕ) → verdictOf plainRules prefix clauses words scratch offsets ≡ Refused (refusal Blocked place)
+    → RunBlocked (formulaOf prefix clauses) (clausesOf clauses) words place
+refused-blocked-depends prefix clauses words scratch offsets = blocked-depends plainRules plain-kinds prefix clauses words scratch offsets apart
+  where
+    apart : _≢_ {A = Option Reason} none (some Blocked)
+    apart e = let z : _≡_ {A = ℕ} 0 1 = cc in omega arith
 
 module _ (prefix clauses words : List ℤ) (scratch offsets : ℕ) (admitted : Admitted prefix clauses) (within : Within clauses words scratch offsets) where
   refuted :
