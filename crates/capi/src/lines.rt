@@ -2,8 +2,7 @@
 use report::check::check_line;
 use report::dependents::dependency_lines;
 ghost use mathlib.Core.List.{[]};
-ghost use Rattle.report.specs.Check.{LineChecked};
-ghost use Rattle.report.specs.Checking.{lent};
+ghost use Rattle.report.specs.Check.{LineChecked, lent};
 ghost use Rattle.report.specs.Dependents.{LinesPrinted};
 
 // The first program's line for its two files, into `line`: answers its bytes, 0 where it does not fit.

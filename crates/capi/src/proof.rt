@@ -1,9 +1,11 @@
 // C functions on a proof: its file, and its check.
-use crate::codes::tell_proof;
-use crate::codes::tell_verdict;
+use crate::codes::accept;
+use crate::codes::refuse;
+use checker::file::ProofAnswer;
 use checker::file::read_proof;
 use checker::proof::check_proof;
-ghost use Rattle.checker.specs.ProofFile.{ProofRead};
+use checker::verdict::Verdict;
+ghost use Rattle.checker.specs.File.{ProofRead};
 ghost use Rattle.checker.specs.Verdict.{Checked};
 ghost use Rattle.checker.specs.declared.verdict.Verdict.{Verdict as Answer};
 ghost use Rattle.capi.specs.Codes.{Tells, proofCode, verdictCode};
@@ -18,8 +20,10 @@ pub extern "C" fn qdr_read_proof(
 ) -> u32
     ensures { λ r. ⌜ Tells proofCode (ProofRead (now (file .entry)) «clause_count» (now (steps .entry)) (now (steps .exit))) r (now (out .exit)) ⌝ }
 {
-    let answer = read_proof(file, clause_count, steps);
-    tell_proof(out, answer)
+    match read_proof(file, clause_count, steps) {
+        ProofAnswer::Read(words) => accept(out, words, 0, 0),
+        ProofAnswer::Refused(r) => refuse(out, r),
+    }
 }
 
 // Checks a proof: `out` is the first empty clause's number, the steps and zeros.
@@ -34,6 +38,11 @@ pub extern "C" fn qdr_check<'a>(
 ) -> u32
     ensures { λ r. ⌜ Tells verdictCode (λ (a : Answer). Checked (now (prefix .entry)) (now (clauses .entry)) (now (steps .entry)) (now (scratch .entry)) (now (offsets .entry)) a (now (scratch .exit)) (now (offsets .exit))) r (now (out .exit)) ⌝ }
 {
-    let verdict = check_proof(prefix, clauses, steps, scratch, offsets);
-    tell_verdict(out, verdict)
+    match check_proof(prefix, clauses, steps, scratch, offsets) {
+        Verdict::Accepted {
+            empty,
+            steps: count,
+        } => accept(out, empty.0, count, 0),
+        Verdict::Refused(r) => refuse(out, r),
+    }
 }

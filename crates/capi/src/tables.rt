@@ -1,9 +1,11 @@
 // C functions on the tables of a formula: their check, a dependency row, the evaluator.
-use crate::codes::tell_evaluation;
-use crate::codes::tell_row;
-use crate::codes::tell_tables;
+use crate::codes::accept;
+use crate::codes::refuse;
+use dependency::answer::RowAnswer;
 use dependency::answer::dependency_row;
+use evaluator::evaluation::Evaluation;
 use evaluator::evaluation::evaluate;
+use formula::tables::TablesAnswer;
 use formula::tables::check_tables;
 ghost use mathlib.Core.Path.{_≡_};
 ghost use Rattle.formula.specs.Tables.{tablesAnswer};
@@ -19,8 +21,13 @@ ghost use Rattle.capi.specs.Codes.{Tells, tablesCode, rowCode, evaluatio
 pub extern "C" fn qdr_check_tables(prefix: &[i32], clauses: &[i32], out: &mut [u64; 5]) -> u32
     ensures { λ r. ⌜ Tells tablesCode (λ (a : Check). a ≡ tablesAnswer (now (prefix .entry)) (now (clauses .entry))) r (now (out .exit)) ⌝ }
 {
-    let answer = check_tables(prefix, clauses);
-    tell_tables(out, answer)
+    match check_tables(prefix, clauses) {
+        TablesAnswer::Admitted {
+            variables,
+            clauses: count,
+        } => accept(out, variables, count, 0),
+        TablesAnswer::Refused(r) => refuse(out, r),
+    }
 }
 
 // The dependency row of a universal, into `row`: `out` is zeros.
@@ -35,8 +42,10 @@ pub extern "C" fn qdr_row(
 ) -> u32
     ensures { λ r. ⌜ Tells rowCode (λ (a : Row). RowDone (now (prefix .entry)) (now (clauses .entry)) variable (now (row .entry)) (now (scratch .entry)) a (now (row .exit)) (now (scratch .exit))) r (now (out .exit)) ⌝ }
 {
-    let answer = dependency_row(prefix, clauses, variable, row, scratch);
-    tell_row(out, answer)
+    match dependency_row(prefix, clauses, variable, row, scratch) {
+        RowAnswer::Filled => accept(out, 0, 0, 0),
+        RowAnswer::Refused(r) => refuse(out, r),
+    }
 }
 
 // The evaluator: `out` is 1 for true or 0 for false, then zeros.
@@ -44,6 +53,9 @@ pub extern "C" fn qdr_row(
 pub extern "C" fn qdr_evaluate(prefix: &[i32], clauses: &[i32], out: &mut [u64; 5]) -> u32
     ensures { λ r. ⌜ Tells evaluationCode (λ (a : Verdict). a ≡ evaluationOf (now (prefix .entry)) (now (clauses .entry))) r (now (out .exit)) ⌝ }
 {
-    let answer = evaluate(prefix, clauses);
-    tell_evaluation(out, answer)
+    match evaluate(prefix, clauses) {
+        Evaluation::True => accept(out, 1, 0, 0),
+        Evaluation::False => accept(out, 0, 0, 0),
+        Evaluation::Refused(r) => refuse(out, r),
+    }
 }

@@ -1,11 +1,13 @@
 // C functions on the text of a formula: its reading into tables, and the writing of tables.
-use crate::codes::tell_read;
-use crate::codes::tell_write;
+use crate::codes::accept;
+use crate::codes::refuse;
+use formula::read::ReadAnswer;
 use formula::read::read_formula;
+use formula::write::WriteAnswer;
 use formula::write::write_formula;
 ghost use lib.ListN.{length};
 ghost use Rattle.formula.specs.Text.{ReadPost};
-ghost use Rattle.formula.specs.Written.{Writes};
+ghost use Rattle.formula.specs.Write.{Writes};
 ghost use Rattle.formula.specs.declared.write.WriteAnswer.{WriteAnswer as Answer};
 ghost use Rattle.capi.specs.Codes.{Tells, readCode, writeCode};
 
@@ -19,8 +21,14 @@ pub extern "C" fn qdr_read(
 ) -> u32
     ensures { λ r. ⌜ Tells readCode (ReadPost (now (text .entry)) (now (prefix .entry)) (now (clauses .entry)) (now (prefix .exit)) (now (clauses .exit))) r (now (out .exit)) ⌝ }
 {
-    let answer = read_formula(text, prefix, clauses);
-    tell_read(out, answer)
+    match read_formula(text, prefix, clauses) {
+        ReadAnswer::Read {
+            prefix_used,
+            clauses_used,
+            clauses: count,
+        } => accept(out, prefix_used, clauses_used, count),
+        ReadAnswer::Refused(r) => refuse(out, r),
+    }
 }
 
 // Writes tables as a text: `out` is the bytes used and zeros.
@@ -33,6 +41,8 @@ pub extern "C" fn qdr_write(
 ) -> u32
     ensures { λ r. ⌜ Tells writeCode (λ (a : Answer). Writes (now (prefix .entry)) (now (clauses .entry)) (length (now (text .entry))) a (now (text .exit))) r (now (out .exit)) ⌝ }
 {
-    let answer = write_formula(prefix, clauses, text);
-    tell_write(out, answer)
+    match write_formula(prefix, clauses, text) {
+        WriteAnswer::Written(used) => accept(out, used, 0, 0),
+        WriteAnswer::Refused(r) => refuse(out, r),
+    }
 }

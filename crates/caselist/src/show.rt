@@ -1,7 +1,7 @@
 // Printing: bytes, numbers, the words of a table, the dependents of a row, refusals; and whether a buffer was left clear, that is
 // wholly 0.
-use formula::literal::Word;
 use formula::refusal::Refusal;
+use formula::word::Word;
 
 // Prints bytes.
 pub fn say(bytes: &[u8]) {

@@ -16,8 +16,8 @@ use Rattle.formula.specs.declared.literal.NumberFit.the-variants.{Outside}
 use Rattle.formula.specs.Word.{wordOf, slotOf, opposite}
 use Rattle.formula.specs.Word.Laws.{positive-bounded, negative-bounded, opposite-word}
 use Rattle.formula.specs.declared.literal.Variable.{Variable}
-use Rattle.formula.specs.declared.literal.Word.{Word}
-use Rattle.formula.specs.declared.literal.Word.the-variants.{Positive, Negative}
+use Rattle.formula.specs.declared.word.Word.{Word}
+use Rattle.formula.specs.declared.word.Word.the-variants.{Positive, Negative}
 use Rattle.checker.specs.Words.{sameWord, isZero}
 use Rattle.checker.specs.Words.Laws.{same-complete, apart-same}
 use Rattle.checker.specs.Numbered.{numberOf}

@@ -10,8 +10,8 @@ use lib.IntN.{ℤ}
 use Rattle.qbf.specs.Formula.{Quantifier, existential, universal, Entry, Prefix}
 use Rattle.formula.specs.Bounds.{variableFit}
 use Rattle.formula.specs.Prefix.{prefixOf}
-use Rattle.formula.specs.declared.literal.Word.{Word}
-use Rattle.formula.specs.declared.literal.Word.the-variants.{Zero, TooLarge, Positive, Negative}
+use Rattle.formula.specs.declared.word.Word.{Word}
+use Rattle.formula.specs.declared.word.Word.the-variants.{Zero, TooLarge, Positive, Negative}
 use Rattle.formula.specs.declared.literal.VariableFit.{VariableFit}
 use Rattle.formula.specs.declared.literal.VariableFit.the-variants.{Outside}
 

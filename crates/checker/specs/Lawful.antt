@@ -1,5 +1,6 @@
 -- Lawful steps (01, "Steps"; 000, section 3) on membership and on dependence, with no order of tests: a true statement of a
--- result, a resolution, a reduction; then steps one after the other: their words, the clauses they number, and that each is lawful.
+-- result, a resolution, a reduction, and where a reduction is blocked; then steps one after the other: their words, the clauses they
+-- number, that each is lawful, and that one is blocked.
 -- Steps.antt has the tests, Refutation.antt what a refutation is.
 pub mod Laws
 pub mod Judged
@@ -9,7 +10,7 @@ use mathlib.Core.Path.{_≡_}
 use mathlib.Core.Logic.{_⊎_, _≢_}
 use mathlib.Core.List.{List, [], _∷_, _++_, map, List·Memᴰ}
 use mathlib.Core.Option.{some}
-use lib.ListN.{getElem?}
+use lib.ListN.{length, getElem?}
 use lib.IntN.{ℤ, pos, negℤ, natAbs}
 use Rattle.qbf.specs.Formula.{Formula, Existential, Universal}
 use Rattle.qbf.specs.Dependency.{Depends}
@@ -67,6 +68,21 @@ abbrev pub Lawful : Formula → List Words → Step → Type 0
 Lawful F known (resolution i j e L) = LawfulResolution F known i j e L
 Lawful F known (reduction i a L) = LawfulReduction F known i a L
 
+-- Where a reduction is blocked: a is a universal literal of the clause, and an existential of the clause depends on its variable.
+pub record Blocks (F : Formula) (known : List Words) (i a : ℤ) : Type 0 where
+  pub clause : Words
+  pub numbered : Numbered known i clause
+  pub universal : Universal (F .prefix) (natAbs a)
+  pub reduced : List·Memᴰ a clause
+  pub literal : ℤ
+  pub in-clause : List·Memᴰ literal clause
+  pub existential : Existential (F .prefix) (natAbs literal)
+  pub depends : Depends F (natAbs a) (natAbs literal)
+
+abbrev pub BlockedStep : Formula → List Words → Step → Type 0
+BlockedStep F known (resolution i j e L) = ⊥
+BlockedStep F known (reduction i a L) = Blocks F known i a
+
 -- The words of a step.
 abbrev pub wordsOf : Step → Words
 wordsOf (resolution i j e L) = pos 1 ∷ i ∷ j ∷ e ∷ (L ++ pos 0 ∷ [])
@@ -85,6 +101,16 @@ numberedClauses known steps = known ++ map statedBy steps
 abbrev pub LawfulSteps : Formula → List Words → List Step → Type 0
 LawfulSteps F known [] = Unit {0}
 LawfulSteps F known (s ∷ steps) = Lawful F known s × LawfulSteps F (known ++ (statedBy s ∷ [])) steps
+
+-- After lawful steps stands a blocked one; `place` is the number its clause would have.
+pub record RunBlocked (F : Formula) (known : List Words) (ws : Words) (place : ℕ) : Type 0 where
+  pub steps : List Step
+  pub lawful : LawfulSteps F known steps
+  pub blocked : Step
+  pub rest : Words
+  pub stands : ws ≡ stepWords steps ++ (wordsOf blocked ++ rest)
+  pub blocks : BlockedStep F (numberedClauses known steps) blocked
+  pub own-number : place ≡ suc (length (numberedClauses known steps))
 
 -- No clause holds the word 0.
 abbrev pub NoZeros : List Words → Type 0

@@ -1,7 +1,7 @@
 -- The definitions that layer 3's contracts cite, and the theorems that say what they compute.
--- What a reader must believe: ProofFile, Words, Rules, Steps, Verdict, Lawful, Refutation. As the code keeps and reads things: Marks, Kinds,
--- Blocked, Numbered, Reading, Result, Step, Running.
-pub mod ProofFile
+-- What a reader must believe: File, Words, Rules, Steps, Verdict, Lawful, Refutation. As the code keeps and reads things: Marks, Kinds,
+-- Blocked, Numbered, Read, Result, Step, Run.
+pub mod File
 pub mod Words
 pub mod Rules
 pub mod Steps
@@ -13,7 +13,7 @@ pub mod Marks
 pub mod Kinds
 pub mod Blocked
 pub mod Numbered
-pub mod Reading
+pub mod Read
 pub mod Result
 pub mod Step
-pub mod Running
+pub mod Run

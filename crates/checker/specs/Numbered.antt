@@ -13,7 +13,7 @@ use Rattle.formula.specs.Decode.{clausesOf, clauseAt}
 use Rattle.formula.specs.declared.literal.NumberFit.{NumberFit}
 use Rattle.formula.specs.declared.literal.NumberFit.the-variants.{Outside}
 use Rattle.checker.specs.Words.{Words}
-use Rattle.checker.specs.Reading.{statementOf}
+use Rattle.checker.specs.Read.{statementOf}
 
 -- The number that a word is, from 1 to the last.
 abbrev pub numberOf : ℤ → ℕ → NumberFit

@@ -3,7 +3,7 @@
 pub mod FirstEmptyClause
 pub mod Laws
 pub mod Examples
-use Prim.Native.Nat.{ℕ, _≤_, _<_}
+use Prim.Native.Nat.{ℕ, suc, _≤_, _<_}
 use mathlib.Core.Path.{_≡_}
 use mathlib.Core.Option.{some}
 use mathlib.Core.List.{List, [], List·Memᴰ}
@@ -11,7 +11,9 @@ use lib.ListN.{length, getElem?}
 use lib.IntN.{ℤ}
 use Rattle.formula.specs.Bounds.{proofBound}
 use Rattle.formula.specs.Decode.{clausesOf, formulaOf}
+use Rattle.formula.specs.Tables.{Admitted}
 use Rattle.dependency.specs.Scratch.{scratchBound}
+use Rattle.checker.specs.Rules.{Rules}
 use Rattle.checker.specs.Words.{Words}
 use Rattle.checker.specs.Steps.{Step}
 use Rattle.checker.specs.Lawful.{stepWords, numberedClauses, LawfulSteps}
@@ -36,3 +38,16 @@ pub record Within (clauses words : List ℤ) (scratch offsets : ℕ) : Type 0 wh
   pub sized : length words ≤ proofBound
   pub scratch-fits : scratchBound ≤ scratch
   pub offsets-fit : (steps : List Step) → words ≡ stepWords steps → length (numberedClauses (clausesOf clauses) steps) ≤ offsets
+
+-- What an accepted verdict says: admitted tables, bounds and room, and a refutation; `empty` is the first empty clause's number,
+-- `count` the number of steps.
+pub record Accepting (rules : Rules) (prefix clauses words : List ℤ) (scratch offsets empty count : ℕ) : Type 0 where
+  pub admitted : Admitted prefix clauses
+  pub sized : length words ≤ proofBound
+  pub scratch-fits : rules .scratch ≤ scratch
+  pub refutation : Refutation prefix clauses words
+  pub offsets-fit : length (numberedClauses (clausesOf clauses) (refutation .steps)) ≤ offsets
+  pub place : ℕ
+  pub place-numbered : empty ≡ suc place
+  pub first-empty : FirstEmpty (numberedClauses (clausesOf clauses) (refutation .steps)) place
+  pub counted : count ≡ length (refutation .steps)

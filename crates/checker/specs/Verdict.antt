@@ -78,3 +78,9 @@ pub record Checked (prefix clauses steps : List ℤ) (scratch offsets : List ℕ
   pub scratch-cleared : scratch′ ≡ replicate (length scratch) 0
   pub offsets-cleared : offsets′ ≡ replicate (length offsets) 0
   pub lost : (empty : ClauseNumber) (count : ℕ) → r ≡ Accepted empty count → Lost (formulaOf prefix clauses)
+
+-- The verdict is accepted, with some numbers.
+pub record IsAccepted (v : Verdict) : Type 0 where
+  pub empty : ℕ
+  pub count : ℕ
+  pub accepted : v ≡ Accepted (record { 0 = empty }) count

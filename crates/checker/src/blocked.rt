@@ -1,6 +1,6 @@
 // Does a variable of the clause depend on the reduced one? By the row of the reduced variable, which stands in scratch.
 use dependency::row::depends_in;
-use formula::literal::Word;
+use formula::word::Word;
 ghost use mathlib.Core.Path.{_≡_};
 ghost use Prim.Native.Nat.{_≤_};
 ghost use lib.ListN.{length, getD};

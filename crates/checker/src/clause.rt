@@ -1,7 +1,7 @@
 // A clause by the place of its first word in a table: it ends before the first 0, or with the table. Its end is found by the
 // reader of clause words.
-use crate::word::same;
-use formula::literal::Word;
+use crate::words::same;
+use formula::word::Word;
 use formula::words::clause_end;
 ghost use mathlib.Core.Path.{_≡_};
 ghost use Prim.Native.Nat.{_+_};

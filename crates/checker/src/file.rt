@@ -11,7 +11,7 @@ ghost use Prim.Native.Nat.{_+_, _*_, _≤_};
 ghost use lib.ListN.{length, drop};
 ghost use mir.Syntax.{w32};
 ghost use mir.Val.{toZ};
-ghost use Rattle.checker.specs.ProofFile.{number4, numberAt, wordsOf, markAt, hasTrailer, stepCount, proofRefusal, lengthAnswer, ProofRead};
+ghost use Rattle.checker.specs.File.{number4, numberAt, wordsOf, markAt, hasTrailer, stepCount, proofRefusal, lengthAnswer, ProofRead};
 
 // How many step words were read, or the refusal.
 pub enum ProofAnswer {

@@ -2,10 +2,10 @@
 // the steps.
 use formula::literal::Variable;
 use formula::literal::VariableFit;
-use formula::literal::Word;
 use formula::prefix::Entry;
 use formula::prefix::entry_at;
 use formula::prefix::entry_count;
+use formula::word::Word;
 ghost use mathlib.Core.Path.{_≡_};
 ghost use Prim.Native.Nat.{_≤_, _<_};
 ghost use lib.ListN.{length, getD};

@@ -14,4 +14,4 @@ mod result;
 pub mod run;
 pub mod step;
 pub mod verdict;
-pub mod word;
+pub mod words;

@@ -1,7 +1,7 @@
 // A step's marks, one byte a literal: 0 for one that is not in the result, 1 for one that is, 2 for one that is stated. The
 // result is marked, its statement ticked, then the result wiped, which tells whether a literal was left unstated.
-use crate::word::same;
-use formula::literal::Word;
+use crate::words::same;
+use formula::word::Word;
 ghost use mathlib.Core.Path.{_≡_};
 ghost use lib.ListN.{length, drop};
 ghost use Rattle.formula.specs.Decode.{firstClause};

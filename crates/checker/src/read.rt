@@ -1,12 +1,12 @@
 // A step is read once, into its fields. Where a field stands in the words is known here and nowhere else.
 use crate::clause::end_of;
-use crate::word::same;
+use crate::words::same;
 ghost use mathlib.Core.Path.{_≡_};
 ghost use Prim.Native.Nat.{_<_};
 ghost use lib.ListN.{length, drop};
 ghost use Rattle.checker.specs.Rules.{plainRules};
 ghost use Rattle.checker.specs.Steps.{readStep};
-ghost use Rattle.checker.specs.Reading.{kindIs, statementOf, closedAt, readingOf};
+ghost use Rattle.checker.specs.Read.{kindIs, statementOf, closedAt, readingOf};
 
 // What a kind word says.
 pub enum Kind {

@@ -4,8 +4,8 @@ use crate::numbered::table_of;
 use crate::step::StepAnswer;
 use crate::step::check_step;
 use formula::literal::ClauseNumber;
-use formula::literal::Word;
 use formula::refusal::Refusal;
+use formula::word::Word;
 ghost use mathlib.Core.Path.{_≡_};
 ghost use Prim.Native.Nat.{_≤_, _<_, _+_};
 ghost use lib.ListN.{length};
@@ -14,7 +14,7 @@ ghost use Rattle.formula.specs.Tables.{Admitted};
 ghost use Rattle.checker.specs.Verdict.{firstEmpty};
 ghost use Rattle.checker.specs.Numbered.{storedAt, stored};
 ghost use Rattle.checker.specs.Step.{Ready};
-ghost use Rattle.checker.specs.Running.{RunDone, isEmpty, foundOf};
+ghost use Rattle.checker.specs.Run.{RunDone, isEmpty, foundOf};
 
 // How many numbered clauses there are at the end, or the refusal.
 pub enum Run {

@@ -16,7 +16,7 @@ ghost use Rattle.checker.specs.Steps.{judge, judgeFirst};
 ghost use Rattle.checker.specs.Words.{AllWords, InRange};
 ghost use Rattle.checker.specs.Verdict.{scopeOf};
 ghost use Rattle.checker.specs.Numbered.{stored};
-ghost use Rattle.checker.specs.Reading.{stepOf};
+ghost use Rattle.checker.specs.Read.{stepOf};
 ghost use Rattle.checker.specs.Step.{Ready, Answers, StepChecked};
 
 // A step that was read, by its kind.

@@ -15,8 +15,8 @@ use Rattle.formula.specs.Prefix.{prefixOf, quantifies}
 use Rattle.formula.specs.Tables.{tablesRefusal, firstRefusal}
 use Rattle.formula.specs.Decode.{formulaOf}
 use Rattle.formula.specs.declared.literal.Variable.{Variable}
-use Rattle.formula.specs.declared.literal.Word.{Word}
-use Rattle.formula.specs.declared.literal.Word.the-variants.{Positive}
+use Rattle.formula.specs.declared.word.Word.{Word}
+use Rattle.formula.specs.declared.word.Word.the-variants.{Positive}
 use Rattle.formula.specs.declared.refusal.Refusal.{Refusal}
 use Rattle.formula.specs.declared.refusal.Reason.the-variants.{NoRoom, NotUniversal}
 use Rattle.dependency.specs.declared.answer.RowAnswer.{RowAnswer}

@@ -12,8 +12,8 @@ use lib.Dec.{ltb, eqb}
 use lib.IntN.{ℤ}
 use Rattle.formula.specs.Word.{wordOf, slot}
 use Rattle.formula.specs.Decode.{clauseAt, wordsAfter}
-use Rattle.formula.specs.declared.literal.Word.{Word}
-use Rattle.formula.specs.declared.literal.Word.the-variants.{Zero, TooLarge, Positive, Negative}
+use Rattle.formula.specs.declared.word.Word.{Word}
+use Rattle.formula.specs.declared.word.Word.the-variants.{Zero, TooLarge, Positive, Negative}
 
 abbrev pub select : {A : Type 0} → Bool → A → A → A
 select true a b = a

@@ -17,7 +17,6 @@ use crate::row::depends_in;
 use crate::row::make_row;
 use formula::clear::clear_bytes;
 use formula::literal::Variable;
-use formula::literal::Word;
 use formula::prefix::Entry;
 use formula::prefix::entry_at;
 use formula::prefix::entry_count;
@@ -25,6 +24,7 @@ use formula::refusal::Reason;
 use formula::refusal::Refusal;
 use formula::tables::TablesAnswer;
 use formula::tables::check_tables;
+use formula::word::Word;
 
 // The row was filled, or the refusal.
 pub enum RowAnswer {

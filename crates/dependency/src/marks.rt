@@ -4,7 +4,7 @@ ghost use Prim.Native.Nat.{_<_};
 ghost use lib.ListN.{length, getD};
 ghost use Rattle.formula.specs.Word.{wordOf};
 ghost use Rattle.dependency.specs.Marks.{seeAt, seeWord, reachAt, reachWord};
-use formula::literal::Word;
+use formula::word::Word;
 
 // What is known of a clause's entries after a literal of `variable` whose byte stands at `at`.
 fn see_at(marks: &[u8], at: usize, variable: usize, seen: usize) -> usize

@@ -5,7 +5,7 @@ ghost use Rattle.formula.specs.Decode.{clausesOf, clauseAt};
 ghost use Rattle.dependency.specs.Marks.{clauseEntry, ClauseReached, pass};
 use crate::marks::reach_word;
 use crate::marks::see_word;
-use formula::literal::Word;
+use formula::word::Word;
 
 // What is known of the entries of the clause that begins at `from`; entries of two variables settle it.
 fn clause_entry(clauses: &[i32], from: usize, marks: &[u8]) -> usize

@@ -6,7 +6,7 @@ ghost use lib.IntN.{natAbs};
 ghost use Rattle.qbf.specs.Play.{trueLiteral, satisfied};
 ghost use Rattle.formula.specs.Decode.{literalOf, clauseAt, clauseOf};
 ghost use Rattle.evaluator.specs.Values.{valuesOf};
-use formula::literal::Word;
+use formula::word::Word;
 
 // The variable of a word. For a negative one the sum comes first, since the lowest number has no opposite.
 fn magnitude(word: i32) -> usize

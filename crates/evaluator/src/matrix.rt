@@ -1,6 +1,6 @@
 // The end of a game: has some clause no true literal under the values given? The matrix is left at its first such clause.
 use crate::clause::clause_satisfied;
-use formula::literal::Word;
+use formula::word::Word;
 ghost use mathlib.Core.Path.{_≡_};
 ghost use Prim.Native.Nat.{_<_};
 ghost use lib.ListN.{length, drop};

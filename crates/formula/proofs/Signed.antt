@@ -16,8 +16,8 @@ use Rattle.formula.specs.declared.literal.VariableFit.{VariableFit}
 use Rattle.formula.specs.declared.literal.VariableFit.the-variants.{Within, Outside}
 use Rattle.formula.specs.declared.literal.LiteralFit.{LiteralFit}
 use Rattle.formula.specs.declared.literal.LiteralFit.the-variants.{Within as LiteralWithin, Outside as LiteralOutside}
-use Rattle.formula.specs.declared.literal.Word.{Word}
-use Rattle.formula.specs.declared.literal.Word.the-variants.{Zero, TooLarge, Positive, Negative}
+use Rattle.formula.specs.declared.word.Word.{Word}
+use Rattle.formula.specs.declared.word.Word.the-variants.{Zero, TooLarge, Positive, Negative}
 
 pub zero-sub : (z : ℤ) → pos 0 -ℤ z ≡ negℤ z
 zero-sub z = +ℤ-idl (negℤ z)

@@ -8,7 +8,7 @@ use mir.Syntax.{w32}
 use mir.Val.{toZ, ofZ, SFits}
 use mir.Facts.{toZ-ofZ, toZ-pos}
 use Rattle.formula.specs.Bounds.{variableBound}
-use Rattle.formula.specs.Text.{signed}
+use Rattle.formula.specs.Word.{signed}
 use Rattle.formula.proofs.Signed.{negated-fits}
 
 pub number-word : (n : ℕ) → n ≤ variableBound → toZ w32 n ≡ pos n

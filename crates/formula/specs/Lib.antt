@@ -1,5 +1,5 @@
 -- The definitions that layer 1's contracts cite. What a reader must believe: Bounds, Word, Refusal, Prefix, Tables, Decode (tables),
--- Token, Text (reading), Decimal, Written (writing), Clear, ClauseWords, RoundTrip. For inner contracts: Store, Writing, and
+-- Token, Text (reading), Decimal, Write, Clear, Words, RoundTrip. For inner contracts: Store, Write/Stream, and
 -- the stages of reading in Text/{Header,Sets,Clauses,Fill}.
 pub mod Bounds
 pub mod Word
@@ -8,11 +8,10 @@ pub mod Tables
 pub mod Prefix
 pub mod Decode
 pub mod Clear
-pub mod ClauseWords
+pub mod Words
 pub mod Decimal
 pub mod Store
-pub mod Written
-pub mod Writing
+pub mod Write
 pub mod Token
 pub mod Text
 pub mod RoundTrip

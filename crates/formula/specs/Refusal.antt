@@ -3,12 +3,11 @@
 pub mod Laws
 use Prim.Native.Nat.{ℕ, _-_, _≤_}
 use mathlib.Core.Path.{_≡_}
-use mathlib.Core.Bool.{Bool, true, false, _&&_}
+use mathlib.Core.Bool.{Bool, true, false, cond}
 use mathlib.Core.Option.{Option, none, some}
 use mathlib.Core.List.{List, [], _∷_}
-use lib.ListN.{length, getD, take}
+use lib.ListN.{length, getD}
 use lib.Dec.{eqb}
-use Rattle.formula.specs.declared.refusal.ReasonWord.{ReasonWord}
 use Rattle.formula.specs.declared.refusal.Reason.{Reason}
 use Rattle.formula.specs.declared.refusal.Refusal.{Refusal}
 use Rattle.formula.specs.declared.refusal.Reason.the-variants.{
@@ -43,8 +42,8 @@ abbrev pub require : {A : Type 0} → Bool → (refused later : A) → A
 require true refused later = later
 require false refused later = refused
 
--- What answers by the refusal that there may be: without one, what is done.
-abbrev pub unless : {A : Type 0} → (Refusal → A) → Option Refusal → (done : A) → A
+-- What answers by the refusal, or the reason of one, that there may be: without one, what is done.
+abbrev pub unless : {R A : Type 0} → (R → A) → Option R → (done : A) → A
 unless refuses (some r) done = refuses r
 unless refuses none done = done
 
@@ -70,6 +69,10 @@ number Blocked = 17
 number Misstated = 18
 number NoConclusion = 19
 number NotUniversal = 20
+
+-- A refusal of a text at the place of a token, or at the end; 2 has no place.
+abbrev pub inText : ℕ → Reason → Refusal
+inText at r = refusal r (cond (eqb (number r) (number Oversized)) 0 at)
 
 -- A reason with the bytes of its word.
 pub record Named : Type 0 where
@@ -131,33 +134,9 @@ rowAt n = getD table (n - 1) (named Headless [])
 abbrev pub reasonAt : ℕ → Reason
 reasonAt n = rowAt n .reason
 
+-- n is the place of the reason's row, counted from 1.
+abbrev pub Tagged : Reason → ℕ → Type 0
+Tagged r n = (r ≡ reasonAt n) × (1 ≤ n) × (n ≤ length table)
+
 abbrev pub word : Reason → List ℕ
 word r = rowAt (number r) .bytes
-
--- A word filled up with dots: the bytes before the first.
-abbrev pub beforeDot : Bool → ℕ → List ℕ → List ℕ
-beforeDot true b later = []
-beforeDot false b later = b ∷ later
-
-unfoldable pub wordIn : List ℕ → List ℕ
-wordIn [] = []
-wordIn (b ∷ bs) = beforeDot (eqb b 46) b (wordIn bs)
-
--- Two lists of bytes are the same.
-unfoldable pub same : List ℕ → List ℕ → Bool
-same [] [] = true
-same [] (c ∷ cs) = false
-same (b ∷ bs) [] = false
-same (b ∷ bs) (c ∷ cs) = eqb b c && same bs cs
-
--- A list of words filled up with dots to 14 bytes, each the word of the table's row at its place.
-unfoldable pub filled : List (List ℕ) → List Named → Bool
-filled ws [] = true
-filled [] (x ∷ xs) = false
-filled (w ∷ ws) (x ∷ xs) = (eqb (length w) 14 && same (wordIn w) (x .bytes)) && filled ws xs
-
--- What `Reason::word` answers: of 14 bytes the word's stand first.
-pub record Spells (r : ReasonWord) (bytes : List ℕ) : Type 0 where
-  pub spelled : take (r .length) (r .bytes) ≡ bytes
-  pub short : r .length ≤ 14
-  pub whole : length (r .bytes) ≡ 14

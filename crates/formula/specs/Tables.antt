@@ -18,8 +18,8 @@ use Rattle.formula.specs.Bounds.{variableBound, countBound, matrixBound}
 use Rattle.formula.specs.Word.{wordOf}
 use Rattle.formula.specs.Refusal.{refusal, require, unless}
 use Rattle.formula.specs.Prefix.{prefixOf, entryCount}
-use Rattle.formula.specs.declared.literal.Word.{Word}
-use Rattle.formula.specs.declared.literal.Word.the-variants.{Zero, TooLarge, Positive, Negative}
+use Rattle.formula.specs.declared.word.Word.{Word}
+use Rattle.formula.specs.declared.word.Word.the-variants.{Zero, TooLarge, Positive, Negative}
 use Rattle.formula.specs.declared.refusal.Refusal.{Refusal}
 use Rattle.formula.specs.declared.refusal.Reason.the-variants.{Oversized, OutOfRange, BoundTwice, Unbound, Clash, Unfinished}
 use Rattle.formula.specs.declared.tables.TablesAnswer.{TablesAnswer}

@@ -21,11 +21,13 @@ use lib.IntN.{ℤ, pos, negsuc, negℤ}
 use Rattle.formula.specs.Bounds.{variableBound, countBound, matrixBound, textBound}
 use Rattle.formula.specs.Clear.{filledUp}
 use Rattle.qbf.specs.Formula.{Quantifier, existential, universal, entry, Prefix, listed}
-use Rattle.formula.specs.Refusal.{refusal, require, unless}
+use Rattle.formula.specs.Refusal.{refusal, inText, require, unless}
+use Rattle.formula.specs.Word.{signed}
 use Rattle.formula.specs.Prefix.{entryFits, prefixWords}
 use Rattle.formula.specs.Tables.{isIn, zeros}
 use Rattle.formula.specs.Token.{Placed, tokens, tokensAt, pWord, cnfWord, aWord, eWord}
 use Rattle.formula.specs.declared.refusal.Refusal.{Refusal}
+use Rattle.formula.specs.declared.refusal.Reason.{Reason}
 use Rattle.formula.specs.declared.refusal.Reason.the-variants.{
   Headless,
   Oversized,
@@ -59,11 +61,6 @@ pub data State : Type 0 where
   clauses : (v c : ℕ) (P : Prefix) (words : List ℤ) → State
   stopped : Refusal → State
 
--- The variable n with a sign.
-abbrev pub signed : Bool → ℕ → ℤ
-signed true n = pos n
-signed false n = negℤ (pos n)
-
 -- The token is the word of the number w.
 abbrev pub isWord : ℕ → Token → Bool
 isWord w (Natural n) = false
@@ -84,38 +81,38 @@ abbrev pub isOpen : List ℕ → Bool
 isOpen [] = false
 isOpen (v ∷ vs) = true
 
+-- The token at a place is refused.
+abbrev pub stoppedAt : ℕ → Reason → State
+stoppedAt at r = stopped (inText at r)
+
 -- A word of the header.
 abbrev pub headerWord : ℕ → ℕ → Token → State → State
-headerWord w at t next = require (isWord w t) (stopped (refusal Headless at)) next
+headerWord w at t next = require (isWord w t) (stoppedAt at Headless) next
 
 -- A number of the header, without minus and within its bound.
 abbrev pub headerNumber : ℕ → ℕ → Token → (ℕ → State) → State
-headerNumber bound at (Natural n) next = require (leb n bound) (stopped (refusal Oversized 0)) (next n)
-headerNumber bound at (Negative n) next = stopped (refusal Headless at)
-headerNumber bound at (Word w) next = stopped (refusal Headless at)
+headerNumber bound at (Natural n) next = require (leb n bound) (stoppedAt at Oversized) (next n)
+headerNumber bound at (Negative n) next = stoppedAt at Headless
+headerNumber bound at (Word w) next = stoppedAt at Headless
 
--- The variable n is listed in a set: 5, 6, 3. `known` says whether one before it lists n, `fits` whether an entry has room.
-unfoldable pub variableRefusal : (at v n : ℕ) (known fits : Bool) → Option Refusal
-variableRefusal at v n known fits =
-    require (leb n v) (some (refusal OutOfRange at))
-    (require (not known) (some (refusal BoundTwice at))
-    (require fits (some (refusal NoRoom at)) none))
+-- Why the variable n is not listed in a set: 5, 6, 3. `known` says whether one before it lists n, `fits` whether an entry has room.
+unfoldable pub variableReason : (v n : ℕ) (known fits : Bool) → Option Reason
+variableReason v n known fits =
+    require (leb n v) (some OutOfRange) (require (not known) (some BoundTwice) (require fits (some NoRoom) none))
 
--- A literal of the variable n: 5, 2, 7, 8, 3. `bound` says whether a set lists it, `clash` whether its clause holds it;
--- `used` words are used of `room`.
-unfoldable pub literalRefusal : (at v n : ℕ) (bound clash : Bool) (used room : ℕ) → Option Refusal
-literalRefusal at v n bound clash used room =
-    require (leb n v) (some (refusal OutOfRange at))
-    (require (ltb used matrixBound) (some (refusal Oversized 0))
-    (require bound (some (refusal Unbound at))
-    (require (not clash) (some (refusal Clash at))
-    (require (ltb used room) (some (refusal NoRoom at)) none))))
+-- Why a literal of the variable n is not written: 5, 2, 7, 8, 3. `bound` says whether a set lists it, `clash` whether its clause
+-- holds it; `used` words are used of `room`.
+unfoldable pub literalReason : (v n : ℕ) (bound clash : Bool) (used room : ℕ) → Option Reason
+literalReason v n bound clash used room =
+    require (leb n v) (some OutOfRange)
+    (require (ltb used matrixBound) (some Oversized)
+    (require bound (some Unbound)
+    (require (not clash) (some Clash)
+    (require (ltb used room) (some NoRoom) none))))
 
--- A clause's closing 0, which is a clause word too: 2, 3.
-unfoldable pub closingRefusal : (at used room : ℕ) → Option Refusal
-closingRefusal at used room =
-    require (ltb used matrixBound) (some (refusal Oversized 0))
-    (require (ltb used room) (some (refusal NoRoom at)) none)
+-- Why a clause's closing 0, which is a clause word too, is not written: 2, 3.
+unfoldable pub closingReason : (used room : ℕ) → Option Reason
+closingReason used room = require (ltb used matrixBound) (some Oversized) (require (ltb used room) (some NoRoom) none)
 
 -- A token between sets: `e` or `a` opens a set, any other is the first of the clauses.
 abbrev pub opens : (isE isA : Bool) (v c : ℕ) (P : Prefix) → State → State
@@ -126,36 +123,36 @@ opens false false v c P later = later
 module _ (prefixRoom clauseRoom : ℕ) where
   -- A token in a set: a variable, or the closing 0 of a set that is not empty.
   abbrev pub setNumber : (at v c : ℕ) (q : Quantifier) (filled : Bool) (P : Prefix) → ℕ → State
-  setNumber at v c q filled P zero = require filled (stopped (refusal BadToken at)) (betweenSets v c P)
+  setNumber at v c q filled P zero = require filled (stoppedAt at BadToken) (betweenSets v c P)
   setNumber at v c q filled P (suc n) =
-      unless stopped (variableRefusal at v (suc n) (isIn (suc n) (listed P)) (entryFits prefixRoom (length (prefixWords P))))
+      unless (stoppedAt at) (variableReason v (suc n) (isIn (suc n) (listed P)) (entryFits prefixRoom (length (prefixWords P))))
       (inSet v c q true (P ++ (entry (suc n) q ∷ [])))
 
   abbrev pub setToken : (at v c : ℕ) (q : Quantifier) (filled : Bool) (P : Prefix) → Token → State
   setToken at v c q filled P (Natural n) = setNumber at v c q filled P n
-  setToken at v c q filled P (Negative n) = stopped (refusal BadToken at)
-  setToken at v c q filled P (Word w) = stopped (refusal BadToken at)
+  setToken at v c q filled P (Negative n) = stoppedAt at BadToken
+  setToken at v c q filled P (Word w) = stoppedAt at BadToken
 
   -- A token of a clause: a literal, or the closing 0.
   abbrev pub putLiteral : (at v c : ℕ) (P : Prefix) (words : List ℤ) (positive : Bool) → ℕ → State
   putLiteral at v c P words positive n =
-      unless stopped (literalRefusal at v n (isIn n (listed P)) (isIn n (openClause words)) (length words) clauseRoom)
+      unless (stoppedAt at) (literalReason v n (isIn n (listed P)) (isIn n (openClause words)) (length words) clauseRoom)
       (clauses v c P (words ++ (signed positive n ∷ [])))
 
   abbrev pub clauseNumber : (at v c : ℕ) (P : Prefix) (words : List ℤ) → ℕ → State
   clauseNumber at v c P words zero =
-      unless stopped (closingRefusal at (length words) clauseRoom) (clauses v c P (words ++ (pos 0 ∷ [])))
+      unless (stoppedAt at) (closingReason (length words) clauseRoom) (clauses v c P (words ++ (pos 0 ∷ [])))
   clauseNumber at v c P words (suc n) = putLiteral at v c P words true (suc n)
 
   abbrev pub clauseToken : (at v c : ℕ) (P : Prefix) (words : List ℤ) → Token → State
   clauseToken at v c P words (Natural n) = clauseNumber at v c P words n
   clauseToken at v c P words (Negative n) = putLiteral at v c P words false n
-  clauseToken at v c P words (Word w) = stopped (refusal BadToken at)
+  clauseToken at v c P words (Word w) = stoppedAt at BadToken
 
   -- After clause C any token is one too many.
   abbrev pub clausesToken : (at v c : ℕ) (P : Prefix) (words : List ℤ) → Token → State
   clausesToken at v c P words t =
-      require (ltb (zeros words) c) (stopped (refusal Miscount at)) (clauseToken at v c P words t)
+      require (ltb (zeros words) c) (stoppedAt at Miscount) (clauseToken at v c P words t)
 
   -- One token.
   unfoldable pub step : State → Placed → State
@@ -176,15 +173,15 @@ module _ (prefixRoom clauseRoom : ℕ) where
 -- The text ends, `at` being its length: no clause is open, and none is missing.
 abbrev pub clausesEnding : ℕ → (clauseOpen missing : Bool) → Reading → Reading
 clausesEnding at clauseOpen missing done =
-    require (not clauseOpen) (refused (refusal Unfinished at)) (require (not missing) (refused (refusal Miscount at)) done)
+    require (not clauseOpen) (refused (inText at Unfinished)) (require (not missing) (refused (inText at Miscount)) done)
 
 unfoldable pub ending : ℕ → State → Reading
-ending at wantsP = refused (refusal Headless at)
-ending at wantsCnf = refused (refusal Headless at)
-ending at wantsV = refused (refusal Headless at)
-ending at (wantsC v) = refused (refusal Headless at)
+ending at wantsP = refused (inText at Headless)
+ending at wantsCnf = refused (inText at Headless)
+ending at wantsV = refused (inText at Headless)
+ending at (wantsC v) = refused (inText at Headless)
 ending at (betweenSets v c P) = clausesEnding at false (ltb 0 c) (read (prefixWords P) [] c)
-ending at (inSet v c q filled P) = refused (refusal Unfinished at)
+ending at (inSet v c q filled P) = refused (inText at Unfinished)
 ending at (clauses v c P words) =
     clausesEnding at (isOpen (openClause words)) (ltb (zeros words) c) (read (prefixWords P) words c)
 ending at (stopped r) = refused r

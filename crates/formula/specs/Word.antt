@@ -1,13 +1,14 @@
 -- What a word of a table is (01, "The game and its tables"): 0, a magnitude above 1,024, or a variable with a sign; and
--- what is asked of it: is it 0, its variable, the place of its literal among marks. Laws are in Word/Laws.antt.
+-- what is asked of it: is it 0, its variable, the place of its literal among marks; then the word of a variable with a sign. Laws
+-- are in Word/Laws.antt.
 pub mod Laws
 use Prim.Native.Nat.{ℕ, zero, suc, _+_, _*_}
 use mathlib.Core.Bool.{Bool, true, false}
 use lib.Dec.{leb}
-use lib.IntN.{ℤ, pos, negsuc}
+use lib.IntN.{ℤ, pos, negsuc, negℤ}
 use Rattle.formula.specs.Bounds.{variableBound}
-use Rattle.formula.specs.declared.literal.Word.{Word}
-use Rattle.formula.specs.declared.literal.Word.the-variants.{Zero, TooLarge, Positive, Negative}
+use Rattle.formula.specs.declared.word.Word.{Word}
+use Rattle.formula.specs.declared.word.Word.the-variants.{Zero, TooLarge, Positive, Negative}
 
 abbrev pub positive : Bool → ℕ → Word
 positive true v = Positive (record { 0 = v })
@@ -61,3 +62,8 @@ slotWith plus minus Zero = 0
 slotWith plus minus TooLarge = 0
 slotWith plus minus (Positive v) = 2 * v .0 + plus
 slotWith plus minus (Negative v) = 2 * v .0 + minus
+
+-- The variable n with a sign.
+abbrev pub signed : Bool → ℕ → ℤ
+signed true n = pos n
+signed false n = negℤ (pos n)

@@ -13,15 +13,15 @@ ghost use lib.ListN.{length, getD};
 ghost use lib.Dec.{ltb};
 ghost use Rattle.qbf.specs.Formula.{Prefix};
 ghost use Rattle.formula.specs.Bounds.{variableBound, countBound};
-ghost use Rattle.formula.specs.Text.{literalRefusal};
+ghost use Rattle.formula.specs.Text.{literalReason};
 ghost use Rattle.formula.specs.Text.Sets.{Listed};
 ghost use Rattle.formula.specs.Text.Clauses.{literalStep, LiteralPost, ClosingPost, ClauseTokenPost, clausesEnd, ClausesPost};
 
-// What a token of a clause did.
+// What a token of a clause did, or why it is refused.
 pub enum ClauseStep {
     Literal,
     Closed,
-    Refused(Refusal),
+    Refused(Reason),
 }
 
 // The clause words used.
@@ -40,7 +40,6 @@ fn mark_of(marks: &[usize; 1025], n: usize) -> usize
 
 // The refusals of a literal, in their order.
 fn judge_literal(
-    place: usize,
     variables: usize,
     n: usize,
     bound: bool,
@@ -48,30 +47,29 @@ fn judge_literal(
     used: usize,
     room: usize,
 ) -> ClauseStep
-    ensures { λ r. ⌜ r ≡ literalStep (literalRefusal place variables n bound clash used room) ⌝ }
+    ensures { λ r. ⌜ r ≡ literalStep (literalReason variables n bound clash used room) ⌝ }
 {
     if variables < n {
-        return ClauseStep::Refused(Refusal::new(Reason::OutOfRange, place));
+        return ClauseStep::Refused(Reason::OutOfRange);
     }
     if MatrixLength::MAX <= used {
-        return ClauseStep::Refused(Refusal::new(Reason::Oversized, 0));
+        return ClauseStep::Refused(Reason::Oversized);
     }
     if bound {
         if clash {
-            return ClauseStep::Refused(Refusal::new(Reason::Clash, place));
+            return ClauseStep::Refused(Reason::Clash);
         }
         if room <= used {
-            return ClauseStep::Refused(Refusal::new(Reason::NoRoom, place));
+            return ClauseStep::Refused(Reason::NoRoom);
         }
         return ClauseStep::Literal;
     }
-    ClauseStep::Refused(Refusal::new(Reason::Unbound, place))
+    ClauseStep::Refused(Reason::Unbound)
 }
 
 // Writes a literal of the variable n and marks it, unless it is refused.
 fn put_literal(
     n: usize,
-    place: usize,
     variables: usize,
     positive: bool,
     clauses: &mut [i32],
@@ -80,19 +78,11 @@ fn put_literal(
     marks: &mut [usize; 1025],
 ) -> ClauseStep
     requires { ⌜ (variables ≤ variableBound) × (closed ≤ countBound) × (length (now marks) ≡ 1025) ⌝ }
-    ensures { λ r. ⌜ LiteralPost n place variables positive used closed (now (clauses .entry)) (now (marks .entry)) (now (clauses .exit)) (now (marks .exit)) r ⌝ }
+    ensures { λ r. ⌜ LiteralPost n variables positive used closed (now (clauses .entry)) (now (marks .entry)) (now (clauses .exit)) (now (marks .exit)) r ⌝ }
 {
     let mark = mark_of(marks, n);
     let room = clauses.len();
-    match judge_literal(
-        place,
-        variables,
-        n,
-        0 < mark,
-        mark == closed + 2,
-        used,
-        room,
-    ) {
+    match judge_literal(variables, n, 0 < mark, mark == closed + 2, used, room) {
         ClauseStep::Refused(r) => ClauseStep::Refused(r),
         ClauseStep::Closed => ClauseStep::Closed,
         ClauseStep::Literal => {
@@ -104,14 +94,14 @@ fn put_literal(
 }
 
 // Writes a clause's closing 0: 2 above the bound on clause words, 3 without room.
-fn close_clause(place: usize, clauses: &mut [i32], used: usize) -> ClauseStep
-    ensures { λ r. ⌜ ClosingPost place used (now (clauses .entry)) (now (clauses .exit)) r ⌝ }
+fn close_clause(clauses: &mut [i32], used: usize) -> ClauseStep
+    ensures { λ r. ⌜ ClosingPost used (now (clauses .entry)) (now (clauses .exit)) r ⌝ }
 {
     if MatrixLength::MAX <= used {
-        return ClauseStep::Refused(Refusal::new(Reason::Oversized, 0));
+        return ClauseStep::Refused(Reason::Oversized);
     }
     if clauses.len() <= used {
-        return ClauseStep::Refused(Refusal::new(Reason::NoRoom, place));
+        return ClauseStep::Refused(Reason::NoRoom);
     }
     clauses[used] = 0;
     ClauseStep::Closed
@@ -120,7 +110,6 @@ fn close_clause(place: usize, clauses: &mut [i32], used: usize) -> ClauseStep
 // A token of a clause, while fewer than C clauses are closed.
 fn clause_token(
     token: Token,
-    place: usize,
     variables: usize,
     clauses: &mut [i32],
     used: usize,
@@ -128,16 +117,16 @@ fn clause_token(
     marks: &mut [usize; 1025],
 ) -> ClauseStep
     requires { ⌜ (variables ≤ variableBound) × (closed ≤ countBound) × (length (now marks) ≡ 1025) × (used ≤ length (now clauses)) ⌝ }
-    ensures { λ r. ⌜ ClauseTokenPost token place variables used closed (now (clauses .entry)) (now (marks .entry)) (now (clauses .exit)) (now (marks .exit)) r ⌝ }
+    ensures { λ r. ⌜ ClauseTokenPost token variables used closed (now (clauses .entry)) (now (marks .entry)) (now (clauses .exit)) (now (marks .exit)) r ⌝ }
 {
     match token {
         Token::Natural(n) => if n == 0 {
-            close_clause(place, clauses, used)
+            close_clause(clauses, used)
         } else {
-            put_literal(n, place, variables, true, clauses, used, closed, marks)
+            put_literal(n, variables, true, clauses, used, closed, marks)
         },
-        Token::Negative(n) => put_literal(n, place, variables, false, clauses, used, closed, marks),
-        Token::Word(_) => ClauseStep::Refused(Refusal::new(Reason::BadToken, place)),
+        Token::Negative(n) => put_literal(n, variables, false, clauses, used, closed, marks),
+        Token::Word(_) => ClauseStep::Refused(Reason::BadToken),
     }
 }
 
@@ -146,10 +135,10 @@ fn clauses_end(size: usize, start: usize, used: usize, closed: usize, count: usi
     ensures { λ r. ⌜ r ≡ clausesEnd size (ltb start used) (ltb closed count) used ⌝ }
 {
     if start < used {
-        return ClausesAnswer::Refused(Refusal::new(Reason::Unfinished, size));
+        return ClausesAnswer::Refused(Refusal::in_text(Reason::Unfinished, size));
     }
     if closed < count {
-        return ClausesAnswer::Refused(Refusal::new(Reason::Miscount, size));
+        return ClausesAnswer::Refused(Refusal::in_text(Reason::Miscount, size));
     }
     ClausesAnswer::Clauses { used }
 }
@@ -175,10 +164,12 @@ pub fn read_clauses(
             Next::End => return clauses_end(text.len(), start, used, closed, count),
             Next::Found { token, place, next } => {
                 if count <= closed {
-                    return ClausesAnswer::Refused(Refusal::new(Reason::Miscount, place));
+                    return ClausesAnswer::Refused(Refusal::in_text(Reason::Miscount, place));
                 }
-                match clause_token(token, place, variables, clauses, used, closed, marks) {
-                    ClauseStep::Refused(r) => return ClausesAnswer::Refused(r),
+                match clause_token(token, variables, clauses, used, closed, marks) {
+                    ClauseStep::Refused(reason) => {
+                        return ClausesAnswer::Refused(Refusal::in_text(reason, place));
+                    }
                     ClauseStep::Literal => {
                         used += 1;
                         at = next;

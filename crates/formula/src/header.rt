@@ -17,7 +17,7 @@ ghost use lib.ListN.{length};
 ghost use Rattle.formula.specs.Bounds.{variableBound};
 ghost use Rattle.formula.specs.Token.{firstToken, nextToken};
 ghost use Rattle.formula.specs.Text.{wantsP, wantsV, wantsC};
-ghost use Rattle.formula.specs.Text.Header.{fieldFound, HeaderPost};
+ghost use Rattle.formula.specs.Text.Header.{valueOf, fieldFound, HeaderPost};
 
 // What the header wants next: a word, told by its number, or a number without minus.
 pub enum Wanted {
@@ -25,7 +25,13 @@ pub enum Wanted {
     Number,
 }
 
-// What was wanted: its value, which is 0 for a word, and the byte after it.
+// The value of a token that is what was wanted, 0 for a word; or it is another.
+pub enum FieldValue {
+    Value(usize),
+    Other,
+}
+
+// What was wanted: its value, and the byte after it.
 pub enum FieldAnswer {
     Field { value: usize, next: usize },
     Refused(Refusal),
@@ -41,26 +47,36 @@ pub enum HeaderAnswer {
     Refused(Refusal),
 }
 
+// The value of a token that is what the header wants.
+fn field_value(token: Token, wanted: Wanted) -> FieldValue
+    ensures { λ r. ⌜ r ≡ valueOf token wanted ⌝ }
+{
+    match token {
+        Token::Natural(n) => match wanted {
+            Wanted::Number => FieldValue::Value(n),
+            Wanted::Word(_) => FieldValue::Other,
+        },
+        Token::Negative(_) => FieldValue::Other,
+        Token::Word(w) => match wanted {
+            Wanted::Number => FieldValue::Other,
+            Wanted::Word(word) => if w == word {
+                FieldValue::Value(0)
+            } else {
+                FieldValue::Other
+            },
+        },
+    }
+}
+
 // The next token, if it is what the header wants there; a number may be however large.
 fn header_field(text: &[u8], at: usize, wanted: Wanted) -> FieldAnswer
     ensures { λ r. ⌜ r ≡ fieldFound (length (now (text .entry))) wanted (nextToken (now (text .entry)) at) ⌝ }
 {
     match next_token(text, at) {
-        Next::End => FieldAnswer::Refused(Refusal::new(Reason::Headless, text.len())),
-        Next::Found { token, place, next } => match token {
-            Token::Natural(n) => match wanted {
-                Wanted::Number => FieldAnswer::Field { value: n, next },
-                Wanted::Word(_) => FieldAnswer::Refused(Refusal::new(Reason::Headless, place)),
-            },
-            Token::Negative(_) => FieldAnswer::Refused(Refusal::new(Reason::Headless, place)),
-            Token::Word(w) => match wanted {
-                Wanted::Number => FieldAnswer::Refused(Refusal::new(Reason::Headless, place)),
-                Wanted::Word(word) => if w == word {
-                    FieldAnswer::Field { value: 0, next }
-                } else {
-                    FieldAnswer::Refused(Refusal::new(Reason::Headless, place))
-                },
-            },
+        Next::End => FieldAnswer::Refused(Refusal::in_text(Reason::Headless, text.len())),
+        Next::Found { token, place, next } => match field_value(token, wanted) {
+            FieldValue::Value(value) => FieldAnswer::Field { value, next },
+            FieldValue::Other => FieldAnswer::Refused(Refusal::in_text(Reason::Headless, place)),
         },
     }
 }

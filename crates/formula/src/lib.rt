@@ -11,6 +11,6 @@ pub mod refusal;
 mod sets;
 pub mod tables;
 mod token;
-mod word;
+pub mod word;
 pub mod words;
 pub mod write;

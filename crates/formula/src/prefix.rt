@@ -1,7 +1,7 @@
 // The prefix table as entries: how many there are, the entry at a place, the entries after the first, an entry put behind those
 // that stand. Nothing else reads or writes prefix words, but for the check of tables, which judges them.
 use crate::literal::Variable;
-use crate::literal::Word;
+use crate::word::Word;
 use crate::word::signed_word;
 ghost use mathlib.Core.Path.{_≡_};
 ghost use mathlib.Core.Bool.{true};

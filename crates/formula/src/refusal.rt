@@ -1,11 +1,8 @@
-// Why and where the checker says no: the twenty reasons of 01, each with its number and its word, and a reason joined with its
-// place. A reason more is a line in the enum, in `tag` and in the list of words, and in `number` and `table` of
-// specs/Refusal.antt.
+// Why and where the checker says no: the twenty reasons of 01, each with its number, and a reason joined with its place. A reason
+// more is a line in the enum and in `tag`, in `number` and `table` of specs/Refusal.antt, and in the list of words of
+// report/src/word.rt.
 ghost use mathlib.Core.Path.{_≡_};
-ghost use mathlib.Core.Bool.{true};
-ghost use Prim.Native.Nat.{_≤_};
-ghost use lib.ListN.{length};
-ghost use Rattle.formula.specs.Refusal.{refusal, number, word, table, reasonAt, wordIn, filled, Spells};
+ghost use Rattle.formula.specs.Refusal.{refusal, inText, number, Tagged};
 
 pub enum Reason {
     Headless,
@@ -43,63 +40,22 @@ impl Refusal {
     {
         Refusal { reason, place }
     }
-}
 
-// The words in the order of their numbers, filled up with dots, which no word holds.
-const WORDS: [[u8; 14]; 20] = [
-    *b"headless......",
-    *b"oversized.....",
-    *b"no room.......",
-    *b"bad token.....",
-    *b"out of range..",
-    *b"bound twice...",
-    *b"unbound.......",
-    *b"clash.........",
-    *b"unfinished....",
-    *b"miscount......",
-    *b"no trailer....",
-    *b"other formula.",
-    *b"broken step...",
-    *b"not earlier...",
-    *b"wrong pivot...",
-    *b"tautology.....",
-    *b"blocked.......",
-    *b"misstated.....",
-    *b"no conclusion.",
-    *b"not universal.",
-];
-
-// The list against the table.
-fn words() -> [[u8; 14]; 20]
-    ensures { λ r. ⌜ filled r table ≡ true ⌝ }
-{
-    WORDS
-}
-
-// A word's bytes from the front, and how many they are.
-pub struct ReasonWord {
-    pub bytes: [u8; 14],
-    pub length: usize,
-}
-
-// How many bytes stand before the first dot.
-fn undotted(bytes: &[u8]) -> usize
-    ensures { λ r. ⌜ r ≡ length (wordIn (now (bytes .entry))) ⌝ }
-{
-    let mut n = 0;
-    while n < bytes.len() {
-        if bytes[n] == b'.' {
-            return n;
+    // A refusal of a text at the place of a token, or at the end; 2 has no place.
+    pub fn in_text(reason: Reason, place: usize) -> Refusal
+        ensures { λ r. ⌜ r ≡ inText place reason ⌝ }
+    {
+        if reason.number() == 2 {
+            return Refusal::new(reason, 0);
         }
-        n += 1;
+        Refusal::new(reason, place)
     }
-    n
 }
 
 impl Reason {
-    // The place of its row in the tables, counted from 1.
+    // The place of its row in the table, counted from 1.
     fn tag(self) -> u32
-        ensures { λ r. ⌜ (self ≡ reasonAt r) × (1 ≤ r) × (r ≤ length table) ⌝ }
+        ensures { λ r. ⌜ Tagged self r ⌝ }
     {
         match self {
             Reason::Headless => 1,
@@ -127,18 +83,8 @@ impl Reason {
 
     // 01's number.
     pub fn number(self) -> u32
-        ensures { λ r. ⌜ r ≡ number self ⌝ }
+        ensures { λ r. ⌜ (r ≡ number self) × Tagged self r ⌝ }
     {
         self.tag()
-    }
-
-    // 01's word.
-    pub fn word(self) -> ReasonWord
-        ensures { λ r. ⌜ Spells r (word self) ⌝ }
-    {
-        let rows = words();
-        let bytes = rows[self.tag() as usize - 1];
-        let length = undotted(&bytes);
-        ReasonWord { bytes, length }
     }
 }

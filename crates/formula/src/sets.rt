@@ -18,11 +18,12 @@ ghost use Rattle.formula.specs.Bounds.{variableBound};
 ghost use Rattle.formula.specs.Prefix.{prefixOf, quantifierOf};
 ghost use Rattle.formula.specs.Text.Sets.{ListingPost, Listed, setClosing, SetTokenPost, SetPost, SetsPost};
 
-// What a token of a set did: listed a variable, so many words of the prefix being used then, or closed the set.
+// What a token of a set did: listed a variable, so many words of the prefix being used then, or closed the set; or why it is
+// refused.
 pub enum SetStep {
     Listed(usize),
     Closed,
-    Refused(Refusal),
+    Refused(Reason),
 }
 
 // The words of the prefix used so far, and the byte from which to go on.
@@ -34,7 +35,6 @@ pub enum SetsAnswer {
 // Lists the variable of a number other than 0: 5 above V, 6 where it is marked, 3 where its entry has no room.
 fn list_variable(
     n: usize,
-    place: usize,
     variables: usize,
     existential: bool,
     prefix: &mut [i32],
@@ -42,40 +42,39 @@ fn list_variable(
     marks: &mut [usize; 1025],
 ) -> SetStep
     requires { ⌜ (0 < n) × (variables ≤ variableBound) × (length (now marks) ≡ 1025) ⌝ }
-    ensures { λ r. ⌜ ListingPost n place variables (quantifierOf existential) used (now (prefix .entry)) (now (marks .entry)) (now (prefix .exit)) (now (marks .exit)) r ⌝ }
+    ensures { λ r. ⌜ ListingPost n variables (quantifierOf existential) used (now (prefix .entry)) (now (marks .entry)) (now (prefix .exit)) (now (marks .exit)) r ⌝ }
 {
     match Variable::new(n) {
-        VariableFit::Outside => SetStep::Refused(Refusal::new(Reason::OutOfRange, place)),
+        VariableFit::Outside => SetStep::Refused(Reason::OutOfRange),
         VariableFit::Within(variable) => {
             if variables < n {
-                return SetStep::Refused(Refusal::new(Reason::OutOfRange, place));
+                return SetStep::Refused(Reason::OutOfRange);
             }
             if 0 < marks[n] {
-                return SetStep::Refused(Refusal::new(Reason::BoundTwice, place));
+                return SetStep::Refused(Reason::BoundTwice);
             }
             if entry_fits(prefix.len(), used) {
                 marks[n] = 1;
                 return SetStep::Listed(put_entry(prefix, used, existential, variable));
             }
-            SetStep::Refused(Refusal::new(Reason::NoRoom, place))
+            SetStep::Refused(Reason::NoRoom)
         }
     }
 }
 
 // A set's closing 0: an empty set is refused.
-fn close_set(filled: bool, place: usize) -> SetStep
-    ensures { λ r. ⌜ r ≡ setClosing filled place ⌝ }
+fn close_set(filled: bool) -> SetStep
+    ensures { λ r. ⌜ r ≡ setClosing filled ⌝ }
 {
     if filled {
         return SetStep::Closed;
     }
-    SetStep::Refused(Refusal::new(Reason::BadToken, place))
+    SetStep::Refused(Reason::BadToken)
 }
 
 // A token of a set, which is `filled` once it lists a variable.
 fn set_token(
     token: Token,
-    place: usize,
     variables: usize,
     existential: bool,
     filled: bool,
@@ -84,16 +83,16 @@ fn set_token(
     marks: &mut [usize; 1025],
 ) -> SetStep
     requires { ⌜ (variables ≤ variableBound) × (used ≤ length (now prefix)) × Listed (now marks) (prefixOf (take used (now prefix))) ⌝ }
-    ensures { λ r. ⌜ SetTokenPost token place variables (quantifierOf existential) filled used (now (prefix .entry)) (now (marks .entry)) (now (prefix .exit)) (now (marks .exit)) r ⌝ }
+    ensures { λ r. ⌜ SetTokenPost token variables (quantifierOf existential) filled used (now (prefix .entry)) (now (marks .entry)) (now (prefix .exit)) (now (marks .exit)) r ⌝ }
 {
     match token {
         Token::Natural(n) => if 0 < n {
-            list_variable(n, place, variables, existential, prefix, used, marks)
+            list_variable(n, variables, existential, prefix, used, marks)
         } else {
-            close_set(filled, place)
+            close_set(filled)
         },
-        Token::Negative(_) => SetStep::Refused(Refusal::new(Reason::BadToken, place)),
-        Token::Word(_) => SetStep::Refused(Refusal::new(Reason::BadToken, place)),
+        Token::Negative(_) => SetStep::Refused(Reason::BadToken),
+        Token::Word(_) => SetStep::Refused(Reason::BadToken),
     }
 }
 
@@ -114,19 +113,15 @@ fn read_set(
     let mut n = used;
     loop {
         match next_token(text, at) {
-            Next::End => return SetsAnswer::Refused(Refusal::new(Reason::Unfinished, text.len())),
+            Next::End => return SetsAnswer::Refused(Refusal::in_text(
+                Reason::Unfinished,
+                text.len(),
+            )),
             Next::Found { token, place, next } => {
-                match set_token(
-                    token,
-                    place,
-                    variables,
-                    existential,
-                    used < n,
-                    prefix,
-                    n,
-                    marks,
-                ) {
-                    SetStep::Refused(r) => return SetsAnswer::Refused(r),
+                match set_token(token, variables, existential, used < n, prefix, n, marks) {
+                    SetStep::Refused(reason) => {
+                        return SetsAnswer::Refused(Refusal::in_text(reason, place));
+                    }
                     SetStep::Closed => return SetsAnswer::Sets { used: n, next },
                     SetStep::Listed(more) => {
                         n = more;

@@ -3,7 +3,7 @@
 // `clause_end` have plain parameters, for callers elsewhere.
 ghost use mathlib.Core.Path.{_≡_};
 ghost use lib.ListN.{drop};
-ghost use Rattle.formula.specs.ClauseWords.{wordAt, placeAfter, closeFrom};
+ghost use Rattle.formula.specs.Words.{wordAt, placeAfter, closeFrom};
 
 // A word other than 0, the 0 that closes a clause, or the end of the words.
 pub enum ClauseWord {

@@ -1,13 +1,13 @@
 // The writer of formulas. Every writing function answers the place behind what it wrote; none asks for room but the last.
 use crate::clear;
 use crate::decimal;
-use crate::literal::Word;
 use crate::prefix;
 use crate::prefix::Entry;
 use crate::refusal::Reason;
 use crate::refusal::Refusal;
 use crate::tables;
 use crate::tables::TablesAnswer;
+use crate::word::Word;
 ghost use mathlib.Core.Path.{_≡_};
 ghost use mathlib.Core.List.{[], _∷_, _++_};
 ghost use Prim.Native.Nat.{_+_, _^_, _<_, _≤_, max};
@@ -19,8 +19,8 @@ ghost use Rattle.formula.specs.Prefix.{prefixOf, entryCount, entryAt, En
 ghost use Rattle.formula.specs.Decimal.{decimal};
 ghost use Rattle.formula.specs.Store.{Stores};
 ghost use Rattle.formula.specs.Tables.{zeros, Admitted};
-ghost use Rattle.formula.specs.Written.{largest, headerText, letterOf, written, Writes};
-ghost use Rattle.formula.specs.Writing.{lineEnd, lineTurn, entryText, prefixText, wordText, clausesText, Bounded, Finishes};
+ghost use Rattle.formula.specs.Write.{largest, headerText, letterOf, written, Writes};
+ghost use Rattle.formula.specs.Write.Stream.{lineEnd, lineTurn, entryText, prefixText, wordText, clausesText, Bounded, Finishes};
 
 // Written, with the used length; or the refusal.
 pub enum WriteAnswer {

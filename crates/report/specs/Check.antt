@@ -1,5 +1,7 @@
 -- The line of the first program (01, "Programs") from the bytes of its two files: the formula is settled before the proof file
--- is looked at. Then the contract of `check_line`, with the claim that an `accepted` line is to be trusted for.
+-- is looked at. Then the contract of `check_line`, with the claim that an `accepted` line is to be trusted for. Laws are in
+-- Check/Laws.antt.
+pub mod Laws
 use Prim.Native.Nat.{ℕ, _≤_}
 use mathlib.Core.Path.{_≡_}
 use mathlib.Core.List.{List}
@@ -12,8 +14,8 @@ use Rattle.formula.specs.Prefix.{entryCount}
 use Rattle.formula.specs.Refusal.{refusal, require}
 use Rattle.formula.specs.declared.refusal.Reason.the-variants.{Oversized}
 use Rattle.formula.specs.Text.{Reading, read, refused, reading}
-use Rattle.checker.specs.ProofFile.{ProofReading, proofReading}
-use Rattle.checker.specs.ProofFile.{read as readSteps, refused as refusedFile}
+use Rattle.checker.specs.File.{ProofReading, proofReading}
+use Rattle.checker.specs.File.{read as readSteps, refused as refusedFile}
 use Rattle.checker.specs.declared.verdict.Verdict.{Verdict}
 use Rattle.checker.specs.declared.verdict.Verdict.the-variants.{Accepted, Refused}
 use Rattle.checker.specs.Rules.{plainRules}
@@ -28,6 +30,18 @@ pub record Room : Type 0 where
   pub steps : ℕ
   pub scratch : ℕ
   pub offsets : ℕ
+
+-- The room that buffers lent give.
+abbrev pub lent : (file : ℕ) (prefix clauses steps : List ℤ) (scratch offsets : List ℕ) → Room
+lent file prefix clauses steps scratch offsets =
+    record {
+      file = file;
+      prefix = length prefix;
+      clauses = length clauses;
+      steps = length steps;
+      scratch = length scratch;
+      offsets = length offsets;
+    }
 
 abbrev pub verdictLine : (variables clauses : ℕ) → Verdict → List ℕ
 verdictLine variables clauses (Accepted empty steps) = acceptedLine variables clauses steps (empty .0)

@@ -1,5 +1,9 @@
 -- The lines of the second program (01, "Programs") from the bytes of its file: for each universal in prefix order its number, a
--- colon, and its dependents in prefix order, a space before each; or the refused line. Bytes: 58 the colon.
+-- colon, and its dependents in prefix order, a space before each; or the refused line. Bytes: 58 the colon. As the line is written it
+-- stands in Dependents/Listing.antt.
+pub mod Listing
+pub mod Laws
+pub mod Length
 use Prim.Native.Nat.{ℕ, _≤_}
 use mathlib.Core.Path.{_≡_}
 use mathlib.Core.Bool.{Bool, true, false}

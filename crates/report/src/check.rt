@@ -18,8 +18,7 @@ ghost use Rattle.formula.specs.Bounds.{countBound};
 ghost use Rattle.formula.specs.Prefix.{entryCount};
 ghost use Rattle.checker.specs.Rules.{plainRules};
 ghost use Rattle.checker.specs.Verdict.{verdictOf};
-ghost use Rattle.report.specs.Check.{verdictLine, settledProof, stepsLine, checkLine, LineChecked};
-ghost use Rattle.report.specs.Checking.{lent};
+ghost use Rattle.report.specs.Check.{verdictLine, settledProof, stepsLine, checkLine, LineChecked, lent};
 ghost use Rattle.report.specs.Line.{lineRoom};
 ghost use Rattle.report.specs.Printing.{StoresShort};
 

@@ -4,3 +4,4 @@ pub mod dependents;
 mod line;
 pub mod program;
 mod settle;
+mod word;

@@ -1,27 +1,15 @@
 // The lines of the programs, written into a lent buffer from its start: `accepted V C steps empty` and
 // `refused number word place`. Each function answers the place behind what it wrote; none asks for room but the last.
+use crate::word::write_word;
 use formula::clear::keep_used;
 use formula::decimal::put;
 use formula::decimal::write_bytes;
 use formula::decimal::write_number;
-use formula::refusal::Reason;
 use formula::refusal::Refusal;
 ghost use Prim.Native.Nat.{_+_, _^_, _<_, _≤_};
-ghost use Rattle.formula.specs.Refusal.{word};
 ghost use Rattle.formula.specs.Store.{Stores};
 ghost use Rattle.report.specs.Line.{spaced, last, acceptedLine, refusedLine, lineRoom};
 ghost use Rattle.report.specs.Printing.{Finishes, StoresShort};
-
-// The word of a reason.
-fn write_word(line: &mut [u8], at: usize, reason: Reason) -> usize
-    requires { ⌜ at + 14 < 2 ^ 64 ⌝ }
-    ensures { λ r. ⌜ Stores (now (line .entry)) at (word reason) (now (line .exit)) r ⌝ }
-    ensures { λ r. ⌜ r ≤ at + 14 ⌝ }
-{
-    let w = reason.word();
-    let bytes = w.bytes;
-    write_bytes(line, at, &bytes[..w.length])
-}
 
 // A number and the space behind it.
 fn write_spaced(line: &mut [u8], at: usize, n: usize) -> usize

@@ -9,7 +9,7 @@ use formula::refusal::Refusal;
 ghost use mathlib.Core.Path.{_≡_};
 ghost use lib.Dec.{leb};
 ghost use lib.ListN.{length};
-ghost use Rattle.report.specs.Settled.{fileFit, FormulaSettled, ProofSettled};
+ghost use Rattle.report.specs.Settle.{fileFit, FormulaSettled, ProofSettled};
 
 // How many bytes a file has.
 pub struct FileLength(pub usize);

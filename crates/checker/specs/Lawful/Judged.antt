@@ -19,7 +19,7 @@ use Rattle.checker.specs.Words.{Words, holds, without}
 use Rattle.checker.specs.Words.Laws.{not-true-false, holds-sound, holds-complete, without-member, member-without}
 use Rattle.checker.specs.Steps.{Scope, Step, resolution, reduction, antecedent, resolvent, opposed, states, positiveExistential, blocked, demand, judgeStatement, judgeResolution, judgeReduction, judge}
 use Rattle.checker.specs.Steps.Tests.{opposed-found, unopposed, states-sound, states-complete, in-resolvent, resolvent-in, blocked-found, unblocked}
-use Rattle.checker.specs.Lawful.{Numbered, Resolvent, Reduct, LawfulResolution, LawfulReduction, Lawful, NoZeros}
+use Rattle.checker.specs.Lawful.{Numbered, Resolvent, Reduct, LawfulResolution, LawfulReduction, Lawful, Blocks, BlockedStep, NoZeros}
 use Rattle.checker.specs.Lawful.Laws.{numbered-member, antecedent-numbered, numbered-antecedent}
 
 -- The tests of a scope decide what they ask of a formula.
@@ -40,21 +40,6 @@ statement-blocked R L h = go (states R L) h
     go : (b : Bool) → demand b Misstated none ≡ some Blocked → ⊥
     go true e = let z : _≡_ {A = ℕ} 0 1 = cc in omega arith
     go false e = let z : _≡_ {A = ℕ} 0 1 = cc in omega arith
-
--- Where a reduction is blocked: a is a universal literal of the clause, and an existential of the clause depends on its variable.
-pub record Blocks (F : Formula) (known : List Words) (i a : ℤ) : Type 0 where
-  pub clause : Words
-  pub numbered : Numbered known i clause
-  pub universal : Universal (F .prefix) (natAbs a)
-  pub reduced : List·Memᴰ a clause
-  pub literal : ℤ
-  pub in-clause : List·Memᴰ literal clause
-  pub existential : Existential (F .prefix) (natAbs literal)
-  pub depends : Depends F (natAbs a) (natAbs literal)
-
-abbrev pub BlockedStep : Formula → List Words → Step → Type 0
-BlockedStep F known (resolution i j e L) = ⊥
-BlockedStep F known (reduction i a L) = Blocks F known i a
 
 module _ (S : Scope) (F : Formula) (D : Decides S F) where
   pivot-sound : (e : ℤ) → positiveExistential S e ≡ true → (v : ℕ) × (e ≡ pos v) × Existential (F .prefix) v

@@ -17,9 +17,9 @@ use Rattle.checker.specs.Words.{Words}
 use Rattle.checker.specs.Steps.{Scope, Step, statedBy, sizeOf, readStep, ended, refused, run}
 use Rattle.checker.specs.Steps.Written.{words-size, read-written, written-read}
 use Rattle.checker.specs.Steps.Run.{rightly, right-first, blocked-first, Passes, passes-run, passes-fits, run-ended, run-stopped}
-use Rattle.checker.specs.Lawful.{wordsOf, stepWords, numberedClauses, LawfulSteps, NoZeros}
+use Rattle.checker.specs.Lawful.{wordsOf, stepWords, numberedClauses, LawfulSteps, RunBlocked, NoZeros}
 use Rattle.checker.specs.Lawful.Laws.{lawful-words, lawful-all-words, length-snoc}
-use Rattle.checker.specs.Lawful.Judged.{Decides, BlockedStep, judge-lawful, lawful-judge, judge-blocked}
+use Rattle.checker.specs.Lawful.Judged.{Decides, judge-lawful, lawful-judge, judge-blocked}
 
 -- What the run is to show of words it passes: they are lawful steps, and the clause offsets have room for every clause.
 pub record RunEnds (F : Formula) (room : ℕ) (final known : List Words) (ws : Words) : Type 0 where
@@ -28,16 +28,6 @@ pub record RunEnds (F : Formula) (room : ℕ) (final known : List Words) (ws : W
   pub lawful : LawfulSteps F known steps
   pub numbered : numberedClauses known steps ≡ final
   pub fits : length known ≤ room → length final ≤ room
-
--- Where it stops as blocked: after lawful steps.
-pub record RunBlocked (F : Formula) (known : List Words) (ws : Words) (place : ℕ) : Type 0 where
-  pub steps : List Step
-  pub lawful : LawfulSteps F known steps
-  pub blocked : Step
-  pub rest : Words
-  pub stands : ws ≡ stepWords steps ++ (wordsOf blocked ++ rest)
-  pub blocks : BlockedStep F (numberedClauses known steps) blocked
-  pub own-number : place ≡ suc (length (numberedClauses known steps))
 
 module _ (rules : Rules) (plain : PlainKinds rules) (S : Scope) (F : Formula) (D : Decides S F) (room : ℕ) where
   -- Steps that pass are lawful, and the words are theirs.

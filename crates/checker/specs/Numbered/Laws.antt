@@ -23,7 +23,7 @@ use Rattle.checker.specs.Words.{Words}
 use Rattle.formula.specs.Decode.{clausesOf, clauseAt}
 use Rattle.formula.specs.Decode.Places.{clauses-place}
 use Rattle.checker.specs.Steps.{antecedent}
-use Rattle.checker.specs.Reading.{statementOf}
+use Rattle.checker.specs.Read.{statementOf}
 use Rattle.checker.specs.Numbered.{numberOf, tableOf, placeOf, storedAt, stored, OffsetsFilled}
 
 -- An element by its place.

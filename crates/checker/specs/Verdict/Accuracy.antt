@@ -31,28 +31,16 @@ use Rattle.formula.specs.Refusal.Laws.{require-passed}
 use Rattle.checker.specs.Words.{Words}
 use Rattle.checker.specs.Steps.{Outcome, ended, refused, run}
 use Rattle.checker.specs.Steps.Tests.{opposite-zero}
-use Rattle.checker.specs.Lawful.{numberedClauses}
+use Rattle.checker.specs.Lawful.{numberedClauses, RunBlocked}
 use Rattle.checker.specs.Lawful.Laws.{numbered-length}
-use Rattle.checker.specs.Lawful.Steps.{run-lawful, lawful-run, run-blocked, RunEnds, RunBlocked}
-use Rattle.checker.specs.Derived.{AllDerived, lawful-steps-derived, derived-lost}
-use Rattle.checker.specs.Refutation.{Refutation, FirstEmpty}
+use Rattle.checker.specs.Lawful.Steps.{run-lawful, lawful-run, run-blocked, RunEnds}
+use Rattle.checker.specs.Derived.{AllDerived}
+use Rattle.checker.specs.Derived.Laws.{lawful-steps-derived, derived-lost}
+use Rattle.checker.specs.Refutation.{Refutation, FirstEmpty, Accepting}
 use Rattle.checker.specs.Refutation.FirstEmptyClause.{first-empty-sound, first-empty-complete, first-empty-member}
 use Rattle.checker.specs.Verdict.{scopeOf, firstEmpty, concluded, conclude, ifAdmitted, sizedVerdict, verdictOf}
 use Rattle.checker.specs.Verdict.TableScope.{scope-decides}
 use Rattle.checker.specs.Verdict.Early.{tables-early}
-
--- What an accepted verdict says: admitted tables, bounds and room, and a refutation; `empty` is the first empty clause's number,
--- `count` the number of steps.
-pub record Accepting (rules : Rules) (prefix clauses words : List ℤ) (scratch offsets empty count : ℕ) : Type 0 where
-  pub admitted : Admitted prefix clauses
-  pub sized : length words ≤ proofBound
-  pub scratch-fits : rules .scratch ≤ scratch
-  pub refutation : Refutation prefix clauses words
-  pub offsets-fit : length (numberedClauses (clausesOf clauses) (refutation .steps)) ≤ offsets
-  pub place : ℕ
-  pub place-numbered : empty ≡ suc place
-  pub first-empty : FirstEmpty (numberedClauses (clausesOf clauses) (refutation .steps)) place
-  pub counted : count ≡ length (refutation .steps)
 
 -- The order of refusals, taken apart.
 admitted-passed : (o : Option Refusal) (later v : Verdict) → ((r : Refusal) → o ≡ some r → v ≢ Refused r) → ifAdmitted o later ≡ v → (o ≡ none) × (later ≡ v)

@@ -9,8 +9,8 @@ use lib.IntN.{ℤ}
 use Rattle.formula.specs.Word.{wordOf}
 use Rattle.formula.specs.Refusal.{number}
 use Rattle.formula.specs.Tables.{isIn, listing, prefixWord, prefixRefusal, literalWord, clauseWord, clausesEnd, clausesRefusal, listedIn, sized, ifSized, firstRefusal, tablesRefusal}
-use Rattle.formula.specs.declared.literal.Word.{Word}
-use Rattle.formula.specs.declared.literal.Word.the-variants.{Zero, TooLarge, Positive, Negative}
+use Rattle.formula.specs.declared.word.Word.{Word}
+use Rattle.formula.specs.declared.word.Word.the-variants.{Zero, TooLarge, Positive, Negative}
 use Rattle.formula.specs.declared.refusal.Refusal.{Refusal}
 
 abbrev Early : Option Refusal → Type 0

@@ -18,18 +18,11 @@ use Rattle.checker.specs.declared.verdict.Verdict.{Verdict}
 use Rattle.checker.specs.declared.verdict.Verdict.the-variants.{Accepted, Refused}
 use Rattle.checker.specs.Rules.{plainRules}
 use Rattle.checker.specs.Rules.Laws.{plain-kinds}
-use Rattle.checker.specs.Lawful.{numberedClauses}
-use Rattle.checker.specs.Lawful.Steps.{RunBlocked}
+use Rattle.checker.specs.Lawful.{numberedClauses, RunBlocked}
 use Rattle.checker.specs.Refutation.{Refutation, FirstEmpty, Within}
 use Rattle.checker.specs.Refutation.FirstEmptyClause.{empty-first}
-use Rattle.checker.specs.Verdict.{verdictOf}
+use Rattle.checker.specs.Verdict.{verdictOf, IsAccepted}
 use Rattle.checker.specs.Verdict.Accuracy.{numbers-same, accepted-refutation, refutation-accepted, blocked-depends}
-
--- The verdict is accepted, with some numbers.
-pub record IsAccepted (v : Verdict) : Type 0 where
-  pub empty : ℕ
-  pub count : ℕ
-  pub accepted : v ≡ Accepted (record { 0 = empty }) count
 
 -- After lawful steps stands a reduction whose clause holds an existential that depends. No reason follows an empty clause here.
 pub refused-blocked-depends :

@@ -19,7 +19,7 @@ use Rattle.checker.specs.Words.{Words}
 use Rattle.checker.specs.Kinds.{kindsFrom, kindsOf}
 use Rattle.checker.specs.Step.{Ready}
 use Rattle.checker.specs.Kinds.Laws.{length-kinds}
-use Rattle.checker.specs.Running.{foundOf}
+use Rattle.checker.specs.Run.{foundOf}
 use Rattle.checker.specs.Verdict.{concluded}
 
 -- Parts of a cleared buffer.

@@ -22,7 +22,7 @@ use Rattle.formula.specs.Prefix.Laws.{quantifies-sound}
 use Rattle.formula.specs.Tables.{tablesRefusal, firstRefusal, Admitted}
 use Rattle.formula.specs.Word.{wordOf}
 use Rattle.formula.specs.declared.literal.Variable.{Variable}
-use Rattle.formula.specs.declared.literal.Word.the-variants.{Positive}
+use Rattle.formula.specs.declared.word.Word.the-variants.{Positive}
 use Rattle.formula.specs.declared.refusal.Refusal.{Refusal}
 use Rattle.formula.specs.declared.refusal.Reason.the-variants.{NoRoom, NotUniversal}
 use Rattle.dependency.specs.declared.answer.RowAnswer.the-variants.{Filled, Refused}

@@ -12,8 +12,8 @@ use lib.IntN.{ℤ, negℤ}
 use Rattle.formula.specs.Word.{wordOf, slot, slotOf, opposite}
 use Rattle.formula.specs.Word.Laws.{Recognised, nothing, names, recognised, opposite-word, slot-bound}
 use Rattle.dependency.specs.Marks.{select, several, seeAt, seeWord, clauseEntry, reachAt, reachWord}
-use Rattle.formula.specs.declared.literal.Word.{Word}
-use Rattle.formula.specs.declared.literal.Word.the-variants.{Zero, TooLarge, Positive, Negative}
+use Rattle.formula.specs.declared.word.Word.{Word}
+use Rattle.formula.specs.declared.word.Word.the-variants.{Zero, TooLarge, Positive, Negative}
 
 pub opposite-slot-bound : (w : ℤ) → slotOf (opposite (wordOf w)) < 2050
 opposite-slot-bound w = rw (← opposite-word w) (slot-bound (negℤ w))

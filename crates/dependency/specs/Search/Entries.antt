@@ -15,8 +15,8 @@ use Rattle.qbf.specs.Literal.{Literal, literal, Clause}
 use Rattle.formula.specs.Word.{wordOf, slot}
 use Rattle.formula.specs.Word.Laws.{signedWord, Recognised, nothing, names, recognised}
 use Rattle.formula.specs.Decode.{literalOf}
-use Rattle.formula.specs.declared.literal.Word.{Word}
-use Rattle.formula.specs.declared.literal.Word.the-variants.{Zero, TooLarge, Positive, Negative}
+use Rattle.formula.specs.declared.word.Word.{Word}
+use Rattle.formula.specs.declared.word.Word.the-variants.{Zero, TooLarge, Positive, Negative}
 use Rattle.dependency.specs.Marks.{select, several, seeAt, seeWord, clauseEntry}
 
 -- A literal's byte.

@@ -11,8 +11,8 @@ use lib.ListN.{getD, set}
 use lib.Dec.{eqb}
 use lib.IntN.{ℤ}
 use Rattle.formula.specs.Word.{wordOf, slot}
-use Rattle.formula.specs.declared.literal.Word.{Word}
-use Rattle.formula.specs.declared.literal.Word.the-variants.{Zero, TooLarge, Positive, Negative}
+use Rattle.formula.specs.declared.word.Word.{Word}
+use Rattle.formula.specs.declared.word.Word.the-variants.{Zero, TooLarge, Positive, Negative}
 use Rattle.dependency.specs.Marks.{select, reachAt, reachWord, clauseEntry, reachClause, pass}
 use Rattle.dependency.specs.Search.{ones}
 

@@ -11,7 +11,7 @@ use lib.Seq.{drop-cons, drop-drop}
 use lib.IntN.{ℤ, pos, negsuc}
 use Rattle.formula.specs.Word.{isZero}
 use Rattle.formula.specs.Word.Laws.{zero-sound, zero-apart}
-use Rattle.formula.specs.ClauseWords.{closeFrom}
+use Rattle.formula.specs.Words.{closeFrom}
 use Rattle.formula.specs.Decode.{clausesOf, firstClause, laterWords, clauseAt, wordsAfter}
 use Rattle.formula.specs.Decode.Laws.{first-clause-cons, later-words-cons, clauses-first}
 

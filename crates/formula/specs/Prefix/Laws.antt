@@ -20,7 +20,7 @@ use Rattle.formula.specs.Word.{wordOf}
 use Rattle.formula.specs.Word.Laws.{positive-word, negative-word, negative-bounded}
 use Rattle.formula.specs.Prefix.{entryOf, prefixOf, signedBy, entryWord, prefixWords, entryCount, entryAt, laterEntries, entryFits, putEntry, usedAfter, entryShown, isQuantifier, quantifies, Entries}
 use Rattle.formula.specs.declared.literal.Variable.{Variable}
-use Rattle.formula.specs.declared.literal.Word.the-variants.{Positive, Negative}
+use Rattle.formula.specs.declared.word.Word.the-variants.{Positive, Negative}
 use Rattle.formula.specs.declared.prefix.Entry.the-variants.{Existential, Universal}
 
 -- One entry a word.

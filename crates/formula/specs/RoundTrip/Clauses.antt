@@ -13,13 +13,13 @@ use lib.IntN.{ℤ, pos, negsuc, natAbs}
 use Rattle.formula.specs.Bounds.{variableBound, matrixBound}
 use Rattle.qbf.specs.Formula.{Prefix, listed}
 use Rattle.formula.specs.Prefix.{prefixWords}
-use Rattle.formula.specs.Word.{wordOf}
+use Rattle.formula.specs.Word.{wordOf, signed as withSign}
 use Rattle.formula.specs.Decode.Laws.{positive-magnitude}
 use Rattle.formula.specs.Tables.{isIn, zeros, literalWord, clauseWord, clausesEnd, clausesRefusal}
 use Rattle.formula.specs.Tables.Laws.{Kind, kind, closing, large, signed, clause-word-large, clause-word-literal}
-use Rattle.formula.specs.Writing.{wordText, clausesText}
+use Rattle.formula.specs.Write.Stream.{wordText, clausesText}
 use Rattle.formula.specs.Token.{placed, aWord, eWord}
-use Rattle.formula.specs.Text.{read, State, betweenSets, clauses, isWord, signed as withSign, openFrom, openClause, isOpen, literalRefusal, closingRefusal, clausesToken, step, clausesEnding, ending}
+use Rattle.formula.specs.Text.{read, State, betweenSets, clauses, isWord, openFrom, openClause, isOpen, literalReason, closingReason, clausesToken, step, clausesEnding, ending}
 use Rattle.formula.specs.Text.Clauses.Laws.{open-literal, open-closing, zeros-literal, zeros-closing}
 use Rattle.formula.specs.RoundTrip.Scan.{Takes, takes-none, takes-append, takes-token, number-begins, negative-begins}
 use Rattle.formula.specs.RoundTrip.Prefix.{zero-begins, space-blank, feed-blank}
@@ -112,7 +112,7 @@ module _ (prefixRoom clauseRoom v c : ℕ) (P : Prefix) where
   closes :
       (s : State) (done : List ℤ) → Among s done → Room done
       → Takes prefixRoom clauseRoom s (48 ∷ 10 ∷ []) (clauses v c P (done ++ (pos 0 ∷ [])))
-  unfolding closingRefusal
+  unfolding closingReason
   closes s done a r =
       takes-token prefixRoom clauseRoom 10
       (clauses v c P (done ++ (pos 0 ∷ [])))
@@ -126,7 +126,7 @@ module _ (prefixRoom clauseRoom v c : ℕ) (P : Prefix) where
       (s : State) (done : List ℤ) (w : ℤ) → Among s done → Room done → v ≤ variableBound
       → 1 ≤ natAbs w → natAbs w ≤ v → known (natAbs w) ≡ true → isIn (natAbs w) (openClause done) ≡ false
       → Takes prefixRoom clauseRoom s (wordText w) (clauses v c P (done ++ (w ∷ [])))
-  unfolding wordText literalRefusal
+  unfolding wordText literalReason
   puts s done (pos zero) a r b l h e f = absurd (omega arith)
   puts s done (pos (suc n)) a r b l h e f =
       takes-token prefixRoom clauseRoom 32

@@ -23,10 +23,10 @@ use Rattle.formula.specs.Tables.Laws.{
   admitted-entries,
   admitted-prefix-distinct,
 }
-use Rattle.formula.specs.Written.{written, headerText, largest, ifRoom, writingRefusal, answerWriting, textAfter, Writes}
-use Rattle.formula.specs.Writing.{clausesText}
-use Rattle.formula.specs.Written.Lines.{written-stream}
-use Rattle.formula.specs.Written.Length.{largest-bounded, written-fits}
+use Rattle.formula.specs.Write.{written, headerText, largest, ifRoom, writingRefusal, answerWriting, textAfter, Writes}
+use Rattle.formula.specs.Write.Stream.{clausesText}
+use Rattle.formula.specs.Write.Lines.{written-stream}
+use Rattle.formula.specs.Write.Length.{largest-bounded, written-fits}
 use Rattle.formula.specs.Token.{isBlank, leadFrom, between, tokensFrom, tokens}
 use Rattle.formula.specs.Text.{read, wantsP, betweenSets, openFrom, run, ending, reading, ReadPost}
 use Rattle.formula.specs.RoundTrip.{ReadBack}

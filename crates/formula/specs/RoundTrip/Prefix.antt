@@ -29,10 +29,10 @@ use Rattle.formula.specs.Prefix.Laws.{words-append, entry-room}
 use Rattle.formula.specs.Tables.{isIn}
 use Rattle.formula.specs.Tables.Laws.{is-in-absent}
 use Rattle.formula.specs.Decimal.{decimal}
-use Rattle.formula.specs.Written.{headerText, letterOf}
-use Rattle.formula.specs.Writing.{lineEnd, lineTurn, entryText, prefixText}
+use Rattle.formula.specs.Write.{headerText, letterOf}
+use Rattle.formula.specs.Write.Stream.{lineEnd, lineTurn, entryText, prefixText}
 use Rattle.formula.specs.Token.{isBlank, isDigit, grow, numeral, spell, pWord, cnfWord, aWord, eWord}
-use Rattle.formula.specs.Text.{State, wantsP, wantsCnf, wantsV, wantsC, betweenSets, inSet, variableRefusal, step}
+use Rattle.formula.specs.Text.{State, wantsP, wantsCnf, wantsV, wantsC, betweenSets, inSet, variableReason, step}
 use Rattle.formula.specs.RoundTrip.Scan.{Begins, begins-byte, grows-byte, begins-append, number-begins, Takes, takes-none, takes-append, takes-token}
 use Rattle.formula.specs.declared.token.Token.the-variants.{Natural, Word}
 
@@ -120,7 +120,7 @@ module _ (prefixRoom clauseRoom v c : ℕ) where
       (q : Quantifier) (filled : Bool) (done : Prefix) (n : ℕ)
       → 1 ≤ n → n ≤ v → v ≤ variableBound → isIn n (listed done) ≡ false → entryFits prefixRoom (length (prefixWords done)) ≡ true
       → Takes prefixRoom clauseRoom (inSet v c q filled done) (decimal n ++ (32 ∷ [])) (inSet v c q true (done ++ (entry n q ∷ [])))
-  unfolding step variableRefusal
+  unfolding step variableReason
   lists-variable q filled done zero p h b e r = absurd (omega arith)
   lists-variable q filled done (suc n) p h b e r =
       takes-token prefixRoom clauseRoom 32

@@ -13,7 +13,7 @@ use lib.Dec.{leb, ltb, eqb}
 use lib.IntN.{ℤ, pos}
 use Rattle.formula.specs.Bounds.{variableBound, countBound, matrixBound, textBound}
 use Rattle.qbf.specs.Formula.{Quantifier, existential, universal, entry, Prefix, listed}
-use Rattle.formula.specs.Word.{wordOf}
+use Rattle.formula.specs.Word.{wordOf, signed}
 use Rattle.formula.specs.Prefix.{entryWord, prefixWords, entryFits}
 use Rattle.formula.specs.Prefix.Laws.{words-listed, words-append, words-length}
 use Rattle.formula.specs.Refusal.{refusal, require, unless}
@@ -28,12 +28,13 @@ use Rattle.formula.specs.Tables.{
   Admitted,
 }
 use Rattle.formula.specs.Token.{pWord, cnfWord, aWord, eWord, Placed, tokens}
-use Rattle.formula.specs.Text.{read, refused, State, wantsP, wantsCnf, wantsV, wantsC, betweenSets, inSet, clauses, stopped, isWord, signed, openClause, openFrom, isOpen, headerNumber, opens, setToken, putLiteral, clauseToken, clausesToken, clausesEnding, step, run, ending, reading}
+use Rattle.formula.specs.Text.{read, refused, State, wantsP, wantsCnf, wantsV, wantsC, betweenSets, inSet, clauses, stopped, stoppedAt, isWord, openClause, openFrom, isOpen, headerNumber, opens, setToken, putLiteral, clauseToken, clausesToken, clausesEnding, step, run, ending, reading}
 use Rattle.formula.specs.Text.Laws.{variable-fine, literal-fine, closing-fine}
 use Rattle.formula.specs.Text.Distinct.{Apart, Ranged, ranged-in, apart-few}
 use Rattle.formula.specs.Text.Sets.Laws.{listed-snoc}
 use Rattle.formula.specs.Text.Clauses.Laws.{open-literal, open-closing, zeros-literal, zeros-closing}
 use Rattle.formula.specs.declared.refusal.Reason.the-variants.{Headless, Oversized, BadToken, Miscount}
+use Rattle.formula.specs.declared.refusal.Reason.{Reason}
 use Rattle.formula.specs.declared.refusal.Refusal.{Refusal}
 use Rattle.formula.specs.declared.token.Token.{Token}
 use Rattle.formula.specs.declared.token.Token.the-variants.{Natural, Negative, Word}
@@ -123,9 +124,9 @@ Sound (clauses v c P words) =
     (v ≤ variableBound) × (c ≤ countBound) × PrefixPasses v P × ClausesPass c P words
 Sound (stopped r) = Unit {0}
 
-unless-sound : (x : Option Refusal) (s : State) → (x ≡ none → Sound s) → Sound (unless stopped x s)
-unless-sound (some r) s h = tt
-unless-sound none s h = h refl
+unless-sound : (at : ℕ) (x : Option Reason) (s : State) → (x ≡ none → Sound s) → Sound (unless (stoppedAt at) x s)
+unless-sound at (some r) s h = tt
+unless-sound at none s h = h refl
 
 require-sound : (b : Bool) (r : Refusal) (s : State) → (b ≡ true → Sound s) → Sound (require b (stopped r) s)
 require-sound true r s h = h refl
@@ -141,23 +142,23 @@ module _ (prefixRoom clauseRoom : ℕ) where
   set-sound at v c q filled P (Natural zero) h =
       require-sound filled (refusal BadToken at) (betweenSets v c P) (λ e. h)
   set-sound at v c q filled P (Natural (suc n)) h =
-      unless-sound _ (inSet v c q true (P ++ (entry (suc n) q ∷ []))) λ e.
-      let f = variable-fine at v (suc n) (isIn (suc n) (listed P)) (entryFits prefixRoom (length (prefixWords P))) e in
+      unless-sound at _ (inSet v c q true (P ++ (entry (suc n) q ∷ []))) λ e.
+      let f = variable-fine v (suc n) (isIn (suc n) (listed P)) (entryFits prefixRoom (length (prefixWords P))) e in
       (h .0, h .1, prefix-more v P q (suc n) (h .0) (h .2) (λ z. omega arith) (f .inRange) (f .fresh))
   set-sound at v c q filled P (Negative n) h = tt
   set-sound at v c q filled P (Word w) h = tt
 
   literal-sound : (at v c : ℕ) (P : Prefix) (words : List ℤ) (positive : Bool) (n : ℕ) → Sound (clauses v c P words) → Sound (putLiteral prefixRoom clauseRoom at v c P words positive n)
   literal-sound at v c P words positive n h =
-      unless-sound _ (clauses v c P (words ++ (signed positive n ∷ []))) λ e.
-      let f = literal-fine at v n (isIn n (listed P)) (isIn n (openClause words)) (length words) clauseRoom e in
+      unless-sound at _ (clauses v c P (words ++ (signed positive n ∷ []))) λ e.
+      let f = literal-fine v n (isIn n (listed P)) (isIn n (openClause words)) (length words) clauseRoom e in
       let r = ranged-in v n (h .2 .seen) (h .2 .ranged) (h .2 .agrees n ∙ f .isBound) in
       (h .0, h .1, h .2, clauses-literal c P words positive n (h .3) (λ z. omega (arith, r .0)) (omega (arith, h .0, r .1)) (f .isBound) (f .apart) (f .short))
 
   clause-sound : (at v c : ℕ) (P : Prefix) (words : List ℤ) (t : Token) → zeros words < c → Sound (clauses v c P words) → Sound (clauseToken prefixRoom clauseRoom at v c P words t)
   clause-sound at v c P words (Natural zero) k h =
-      unless-sound _ (clauses v c P (words ++ (pos 0 ∷ []))) λ e.
-      let f = closing-fine at (length words) clauseRoom e in
+      unless-sound at _ (clauses v c P (words ++ (pos 0 ∷ []))) λ e.
+      let f = closing-fine (length words) clauseRoom e in
       (h .0, h .1, h .2, clauses-closing c P words (h .3) k (f .short))
   clause-sound at v c P words (Natural (suc n)) k h = literal-sound at v c P words true (suc n) h
   clause-sound at v c P words (Negative n) k h = literal-sound at v c P words false n h

@@ -11,12 +11,13 @@ use lib.ListN.{length, getD, set, take}
 use lib.Dec.{ltb, eqb}
 use Rattle.qbf.specs.Formula.{Prefix, listed}
 use Rattle.formula.specs.Bounds.{variableBound}
-use Rattle.formula.specs.Refusal.{refusal, require, unless}
+use Rattle.formula.specs.Refusal.{inText, require, unless}
 use Rattle.formula.specs.Prefix.{prefixWords}
 use Rattle.formula.specs.Tables.{isIn, zeros}
-use Rattle.formula.specs.Text.{read, refused, clauses, stopped, signed, openClause, isOpen, literalRefusal, closingRefusal, clauseToken, readingFrom}
+use Rattle.formula.specs.Word.{signed}
+use Rattle.formula.specs.Text.{read, refused, clauses, stoppedAt, openClause, isOpen, literalReason, closingReason, clauseToken, readingFrom}
 use Rattle.formula.specs.declared.refusal.Reason.the-variants.{Unfinished, Miscount}
-use Rattle.formula.specs.declared.refusal.Refusal.{Refusal}
+use Rattle.formula.specs.declared.refusal.Reason.{Reason}
 use Rattle.formula.specs.declared.token.Token.{Token}
 use Rattle.formula.specs.declared.clauses.ClauseStep.{ClauseStep}
 use Rattle.formula.specs.declared.clauses.ClauseStep.the-variants.{Literal, Closed, Refused as NoStep}
@@ -34,24 +35,24 @@ pub record Marked (marks : List ℕ) (P : Prefix) (words : List ℤ) (closed : �
   pub count : zeros words ≡ closed
 
 -- A literal of the variable n: refused, or written and marked.
-abbrev pub literalStep : Option Refusal → ClauseStep
+abbrev pub literalStep : Option Reason → ClauseStep
 literalStep x = unless NoStep x Literal
 
 -- By its variable's mark.
-abbrev pub markedRefusal : (at v n : ℕ) (marks : List ℕ) (closed used room : ℕ) → Option Refusal
-markedRefusal at v n marks closed used room = literalRefusal at v n (ltb 0 (getD marks n 0)) (eqb (getD marks n 0) (closed + 2)) used room
+abbrev pub markedReason : (v n : ℕ) (marks : List ℕ) (closed used room : ℕ) → Option Reason
+markedReason v n marks closed used room = literalReason v n (ltb 0 (getD marks n 0)) (eqb (getD marks n 0) (closed + 2)) used room
 
 abbrev pub LiteralStores : (n : ℕ) (positive : Bool) (used closed : ℕ) (table : List ℤ) (marks : List ℕ) (table′ : List ℤ) (marks′ : List ℕ) → ClauseStep → Type 0
 LiteralStores n positive used closed table marks table′ marks′ Literal = (table′ ≡ set table used (signed positive n)) × (marks′ ≡ set marks n (closed + 2))
 LiteralStores n positive used closed table marks table′ marks′ Closed = Unit {0}
 LiteralStores n positive used closed table marks table′ marks′ (NoStep r) = Unit {0}
 
-pub record LiteralPost (n place variables : ℕ) (positive : Bool) (used closed : ℕ) (table : List ℤ) (marks : List ℕ) (table′ : List ℤ) (marks′ : List ℕ) (answer : ClauseStep) : Type 0 where
-  pub answers : answer ≡ literalStep (markedRefusal place variables n marks closed used (length table))
+pub record LiteralPost (n variables : ℕ) (positive : Bool) (used closed : ℕ) (table : List ℤ) (marks : List ℕ) (table′ : List ℤ) (marks′ : List ℕ) (answer : ClauseStep) : Type 0 where
+  pub answers : answer ≡ literalStep (markedReason variables n marks closed used (length table))
   pub stores : LiteralStores n positive used closed table marks table′ marks′ answer
 
 -- A clause's closing 0: refused, or written.
-abbrev pub closingStep : Option Refusal → ClauseStep
+abbrev pub closingStep : Option Reason → ClauseStep
 closingStep x = unless NoStep x Closed
 
 abbrev pub ClosingStores : (used : ℕ) (table table′ : List ℤ) → ClauseStep → Type 0
@@ -59,32 +60,32 @@ ClosingStores used table table′ Literal = Unit {0}
 ClosingStores used table table′ Closed = table′ ≡ set table used (pos 0)
 ClosingStores used table table′ (NoStep r) = Unit {0}
 
-pub record ClosingPost (place used : ℕ) (table table′ : List ℤ) (answer : ClauseStep) : Type 0 where
-  pub answers : answer ≡ closingStep (closingRefusal place used (length table))
+pub record ClosingPost (used : ℕ) (table table′ : List ℤ) (answer : ClauseStep) : Type 0 where
+  pub answers : answer ≡ closingStep (closingReason used (length table))
   pub stores : ClosingStores used table table′ answer
 
--- A token of a clause: where the state goes, and what the marks then say; a word was left, or it is refused.
+-- A token of a clause, wherever it stands: where the state goes, and what the marks then say; a word was left, or it is refused.
 abbrev pub TokenStates : (token : Token) (place v used closed : ℕ) (table table′ : List ℤ) (marks′ : List ℕ) (prefixRoom c : ℕ) (P : Prefix) → ClauseStep → Type 0
 TokenStates token place v used closed table table′ marks′ prefixRoom c P Literal =
     (clauseToken prefixRoom (length table) place v c P (take used table) token ≡ clauses v c P (take (used + 1) table′)) × Marked marks′ P (take (used + 1) table′) closed × (isOpen (openClause (take (used + 1) table′)) ≡ true)
 TokenStates token place v used closed table table′ marks′ prefixRoom c P Closed =
     (clauseToken prefixRoom (length table) place v c P (take used table) token ≡ clauses v c P (take (used + 1) table′)) × Marked marks′ P (take (used + 1) table′) (closed + 1) × (isOpen (openClause (take (used + 1) table′)) ≡ false)
 TokenStates token place v used closed table table′ marks′ prefixRoom c P (NoStep r) =
-    clauseToken prefixRoom (length table) place v c P (take used table) token ≡ stopped r
+    clauseToken prefixRoom (length table) place v c P (take used table) token ≡ stoppedAt place r
 
 abbrev pub TokenStores : (used : ℕ) (table : List ℤ) (marks′ : List ℕ) → ClauseStep → Type 0
 TokenStores used table marks′ Literal = (used < length table) × (length marks′ ≡ variableBound + 1)
 TokenStores used table marks′ Closed = (used < length table) × (length marks′ ≡ variableBound + 1)
 TokenStores used table marks′ (NoStep r) = Unit {0}
 
-pub record ClauseTokenPost (token : Token) (place v used closed : ℕ) (table : List ℤ) (marks : List ℕ) (table′ : List ℤ) (marks′ : List ℕ) (answer : ClauseStep) : Type 0 where
-  pub states : (prefixRoom c : ℕ) (P : Prefix) → Marked marks P (take used table) closed → TokenStates token place v used closed table table′ marks′ prefixRoom c P answer
+pub record ClauseTokenPost (token : Token) (v used closed : ℕ) (table : List ℤ) (marks : List ℕ) (table′ : List ℤ) (marks′ : List ℕ) (answer : ClauseStep) : Type 0 where
+  pub states : (place prefixRoom c : ℕ) (P : Prefix) → Marked marks P (take used table) closed → TokenStates token place v used closed table table′ marks′ prefixRoom c P answer
   pub stores : TokenStores used table marks′ answer
 
 -- The text ends, after `size` bytes.
 abbrev pub clausesEnd : (size : ℕ) (clauseOpen missing : Bool) (used : ℕ) → ClausesAnswer
 clausesEnd size clauseOpen missing used =
-    require (not clauseOpen) (NoClauses (refusal Unfinished size)) (require (not missing) (NoClauses (refusal Miscount size)) (Clauses used))
+    require (not clauseOpen) (NoClauses (inText size Unfinished)) (require (not missing) (NoClauses (inText size Miscount)) (Clauses used))
 
 -- The clauses, from the byte after the sets on.
 abbrev pub ClausesPost : (text : List ℕ) (at v c prefixRoom : ℕ) (P : Prefix) (table table′ : List ℤ) → ClausesAnswer → Type 0

@@ -14,9 +14,9 @@ use Rattle.formula.specs.Text.{
   read,
   refused,
   openFrom,
-  variableRefusal,
-  literalRefusal,
-  closingRefusal,
+  variableReason,
+  literalReason,
+  closingReason,
   step,
   run,
   ending,
@@ -30,7 +30,7 @@ bytes (c then s) = code c ∷ bytes s
 
 -- With room for eight words in each table.
 unfoldable pub reads : String → Reading
-unfolding bytes entryWord prefixWords entryFits isIn zeros isDigit isBlank leadFrom numeral spell grow tokensFrom openFrom variableRefusal literalRefusal closingRefusal step run ending reading
+unfolding bytes entryWord prefixWords entryFits isIn zeros isDigit isBlank leadFrom numeral spell grow tokensFrom openFrom variableReason literalReason closingReason step run ending reading
 reads s = reading (bytes s) 8 8
 
 -- 01's two texts: bytes that part nothing glue into one token; a line end closes nothing.

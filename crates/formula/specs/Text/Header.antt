@@ -2,11 +2,10 @@
 pub mod Laws
 use Prim.Native.Nat.{ℕ, _≤_}
 use mathlib.Core.Path.{_≡_}
-use mathlib.Core.Option.{Option, none, some}
 use mathlib.Core.List.{List, []}
 use lib.Dec.{eqb}
 use Rattle.formula.specs.Bounds.{variableBound, countBound}
-use Rattle.formula.specs.Refusal.{refusal, require}
+use Rattle.formula.specs.Refusal.{inText, require}
 use Rattle.formula.specs.Text.{refused, State, betweenSets, readingFrom}
 use Rattle.formula.specs.declared.refusal.Reason.the-variants.{Headless}
 use Rattle.formula.specs.declared.token.Token.{Token}
@@ -15,26 +14,28 @@ use Rattle.formula.specs.declared.token.Next.{Next}
 use Rattle.formula.specs.declared.token.Next.the-variants.{End, Found}
 use Rattle.formula.specs.declared.header.Wanted.{Wanted}
 use Rattle.formula.specs.declared.header.Wanted.the-variants.{Word as WantsWord, Number as WantsNumber}
+use Rattle.formula.specs.declared.header.FieldValue.{FieldValue}
+use Rattle.formula.specs.declared.header.FieldValue.the-variants.{Value, Other}
 use Rattle.formula.specs.declared.header.FieldAnswer.{FieldAnswer}
 use Rattle.formula.specs.declared.header.FieldAnswer.the-variants.{Field, Refused as NoField}
 use Rattle.formula.specs.declared.header.HeaderAnswer.{HeaderAnswer}
 use Rattle.formula.specs.declared.header.HeaderAnswer.the-variants.{Header, Refused as NoHeader}
 
--- The value of a token that is what the header wants: 0 for a word, none for any other token.
-abbrev pub valueOf : Token → Wanted → Option ℕ
-valueOf (Natural n) (WantsWord w) = none
-valueOf (Natural n) WantsNumber = some n
-valueOf (Negative n) wanted = none
-valueOf (Word x) (WantsWord w) = require (eqb x w) none (some 0)
-valueOf (Word x) WantsNumber = none
+-- The value of a token that is what the header wants: 0 for a word.
+abbrev pub valueOf : Token → Wanted → FieldValue
+valueOf (Natural n) (WantsWord w) = Other
+valueOf (Natural n) WantsNumber = Value n
+valueOf (Negative n) wanted = Other
+valueOf (Word x) (WantsWord w) = require (eqb x w) Other (Value 0)
+valueOf (Word x) WantsNumber = Other
 
--- The same by the next token of a text of so many bytes.
-abbrev pub fieldOr : Option ℕ → (place next : ℕ) → FieldAnswer
-fieldOr none place next = NoField (refusal Headless place)
-fieldOr (some n) place next = Field n next
+-- What is found by the next token of a text of so many bytes.
+abbrev pub fieldOr : FieldValue → (place next : ℕ) → FieldAnswer
+fieldOr Other place next = NoField (inText place Headless)
+fieldOr (Value n) place next = Field n next
 
 unfoldable pub fieldFound : (size : ℕ) → Wanted → Next → FieldAnswer
-fieldFound size wanted End = NoField (refusal Headless size)
+fieldFound size wanted End = NoField (inText size Headless)
 fieldFound size wanted (Found t place next) = fieldOr (valueOf t wanted) place next
 
 -- The header, from the state s at the place `at` on.

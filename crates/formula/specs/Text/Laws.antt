@@ -13,7 +13,7 @@ use Rattle.formula.specs.Bounds.{matrixBound}
 use Rattle.formula.specs.Refusal.{require}
 use Rattle.formula.specs.Token.{Placed, placed, nextToken}
 use Rattle.formula.specs.Token.Laws.{FoundAt, no-token}
-use Rattle.formula.specs.Text.{refused, State, stopped, variableRefusal, literalRefusal, closingRefusal, step, run, ending, readingFrom}
+use Rattle.formula.specs.Text.{refused, State, stopped, variableReason, literalReason, closingReason, step, run, ending, readingFrom}
 use Rattle.formula.specs.declared.refusal.Refusal.{Refusal}
 use Rattle.formula.specs.declared.token.Token.{Token}
 use Rattle.formula.specs.declared.token.Next.the-variants.{End}
@@ -24,9 +24,9 @@ pub record VariableFine (v n : ℕ) (known fits : Bool) : Type 0 where
   pub fresh : known ≡ false
   pub room : fits ≡ true
 
-pub variable-fine : (at v n : ℕ) (known fits : Bool) → variableRefusal at v n known fits ≡ none → VariableFine v n known fits
-unfolding variableRefusal
-variable-fine at v n known fits e =
+pub variable-fine : (v n : ℕ) (known fits : Bool) → variableReason v n known fits ≡ none → VariableFine v n known fits
+unfolding variableReason
+variable-fine v n known fits e =
     let a = require-none (leb n v) _ _ e in
     let b = require-none (not known) _ _ (a .1) in
     let d = require-none fits _ none (b .1) in
@@ -40,9 +40,9 @@ pub record LiteralFine (v n : ℕ) (bound clash : Bool) (used room : ℕ) : Type
   pub apart : clash ≡ false
   pub fits : used < room
 
-pub literal-fine : (at v n : ℕ) (bound clash : Bool) (used room : ℕ) → literalRefusal at v n bound clash used room ≡ none → LiteralFine v n bound clash used room
-unfolding literalRefusal
-literal-fine at v n bound clash used room e =
+pub literal-fine : (v n : ℕ) (bound clash : Bool) (used room : ℕ) → literalReason v n bound clash used room ≡ none → LiteralFine v n bound clash used room
+unfolding literalReason
+literal-fine v n bound clash used room e =
     let a = require-none (leb n v) _ _ e in
     let b = require-none (ltb used matrixBound) _ _ (a .1) in
     let d = require-none bound _ _ (b .1) in
@@ -61,9 +61,9 @@ pub record ClosingFine (used room : ℕ) : Type 0 where
   pub short : used < matrixBound
   pub fits : used < room
 
-pub closing-fine : (at used room : ℕ) → closingRefusal at used room ≡ none → ClosingFine used room
-unfolding closingRefusal
-closing-fine at used room e =
+pub closing-fine : (used room : ℕ) → closingReason used room ≡ none → ClosingFine used room
+unfolding closingReason
+closing-fine used room e =
     let a = require-none (ltb used matrixBound) _ _ e in
     let b = require-none (ltb used room) _ none (a .1) in
     record { short = ltb-true used matrixBound (a .0); fits = ltb-true used room (b .0) }

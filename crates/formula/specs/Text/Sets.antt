@@ -11,12 +11,12 @@ use lib.ListN.{length, getD, set, take}
 use lib.Dec.{ltb}
 use Rattle.qbf.specs.Formula.{Quantifier, entry, Prefix, listed}
 use Rattle.formula.specs.Bounds.{variableBound}
-use Rattle.formula.specs.Refusal.{refusal, require, unless}
+use Rattle.formula.specs.Refusal.{require, unless}
 use Rattle.formula.specs.Prefix.{prefixOf, entryFits, putEntry, usedAfter}
 use Rattle.formula.specs.Tables.{isIn}
-use Rattle.formula.specs.Text.{refused, betweenSets, inSet, clauses, stopped, variableRefusal, setToken, readingFrom}
+use Rattle.formula.specs.Text.{refused, betweenSets, inSet, clauses, stoppedAt, variableReason, setToken, readingFrom}
 use Rattle.formula.specs.declared.refusal.Reason.the-variants.{BadToken}
-use Rattle.formula.specs.declared.refusal.Refusal.{Refusal}
+use Rattle.formula.specs.declared.refusal.Reason.{Reason}
 use Rattle.formula.specs.declared.token.Token.{Token}
 use Rattle.formula.specs.declared.sets.SetStep.{SetStep}
 use Rattle.formula.specs.declared.sets.SetStep.the-variants.{Listed as Lists, Closed as Closes, Refused as NoListing}
@@ -31,7 +31,7 @@ pub record Listed (marks : List ℕ) (P : Prefix) : Type 0 where
   pub small : (v : ℕ) → getD marks v 0 ≤ 1
 
 -- A variable n of a set: refused, or written and marked, `more` words being used then.
-abbrev pub listing : ℕ → Option Refusal → SetStep
+abbrev pub listing : ℕ → Option Reason → SetStep
 listing more x = unless NoListing x (Lists more)
 
 abbrev pub ListingStores : (n : ℕ) (q : Quantifier) (used : ℕ) (prefix : List ℤ) (marks : List ℕ) (prefix′ : List ℤ) (marks′ : List ℕ) → SetStep → Type 0
@@ -39,30 +39,30 @@ ListingStores n q used prefix marks prefix′ marks′ (Lists more) = (prefix′
 ListingStores n q used prefix marks prefix′ marks′ Closes = Unit {0}
 ListingStores n q used prefix marks prefix′ marks′ (NoListing r) = Unit {0}
 
-pub record ListingPost (n place variables : ℕ) (q : Quantifier) (used : ℕ) (prefix : List ℤ) (marks : List ℕ) (prefix′ : List ℤ) (marks′ : List ℕ) (answer : SetStep) : Type 0 where
-  pub answers : answer ≡ listing (usedAfter used) (variableRefusal place variables n (ltb 0 (getD marks n 0)) (entryFits (length prefix) used))
+pub record ListingPost (n variables : ℕ) (q : Quantifier) (used : ℕ) (prefix : List ℤ) (marks : List ℕ) (prefix′ : List ℤ) (marks′ : List ℕ) (answer : SetStep) : Type 0 where
+  pub answers : answer ≡ listing (usedAfter used) (variableReason variables n (ltb 0 (getD marks n 0)) (entryFits (length prefix) used))
   pub stores : ListingStores n q used prefix marks prefix′ marks′ answer
 
 -- A set's closing 0.
-abbrev pub setClosing : (filled : Bool) (place : ℕ) → SetStep
-setClosing filled place = require filled (NoListing (refusal BadToken place)) Closes
+abbrev pub setClosing : (filled : Bool) → SetStep
+setClosing filled = require filled (NoListing BadToken) Closes
 
--- A token of a set: where the state goes, and what stands in the prefix table and in the marks.
+-- A token of a set, wherever it stands: where the state goes, and what stands in the prefix table and in the marks.
 abbrev pub SetStates : (token : Token) (place v : ℕ) (q : Quantifier) (filled : Bool) (used : ℕ) (prefix prefix′ : List ℤ) (c clauseRoom : ℕ) → SetStep → Type 0
 SetStates token place v q filled used prefix prefix′ c clauseRoom (Lists more) =
     setToken (length prefix) clauseRoom place v c q filled (prefixOf (take used prefix)) token ≡ inSet v c q true (prefixOf (take more prefix′))
 SetStates token place v q filled used prefix prefix′ c clauseRoom Closes =
     setToken (length prefix) clauseRoom place v c q filled (prefixOf (take used prefix)) token ≡ betweenSets v c (prefixOf (take used prefix))
 SetStates token place v q filled used prefix prefix′ c clauseRoom (NoListing r) =
-    setToken (length prefix) clauseRoom place v c q filled (prefixOf (take used prefix)) token ≡ stopped r
+    setToken (length prefix) clauseRoom place v c q filled (prefixOf (take used prefix)) token ≡ stoppedAt place r
 
 abbrev pub SetStores : (used : ℕ) (prefix : List ℤ) (marks : List ℕ) (prefix′ : List ℤ) (marks′ : List ℕ) → SetStep → Type 0
 SetStores used prefix marks prefix′ marks′ (Lists more) = (used < more) × (more ≤ length prefix) × Listed marks′ (prefixOf (take more prefix′))
 SetStores used prefix marks prefix′ marks′ Closes = (prefix′ ≡ prefix) × (marks′ ≡ marks)
 SetStores used prefix marks prefix′ marks′ (NoListing r) = Unit {0}
 
-pub record SetTokenPost (token : Token) (place v : ℕ) (q : Quantifier) (filled : Bool) (used : ℕ) (prefix : List ℤ) (marks : List ℕ) (prefix′ : List ℤ) (marks′ : List ℕ) (answer : SetStep) : Type 0 where
-  pub states : (c clauseRoom : ℕ) → SetStates token place v q filled used prefix prefix′ c clauseRoom answer
+pub record SetTokenPost (token : Token) (v : ℕ) (q : Quantifier) (filled : Bool) (used : ℕ) (prefix : List ℤ) (marks : List ℕ) (prefix′ : List ℤ) (marks′ : List ℕ) (answer : SetStep) : Type 0 where
+  pub states : (place c clauseRoom : ℕ) → SetStates token place v q filled used prefix prefix′ c clauseRoom answer
   pub stores : SetStores used prefix marks prefix′ marks′ answer
 
 -- A set, from the byte after its letter on.

@@ -14,8 +14,8 @@ use Rattle.formula.specs.Bounds.{variableBound}
 use Rattle.formula.specs.Word.{positive, negative, wordOf, isZero, variableOf, slotOf, opposite, slotWith}
 use Rattle.formula.specs.Decode.{literalOf}
 use Rattle.formula.specs.declared.literal.Variable.{Variable}
-use Rattle.formula.specs.declared.literal.Word.{Word}
-use Rattle.formula.specs.declared.literal.Word.the-variants.{Zero, TooLarge, Positive, Negative}
+use Rattle.formula.specs.declared.word.Word.{Word}
+use Rattle.formula.specs.declared.word.Word.the-variants.{Zero, TooLarge, Positive, Negative}
 
 -- The test of a word that closes a clause, both ways.
 pub zero-sound : (w : ℤ) → isZero w ≡ true → w ≡ pos 0

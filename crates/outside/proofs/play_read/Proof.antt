@@ -10,7 +10,7 @@ use lib.IntN.{ℤ}
 use Rattle.formula.specs.Text.{Reading, read, refused, reading, readAnswer, prefixRead, clausesRead, padded, ReadPost}
 use Rattle.formula.specs.declared.read.ReadAnswer.{ReadAnswer}
 use Rattle.formula.specs.declared.read.ReadAnswer.the-variants.{Read, Refused}
-use Rattle.report.specs.Settled.Laws.{padded-within}
+use Rattle.report.specs.Settle.Laws.{padded-within}
 use Rattle.outside.proofs.play_read.Statement.{statement}
 use Rattle.outside.proofs.play_read.Tie as tie
 

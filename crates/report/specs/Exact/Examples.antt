@@ -14,11 +14,11 @@ use mir.Val.{SFits}
 use Rattle.qbf.specs.Connectives.{and-both}
 use Rattle.formula.specs.Prefix.{prefixOf}
 use Rattle.formula.specs.Tables.{zeros, Admitted}
-use Rattle.formula.specs.Written.{written}
-use Rattle.formula.specs.Written.Examples.{written-example}
+use Rattle.formula.specs.Write.{written}
+use Rattle.formula.specs.Write.Examples.{written-example}
 use Rattle.formula.specs.RoundTrip.Laws.{written-read}
-use Rattle.checker.specs.ProofFile.Layout.{fileOf}
-use Rattle.checker.specs.ProofFile.Layout.Laws.{file-of-length}
+use Rattle.checker.specs.File.Layout.{fileOf}
+use Rattle.checker.specs.File.Layout.Laws.{file-of-length}
 use Rattle.checker.specs.Rules.{plainRules}
 use Rattle.checker.specs.Rules.Laws.{plain-kinds}
 use Rattle.checker.specs.Refutation.Examples.{example-refutation}

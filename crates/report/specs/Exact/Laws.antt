@@ -14,11 +14,11 @@ use Rattle.formula.specs.Text.{read}
 use Rattle.formula.specs.Text.Admits.{read-admitted}
 use Rattle.formula.specs.declared.refusal.Refusal.{Refusal}
 use Rattle.dependency.specs.Scratch.{scratchBound}
-use Rattle.checker.specs.ProofFile.{trailerStart, distance, proofReading}
-use Rattle.checker.specs.ProofFile.{read as readSteps}
-use Rattle.checker.specs.ProofFile.Passed.{Bytes}
-use Rattle.checker.specs.ProofFile.Laws.{read-fits}
-use Rattle.checker.specs.ProofFile.Layout.Laws.{file-of-length, layout-read, read-layout}
+use Rattle.checker.specs.File.{trailerStart, distance, proofReading}
+use Rattle.checker.specs.File.{read as readSteps}
+use Rattle.checker.specs.File.Passed.{Bytes}
+use Rattle.checker.specs.File.Laws.{read-fits}
+use Rattle.checker.specs.File.Layout.Laws.{file-of-length, layout-read, read-layout}
 use Rattle.checker.specs.declared.verdict.Verdict.the-variants.{Accepted}
 use Rattle.checker.specs.Lawful.{numberedClauses}
 use Rattle.checker.specs.Refutation.{FirstEmpty}
@@ -30,7 +30,7 @@ use Rattle.checker.specs.Verdict.{verdictOf}
 use Rattle.checker.specs.Verdict.Accuracy.{accepted-refutation, refutation-accepted}
 use Rattle.report.specs.Line.{acceptedLine, refusedLine, fileBound, settled}
 use Rattle.report.specs.Check.{Room, settledProof, stepsLine, checkLine}
-use Rattle.report.specs.Checking.Laws.{read-line, made-from}
+use Rattle.report.specs.Check.Laws.{read-line, made-from}
 use Rattle.report.specs.Program.{programRoom}
 use Rattle.report.specs.Exact.{AcceptedLine, Refuting, FilesWithin}
 

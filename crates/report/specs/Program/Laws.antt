@@ -14,7 +14,7 @@ use Rattle.formula.specs.declared.read.ReadAnswer.{ReadAnswer}
 use Rattle.report.specs.Line.{settled, used, held}
 use Rattle.report.specs.Check.{Room, proofLine, checkLine, LineChecked}
 use Rattle.report.specs.Dependents.{dependencyText, LinesPrinted}
-use Rattle.report.specs.Settled.{tablesRead, FormulaSettled}
+use Rattle.report.specs.Settle.{tablesRead, FormulaSettled}
 use Rattle.report.specs.Program.{programRoom, Whole, ProgramLine, ProgramText, isRead, formulaRead}
 
 -- A text that is no longer than the buffer is printed whole.

@@ -1,4 +1,4 @@
--- `qdr_row` tells what `dependency_row` answered, whose number is a word read back from its bits. Assumes nothing.
+-- `qdr_row` tells that the row is filled, or the refusal; the variable's word is read back from its bits. Assumes nothing.
 use mathlib.Core.Path.{_≡_}
 use mir.Syntax.{w32}
 use mir.Val.{toZ, ofZ}
@@ -8,12 +8,30 @@ use Rattle.capi.proofs.tables.qdr_row.Tie as tie
 
 returns : tie.Need-returns
 returns c =
-    let made = c .before .before .before .before .before .before in
+    let made = c .before .before .before .before .before .before .before .before in
     let v = made .before .before .before .before .before .args .variable in
     let e : toZ w32 (ofZ w32 v) ≡ v = search needs in
-    record { answer = made .dependency-row .result; promised = rw e at (made .dependency-row .ensures); told = c .tell-row .ensures }
+    record { answer = made .dependency-row .result; promised = rw e at (made .dependency-row .ensures); told = rw (c .before .before .enum-told .given .1) (c .accept .ensures) }
+
+returns-2 : tie.Need-returns-2
+returns-2 c =
+    let made = c .before .before .before .before .before .before .before .before .before in
+    let v = made .before .before .before .before .before .args .variable in
+    let e : toZ w32 (ofZ w32 v) ≡ v = search needs in
+    record { answer = made .dependency-row .result; promised = rw e at (made .dependency-row .ensures); told = rw (c .before .before .before .r .given .1) (c .refuse .ensures) }
 
 pub qdr-row-spec : {M : Type 1} → statement M
 qdr-row-spec =
     tie.close
-    (tie.spec (λ c κs. search needs) (λ c κs. search needs) (λ c. search needs) (λ c. search needs) returns)
+    (tie.spec
+    (λ c κs. search needs)
+    (λ c. search needs)
+    (λ c κs. search needs)
+    (λ c. search needs)
+    (λ c κs. search needs)
+    (λ c. search needs)
+    (λ c. search needs)
+    returns
+    (λ c. search needs)
+    (λ c. search needs)
+    returns-2)

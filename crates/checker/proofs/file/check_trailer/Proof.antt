@@ -10,9 +10,9 @@ use Rattle.formula.specs.Bounds.{proofBound, proofFit}
 use Rattle.formula.specs.Bounds.Laws.{fit-made, fit-refused}
 use Rattle.formula.specs.declared.bounds.ProofLength.{ProofLength}
 use Rattle.formula.specs.declared.bounds.ProofFit.the-variants.{Within, Oversized}
-use Rattle.checker.specs.ProofFile.{hasTrailer, distance, clauseCount, stepCount}
+use Rattle.checker.specs.File.{hasTrailer, distance, clauseCount, stepCount}
 use Rattle.checker.specs.declared.file.ProofAnswer.the-variants.{Read}
-use Rattle.checker.specs.ProofFile.Laws.{trailer-of, refusal-no-trailer, refusal-oversized, refusal-other-formula, refusal-no-room, refusal-none}
+use Rattle.checker.specs.File.Laws.{trailer-of, refusal-no-trailer, refusal-oversized, refusal-other-formula, refusal-no-room, refusal-none}
 use Rattle.checker.proofs.file.check_trailer.Statement.{statement}
 use Rattle.checker.proofs.file.check_trailer.Tie as tie
 

@@ -8,8 +8,8 @@ use lib.ListN.{length, take, drop, length-set}
 use lib.Seq.{drop-set-lt}
 use mir.Syntax.{w32}
 use mir.Val.{toZ, ofZ}
-use Rattle.checker.specs.ProofFile.{numberAt, wordsOf}
-use Rattle.checker.specs.ProofFile.Laws.{copy-step, copy-end}
+use Rattle.checker.specs.File.{numberAt, wordsOf}
+use Rattle.checker.specs.File.Laws.{copy-step, copy-end}
 use Rattle.checker.proofs.file.copy_words.Statement.{statement}
 use Rattle.checker.proofs.file.copy_words.Tie as tie
 

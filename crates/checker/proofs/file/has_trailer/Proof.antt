@@ -3,8 +3,8 @@ use Prim.Native.Nat.{_%_}
 use mathlib.Core.Path.{sym, ap, _∙_}
 use borrow.Author.Needs.{needs}
 use lib.Dec.{leb}
-use Rattle.checker.specs.ProofFile.{trailerStart}
-use Rattle.checker.specs.ProofFile.Laws.{trailer-short, trailer-unmarked, trailer-uneven, trailer-within}
+use Rattle.checker.specs.File.{trailerStart}
+use Rattle.checker.specs.File.Laws.{trailer-short, trailer-unmarked, trailer-uneven, trailer-within}
 use Rattle.checker.proofs.file.has_trailer.Statement.{statement}
 use Rattle.checker.proofs.file.has_trailer.Tie as tie
 

@@ -4,7 +4,7 @@ use mathlib.Core.Path.{ap, _∙_}
 use native.Mathlib.Omega.{arith}
 use borrow.Author.Needs.{needs}
 use lib.Dec.{eqb}
-use Rattle.checker.specs.ProofFile.Laws.{mark-number}
+use Rattle.checker.specs.File.Laws.{mark-number}
 use Rattle.checker.proofs.file.mark_at.Statement.{statement}
 use Rattle.checker.proofs.file.mark_at.Tie as tie
 

@@ -1,7 +1,7 @@
 -- `number4`: four bytes are below 2³², so nothing wraps. Assumes nothing.
 use mathlib.Core.Path.{refl}
 use borrow.Author.Needs.{needs}
-use Rattle.checker.specs.ProofFile.{number4}
+use Rattle.checker.specs.File.{number4}
 use Rattle.checker.proofs.file.number4.Statement.{statement}
 use Rattle.checker.proofs.file.number4.Tie as tie
 

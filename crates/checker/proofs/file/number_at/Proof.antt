@@ -1,6 +1,6 @@
 -- `number_at` reads four bytes within the slice. Assumes nothing.
 use borrow.Author.Needs.{needs}
-use Rattle.checker.specs.ProofFile.{numberAt}
+use Rattle.checker.specs.File.{numberAt}
 use Rattle.checker.proofs.file.number_at.Statement.{statement}
 use Rattle.checker.proofs.file.number_at.Tie as tie
 

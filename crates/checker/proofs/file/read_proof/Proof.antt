@@ -7,9 +7,9 @@ use borrow.Author.Needs.{needs}
 use lib.IntN.{pos}
 use lib.ListN.{length, take, drop}
 use Rattle.formula.specs.Clear.{clearFrom}
-use Rattle.checker.specs.ProofFile.{wordsOf, trailerStart, stepBytes, stepCount, proofRefusal}
-use Rattle.checker.specs.ProofFile.Passed.{Counted}
-use Rattle.checker.specs.ProofFile.Laws.{length-answer-refused, step-bytes-length, counted-of, counted-distance, counted-bytes, read-refused, read-whole}
+use Rattle.checker.specs.File.{wordsOf, trailerStart, stepBytes, stepCount, proofRefusal}
+use Rattle.checker.specs.File.Passed.{Counted}
+use Rattle.checker.specs.File.Laws.{length-answer-refused, step-bytes-length, counted-of, counted-distance, counted-bytes, read-refused, read-whole}
 use Rattle.checker.proofs.file.read_proof.Statement.{statement}
 use Rattle.checker.proofs.file.read_proof.Tie as tie
 

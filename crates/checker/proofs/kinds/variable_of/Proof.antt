@@ -3,7 +3,7 @@ use mathlib.Core.Path.{_≡_, ap, sym, _∙_}
 use borrow.Author.Needs.{needs}
 use borrow.Author.Tests.{eq-eqb, ne-eqb}
 use Rattle.formula.specs.Word.{wordOf}
-use Rattle.formula.specs.declared.literal.Word.the-variants.{Positive, Negative}
+use Rattle.formula.specs.declared.word.Word.the-variants.{Positive, Negative}
 use Rattle.checker.specs.Kinds.{fitOf}
 use Rattle.checker.proofs.Signed.{read-word, positive-bound, negative-bound}
 use Rattle.checker.proofs.kinds.variable_of.Statement.{statement}

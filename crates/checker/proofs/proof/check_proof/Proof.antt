@@ -1,6 +1,6 @@
 -- `check_proof` judges and clears. Assumes nothing.
 use Prim.Native.Nat.{ℕ}
-use mathlib.Core.Path.{ap, sym, _∙_}
+use mathlib.Core.Path.{ap, _∙_}
 use lib.ListN.{length, replicate}
 use borrow.Author.Needs.{needs}
 use Rattle.checker.specs.Rules.{plainRules}
@@ -21,7 +21,7 @@ returns c =
       verdict = judged .judge-proof .ensures;
       scratch-cleared = cleared .clear-lent .ensures .0 ∙ ap (λ (n : ℕ). replicate {A = ℕ} n 0) (judged .judge-proof .kept .1 .1 .1 .0);
       offsets-cleared = cleared .clear-lent .ensures .1 ∙ ap (λ (n : ℕ). replicate {A = ℕ} n 0) (judged .judge-proof .kept .1 .1 .1 .1 .0);
-      lost = λ empty count e. accepted-lost plainRules plain-kinds prefix clauses steps (length (start .args .scratch .now)) (length (start .args .offsets .now)) (empty .0) count (sym (judged .judge-proof .ensures) ∙ e);
+      lost = λ empty count e. accepted-lost plainRules plain-kinds prefix clauses steps (length (start .args .scratch .now)) (length (start .args .offsets .now)) (empty .0) count (rw (judged .judge-proof .ensures) at e);
     }
 
 pub check-proof-spec : {M : Type 1} → statement M

@@ -1,5 +1,5 @@
 -- `conclude_run` by the first empty clause. Assumes nothing.
-use mathlib.Core.Path.{ap, sym, _∙_}
+use mathlib.Core.Path.{ap, _∙_}
 use borrow.Author.Needs.{needs}
 use Rattle.checker.specs.declared.verdict.Verdict.the-variants.{Refused as VerdictRefused}
 use Rattle.checker.specs.Numbered.{stored}
@@ -12,13 +12,13 @@ use Rattle.checker.proofs.proof.conclude_run.Tie as tie
 returns : tie.Need-returns
 returns c =
     let start = c .before .before .before .before .before in
-    concluded-found (start .args .inputs) (start .args .numbered) (stored (start .args .inputs) (start .args .clauses .now) (start .args .steps .now) (start .args .offsets .now) (start .args .numbered)) (firstEmpty 1 (stored (start .args .inputs) (start .args .clauses .now) (start .args .steps .now) (start .args .offsets .now) (start .args .numbered))) (c .before .number .given .0 .0) (stored-length (start .args .inputs) (start .args .clauses .now) (start .args .steps .now) (start .args .offsets .now) (start .args .numbered)) (sym (c .before .number .given .1) ∙ c .before .before .before .first-empty .ensures)
+    concluded-found (start .args .inputs) (start .args .numbered) (stored (start .args .inputs) (start .args .clauses .now) (start .args .steps .now) (start .args .offsets .now) (start .args .numbered)) (firstEmpty 1 (stored (start .args .inputs) (start .args .clauses .now) (start .args .steps .now) (start .args .offsets .now) (start .args .numbered))) (c .before .number .given .0 .0) (stored-length (start .args .inputs) (start .args .clauses .now) (start .args .steps .now) (start .args .offsets .now) (start .args .numbered)) (rw (c .before .number .given .1) at (c .before .before .before .first-empty .ensures))
 
 returns-2 : tie.Need-returns-2
 returns-2 c =
     let start = c .before .before .before .before .before in
     ap VerdictRefused (c .new .ensures)
-    ∙ concluded-nothing (start .args .inputs) (start .args .numbered) (stored (start .args .inputs) (start .args .clauses .now) (start .args .steps .now) (start .args .offsets .now) (start .args .numbered)) (firstEmpty 1 (stored (start .args .inputs) (start .args .clauses .now) (start .args .steps .now) (start .args .offsets .now) (start .args .numbered))) (stored-length (start .args .inputs) (start .args .clauses .now) (start .args .steps .now) (start .args .offsets .now) (start .args .numbered)) (sym (c .before .enum-told .given .1) ∙ c .before .before .before .first-empty .ensures)
+    ∙ concluded-nothing (start .args .inputs) (start .args .numbered) (stored (start .args .inputs) (start .args .clauses .now) (start .args .steps .now) (start .args .offsets .now) (start .args .numbered)) (firstEmpty 1 (stored (start .args .inputs) (start .args .clauses .now) (start .args .steps .now) (start .args .offsets .now) (start .args .numbered))) (stored-length (start .args .inputs) (start .args .clauses .now) (start .args .steps .now) (start .args .offsets .now) (start .args .numbered)) (rw (c .before .enum-told .given .1) at (c .before .before .before .first-empty .ensures))
 
 pub conclude-run-spec : {M : Type 1} → statement M
 conclude-run-spec =

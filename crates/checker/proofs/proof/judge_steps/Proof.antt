@@ -1,24 +1,35 @@
 -- `judge_steps`: the scratch is made ready, the offsets are filled, the run is concluded. Assumes nothing.
+use Prim.Native.Nat.{ℕ}
 use mathlib.Core.Path.{_≡_, sym, _∙_}
-use mathlib.Core.List.{_++_}
+use mathlib.Core.List.{List, _++_}
 use native.Mathlib.Omega.{arith}
 use lib.ListN.{length, take, drop}
 use Rattle.formula.specs.Decode.{clausesOf}
 use Rattle.formula.specs.Tables.Laws.{admitted-entries, admitted-clauses-length, admitted-closed}
-use borrow.Author.Needs.{needs}
+use borrow.Rule.Slice.PartMut.{same-len-mid, mid-len}
 use Rattle.checker.specs.declared.run.Run.the-variants.{Ended}
 use Rattle.checker.specs.Step.{Ready}
-use Rattle.checker.specs.Running.{RunDone}
+use Rattle.checker.specs.Run.{RunDone}
 use Rattle.checker.specs.Verdict.Parts.{made-ready}
 use Rattle.checker.proofs.proof.judge_steps.Statement.{statement}
 use Rattle.checker.proofs.proof.judge_steps.Tie as tie
 
 -- the scratch before the run
-ready-at : (c : tie.After-fill-offsets) → Ready (c .before .before .before .before .before .before .before .before .before .before .before .before .before .before .before .args .prefix .now) (take 8200 (take 7175 (c .before .before .before .before .before .before .before .before .before .before .clear-lent .last .0) ++ (c .before .before .before .before .fill-kinds .last .1 .0 ++ drop 1025 (drop 7175 (c .before .before .before .before .before .before .before .before .before .before .clear-lent .last .0)))))
+abbrev filled-at : (c : tie.After-fill-offsets) → List ℕ
+filled-at c = let cleared = c .before .before .before .before .before .before .before .before .before .before .clear-lent .last .0 in take 7175 cleared ++ (c .before .before .before .before .fill-kinds .last .1 .0 ++ drop 1025 (drop 7175 cleared))
+
+ready-at : (c : tie.After-fill-offsets) → Ready (c .before .before .before .before .before .before .before .before .before .before .before .before .before .before .before .args .prefix .now) (take 8200 (filled-at c))
 ready-at c =
     let start = c .before .before .before .before .before .before .before .before .before .before .before .before .before .before .before in
     let cleared = c .before .before .before .before .before .before .before .before .before .before in
     made-ready (start .args .prefix .now) (start .args .scratch .now) (cleared .clear-lent .last .0) (c .before .before .before .before .fill-kinds .last .1 .0) (start .pre .1 .1 .1 .0) (cleared .clear-lent .ensures .0) (c .before .before .before .before .fill-kinds .ensures)
+
+-- the scratch keeps its length, before the run and after it
+filled-size : (c : tie.After-fill-offsets) → length (filled-at c) ≡ length (c .before .before .before .before .before .before .before .before .before .before .before .before .before .before .before .args .scratch .now)
+filled-size c = same-len-mid 7175 1025 (c .before .before .before .before .before .before .before .before .before .before .clear-lent .last .0) (c .before .before .before .before .fill-kinds .last .1 .0) (c .before .before .before .before .fill-kinds .kept .1 .0) ∙ c .before .before .before .before .before .before .before .before .before .before .clear-lent .kept .0
+
+scratch-at : (c : tie.After-run-steps) → length (c .run-steps .last .1 .1 .1 .1 .0 ++ drop 8200 (filled-at (c .before .before .before .before .before))) ≡ length (c .before .before .before .before .before .before .before .before .before .before .before .before .before .before .before .before .before .before .before .before .args .scratch .now)
+scratch-at c = same-len-mid 0 8200 (filled-at (c .before .before .before .before .before)) (c .run-steps .last .1 .1 .1 .1 .0) (c .run-steps .kept .1 .1 .1 .1 .0) ∙ filled-size (c .before .before .before .before .before)
 
 -- the offsets keep their length
 room-at : (c : tie.After-run-steps) → length (c .run-steps .last .1 .1 .1 .1 .1 .0) ≡ length (c .before .before .before .before .before .before .before .before .before .before .before .before .before .before .before .before .before .before .before .before .args .offsets .now)
@@ -29,7 +40,7 @@ ended-at : (c : tie.After-known-told2) → let start = c .before .before .before
 ended-at c = rw (c .before .numbered .given .1) at (c .before .before .before .before .before .before .before .run-steps .ensures)
 
 fill-kinds-requires : tie.Need-fill-kinds-requires
-fill-kinds-requires c κs = let start = c .before .before .before .before .before .before .before .before .before .before in (admitted-entries (start .args .prefix .now) (start .args .clauses .now) (start .pre .0), search needs)
+fill-kinds-requires c κs = let start = c .before .before .before .before .before .before .before .before .before .before in (admitted-entries (start .args .prefix .now) (start .args .clauses .now) (start .pre .0), mid-len 7175 8200 (c .before .before .before .before .before .clear-lent .last .0) (rw (c .before .before .before .before .before .clear-lent .kept .0) (start .pre .1 .1 .1 .0)))
 
 fill-offsets-requires : tie.Need-fill-offsets-requires
 fill-offsets-requires c κs =
@@ -83,21 +94,21 @@ pub judge-steps-spec : {M : Type 1} → statement M
 judge-steps-spec =
     tie.close
     (tie.spec
-    (λ c κs. search needs)
-    (λ c. search needs)
-    (λ c. search needs)
-    (λ c. search needs)
+    (λ c κs. tt)
+    (λ c. omega arith)
+    (λ c. omega arith)
+    (λ c. rw (c .before .before .before .before .clear-lent .kept .0) (c .before .before .before .before .before .before .before .before .before .pre .1 .1 .1 .0))
     fill-kinds-requires
     fill-offsets-requires
-    (λ c. search needs)
+    (λ c. rw (filled-size (c .before .before)) (c .before .before .before .before .before .before .before .before .before .before .before .before .before .before .before .before .before .pre .1 .1 .1 .0))
     slice-aggregate-run-steps
     run-steps-requires
-    (λ c. search needs)
-    (λ c. search needs)
+    (λ c. c .match .keys1)
+    (λ c. c .match .keys2)
     conclude-run-requires
-    (λ c. search needs)
-    (λ c. search needs)
+    (λ c. scratch-at (c .before .before .before .before .before .before .before))
+    (λ c. room-at (c .before .before .before .before .before .before .before))
     returns
-    (λ c. search needs)
-    (λ c. search needs)
+    (λ c. scratch-at (c .before .before .before .before .before .before .before .before .before))
+    (λ c. room-at (c .before .before .before .before .before .before .before .before .before))
     returns-2)

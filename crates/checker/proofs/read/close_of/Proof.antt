@@ -1,6 +1,6 @@
 -- `close_of`: the clause is closed where its end is within the words. Assumes nothing.
 use borrow.Author.Needs.{needs}
-use Rattle.checker.specs.Reading.Laws.{close-found, close-missing}
+use Rattle.checker.specs.Read.Laws.{close-found, close-missing}
 use Rattle.checker.proofs.read.close_of.Statement.{statement}
 use Rattle.checker.proofs.read.close_of.Tie as tie
 

@@ -1,6 +1,6 @@
 -- `kind_of` compares with 1 and 2. Assumes nothing.
 use borrow.Author.Needs.{needs}
-use Rattle.checker.specs.Reading.Laws.{kind-resolves, kind-reduces, kind-other}
+use Rattle.checker.specs.Read.Laws.{kind-resolves, kind-reduces, kind-other}
 use Rattle.checker.proofs.Signed.{read-number}
 use Rattle.checker.proofs.read.kind_of.Statement.{statement}
 use Rattle.checker.proofs.read.kind_of.Tie as tie

@@ -6,8 +6,8 @@ use borrow.Author.Needs.{needs}
 use lib.ListN.{length, getD, drop}
 use lib.IntN.{ℤ, pos}
 use Rattle.checker.specs.declared.read.Kind.the-variants.{Resolves, Reduces}
-use Rattle.checker.specs.Reading.{kindIs, closedAt}
-use Rattle.checker.specs.Reading.Laws.{statement-resolves, statement-reduces, close-within, resolution-read, reduction-read, resolution-broken, reduction-broken, kind-broken}
+use Rattle.checker.specs.Read.{kindIs, closedAt}
+use Rattle.checker.specs.Read.Laws.{statement-resolves, statement-reduces, close-within, resolution-read, reduction-read, resolution-broken, reduction-broken, kind-broken}
 use Rattle.checker.proofs.Signed.{read-back}
 use Rattle.checker.proofs.read.read_step.Statement.{statement}
 use Rattle.checker.proofs.read.read_step.Tie as tie

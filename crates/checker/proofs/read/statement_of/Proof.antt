@@ -3,8 +3,8 @@ use mathlib.Core.Path.{_≡_, ap, sym, _∙_}
 use borrow.Author.Needs.{needs}
 use lib.ListN.{getD}
 use lib.IntN.{pos}
-use Rattle.checker.specs.Reading.{kindIs}
-use Rattle.checker.specs.Reading.Laws.{statement-resolves, statement-reduces, statement-other, statement-past}
+use Rattle.checker.specs.Read.{kindIs}
+use Rattle.checker.specs.Read.Laws.{statement-resolves, statement-reduces, statement-other, statement-past}
 use Rattle.checker.proofs.Signed.{read-back}
 use Rattle.checker.proofs.read.statement_of.Statement.{statement}
 use Rattle.checker.proofs.read.statement_of.Tie as tie

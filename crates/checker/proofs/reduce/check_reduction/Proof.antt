@@ -1,6 +1,6 @@
 -- `check_reduction` finds the antecedent. Assumes nothing.
 use Prim.Native.Nat.{_-_, _≤_}
-use mathlib.Core.Path.{_≡_, refl, ap₂, sym, _∙_}
+use mathlib.Core.Path.{_≡_, refl, sym, _∙_}
 use native.Mathlib.Omega.{arith}
 use mir.Syntax.{w32}
 use mir.Val.{toZ, ofZ}
@@ -28,8 +28,7 @@ number-at c =
 clause-at : (c : tie.After-place-of) → clauseAt (c .before .table-of .result .now) (c .place-of .result) ≡ storedAt (c .before .before .before .before .before .before .before .before .before .args .inputs) (c .before .before .before .before .before .before .before .before .before .args .clauses .now) (c .before .before .before .before .before .before .before .before .before .args .steps .now) (c .before .before .before .before .before .before .before .before .before .args .offsets .now) (c .before .before .before .number .given .0 .0 .0 - 1)
 clause-at c =
     let start = c .before .before .before .before .before .before .before .before .before in
-    ap₂ clauseAt (c .before .table-of .ensures) (c .place-of .ensures)
-    ∙ sym (stored-by-number (start .args .inputs) (start .args .clauses .now) (start .args .steps .now) (start .args .offsets .now) (c .before .before .before .number .given .0 .0 .0) (number-at (c .before .before) .0))
+    rw (c .before .table-of .ensures, c .place-of .ensures) (sym (stored-by-number (start .args .inputs) (start .args .clauses .now) (start .args .steps .now) (start .args .offsets .now) (c .before .before .before .number .given .0 .0 .0) (number-at (c .before .before) .0)))
 
 place-of-requires : tie.Need-place-of-requires
 place-of-requires c κs =

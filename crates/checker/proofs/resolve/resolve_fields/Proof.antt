@@ -1,11 +1,13 @@
 -- `resolve_fields` looks up the pivot's kind and lends the marks. Assumes nothing.
 use mathlib.Core.Path.{_≡_, refl, ap, sym, _∙_}
+use native.Mathlib.Omega.{arith}
 use lib.ListN.{drop}
 use mir.Syntax.{w32}
 use mir.Val.{toZ, ofZ}
 use Rattle.formula.specs.Word.{wordOf}
 use Rattle.formula.specs.declared.literal.VariableFit.the-variants.{Within}
 use borrow.Author.Needs.{needs}
+use borrow.Rule.Slice.PartMut.{same-len-mid, mid-len}
 use Rattle.checker.specs.Kinds.{existentialOf}
 use Rattle.checker.specs.Kinds.Laws.{existential-bound}
 use Rattle.checker.specs.Step.{kindsIn}
@@ -49,17 +51,17 @@ pub resolve-fields-spec : {M : Type 1} → statement M
 resolve-fields-spec =
     tie.close
     (tie.spec
-    (λ c. search needs)
-    (λ c. search needs)
-    (λ c. search needs)
-    (λ c κs. search needs)
-    (λ c. search needs)
-    (λ c. search needs)
-    (λ c. search needs)
-    (λ c. search needs)
-    (λ c. search needs)
+    (λ c. omega arith)
+    (λ c. omega arith)
+    (λ c. let e = c .before .before .before .pre .0 .size in omega arith)
+    (λ c κs. let start = c .before .before .before .before .before in mid-len 7175 8200 (start .args .scratch .now) (let e = start .pre .0 .size in omega arith))
+    (λ c. c .match .keys1)
+    (λ c. c .match .keys2)
+    (λ c. omega arith)
+    (λ c. omega arith)
+    (λ c. let e = c .before .before .before .before .before .before .before .before .before .pre .0 .size in omega arith)
     resolve-numbered-requires
-    (λ c. search needs)
+    (λ c. refl)
     returns
-    (λ c. search needs)
+    (λ c. same-len-mid 5125 2050 (c .before .before .before .before .before .before .before .before .before .before .before .before .before .args .scratch .now) (c .before .before .resolve-numbered .last .1 .1 .1 .1 .1 .1 .1 .1 .0) (c .before .before .resolve-numbered .kept .1 .1 .1 .1 .1 .1 .1 .1 .0))
     returns-2)

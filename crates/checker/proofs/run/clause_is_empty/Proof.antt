@@ -7,7 +7,7 @@ use lib.IntN.{ℤ, pos}
 use Rattle.checker.specs.Words.{isZero}
 use Rattle.formula.specs.Decode.{clauseAt}
 use Rattle.formula.specs.Decode.Places.{clause-past, clause-zero, clause-literal}
-use Rattle.checker.specs.Running.{isEmpty}
+use Rattle.checker.specs.Run.{isEmpty}
 use Rattle.checker.proofs.Signed.{read-zero}
 use Rattle.checker.proofs.run.clause_is_empty.Statement.{statement}
 use Rattle.checker.proofs.run.clause_is_empty.Tie as tie

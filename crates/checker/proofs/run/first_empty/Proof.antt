@@ -9,8 +9,8 @@ use Rattle.formula.specs.declared.literal.ClauseNumber.{ClauseNumber}
 use Rattle.checker.specs.declared.run.Found.the-variants.{Clause}
 use Rattle.checker.specs.Verdict.{firstEmpty}
 use Rattle.checker.specs.Numbered.{stored}
-use Rattle.checker.specs.Running.{foundOf}
-use Rattle.checker.specs.Running.Laws.{empty-found, empty-later, empty-none}
+use Rattle.checker.specs.Run.{foundOf}
+use Rattle.checker.specs.Run.Laws.{empty-found, empty-later, empty-none}
 use Rattle.checker.proofs.run.first_empty.Statement.{statement}
 use Rattle.checker.proofs.run.first_empty.Tie as tie
 
@@ -35,7 +35,7 @@ returns : tie.Need-returns Inv-loop μ-loop
 returns c =
     let at = c .before .before .before .before in
     let start = at .before .before in
-    let e = empty-found (start .args .inputs) (start .args .clauses .now) (start .args .steps .now) (start .args .offsets .now) (start .args .numbered) (at .loop .k) (c .before .before .before .loop-test .taken) (sym (c .before .before .number-is-empty .ensures) ∙ c .before .if1 .taken) in
+    let e = empty-found (start .args .inputs) (start .args .clauses .now) (start .args .steps .now) (start .args .offsets .now) (start .args .numbered) (at .loop .k) (c .before .before .before .loop-test .taken) (rw (c .before .before .number-is-empty .ensures) at (c .before .if1 .taken)) in
     found-at (c .at .result) _ (rw add-one at (c .at .ensures)) ∙ ap foundOf (sym (at .loop .inv ∙ e))
 
 add-k : tie.Need-add-k Inv-loop μ-loop
@@ -48,7 +48,7 @@ loop-again : tie.Need-loop-again Inv-loop μ-loop
 loop-again c =
     let at = c .before .before .before in
     let start = at .before .before in
-    rw (add-one (at .loop .k)) (at .loop .inv ∙ empty-later (start .args .inputs) (start .args .clauses .now) (start .args .steps .now) (start .args .offsets .now) (start .args .numbered) (at .loop .k) (c .before .before .loop-test .taken) (sym (c .before .number-is-empty .ensures) ∙ c .if1 .left))
+    rw (add-one (at .loop .k)) (at .loop .inv ∙ empty-later (start .args .inputs) (start .args .clauses .now) (start .args .steps .now) (start .args .offsets .now) (start .args .numbered) (at .loop .k) (c .before .before .loop-test .taken) (rw (c .before .number-is-empty .ensures) at (c .if1 .left)))
 
 returns-2 : tie.Need-returns-2 Inv-loop μ-loop
 returns-2 c =

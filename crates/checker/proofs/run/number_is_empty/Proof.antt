@@ -5,7 +5,7 @@ use native.Mathlib.Omega.{arith}
 use borrow.Author.Needs.{needs}
 use Rattle.formula.specs.Decode.{clauseAt}
 use Rattle.checker.specs.Numbered.{storedAt}
-use Rattle.checker.specs.Running.{isEmpty}
+use Rattle.checker.specs.Run.{isEmpty}
 use Rattle.checker.specs.Step.Laws.{stored-by-number}
 use Rattle.checker.proofs.run.number_is_empty.Statement.{statement}
 use Rattle.checker.proofs.run.number_is_empty.Tie as tie

@@ -1,13 +1,13 @@
 -- `run_steps`: what is left to run comes to the same as the whole. Assumes nothing.
 use Prim.Native.Nat.{_-_, _<_}
-use mathlib.Core.Path.{_≡_, refl, sym, _∙_}
+use mathlib.Core.Path.{_≡_, refl, _∙_}
 use native.Mathlib.Omega.{arith}
 use borrow.Author.Needs.{needs}
 use lib.ListN.{length}
 use Rattle.checker.specs.Verdict.{scopeOf}
 use Rattle.checker.specs.Numbered.{stored}
 use Rattle.checker.specs.Numbered.Laws.{stored-length}
-use Rattle.checker.specs.Running.Laws.{Taken, right-taken, Going, going-begins, going-turns, going-refused, going-ends}
+use Rattle.checker.specs.Run.Laws.{Taken, right-taken, Going, going-begins, going-turns, going-refused, going-ends}
 use Rattle.checker.proofs.run.run_steps.Statement.{statement}
 use Rattle.checker.proofs.run.run_steps.Tie as tie
 
@@ -43,7 +43,7 @@ returns c =
     let called = c .before .before .before .before .before .before in
     let at = called .before .before .before .before in
     let start = at .before .before .before in
-    rw (c .new .ensures) (going-refused (start .args .prefix .now) (start .args .clauses .now) (start .args .steps .now) (start .args .inputs) (length (start .args .offsets .now)) (at .loop .scratch) (at .loop .offsets) (at .loop .numbered) (at .loop .at) (at .loop .inv .0) (c .before .before .reason .given .0 .0) (called .check-step .last .1 .1 .1 .1 .1 .1 .1 .0) (called .before .before .before .loop-test .taken) (sym (c .before .before .reason .given .1) ∙ called .check-step .ensures .answer) (called .check-step .kept .1 .1 .1 .1 .1 .1 .1 .0) (called .check-step .ensures .kept))
+    rw (c .new .ensures) (going-refused (start .args .prefix .now) (start .args .clauses .now) (start .args .steps .now) (start .args .inputs) (length (start .args .offsets .now)) (at .loop .scratch) (at .loop .offsets) (at .loop .numbered) (at .loop .at) (at .loop .inv .0) (c .before .before .reason .given .0 .0) (called .check-step .last .1 .1 .1 .1 .1 .1 .1 .0) (called .before .before .before .loop-test .taken) (rw (c .before .before .reason .given .1) at (called .check-step .ensures .answer)) (called .check-step .kept .1 .1 .1 .1 .1 .1 .1 .0) (called .check-step .ensures .kept))
 
 -- the step that was taken
 taken-at : (c : tie.After-known-told2 Inv-loop μ-loop) → Taken (scopeOf (c .before .before .before .before .before .before .before .before .before .before .before .before .args .prefix .now) (c .before .before .before .before .before .before .before .before .before .before .before .before .args .clauses .now)) (length (c .before .before .before .before .before .before .before .before .before .loop .offsets)) (stored (c .before .before .before .before .before .before .before .before .before .before .before .before .args .inputs) (c .before .before .before .before .before .before .before .before .before .before .before .before .args .clauses .now) (c .before .before .before .before .before .before .before .before .before .before .before .before .args .steps .now) (c .before .before .before .before .before .before .before .before .before .loop .offsets) (c .before .before .before .before .before .before .before .before .before .loop .numbered)) (c .before .before .before .before .before .before .before .before .before .before .before .before .args .steps .now) (c .before .before .before .before .before .before .before .before .before .loop .at) (c .before .next .given .0 .0)
@@ -51,7 +51,7 @@ taken-at c =
     let called = c .before .before .before .before .before in
     let at = called .before .before .before .before in
     let start = at .before .before .before in
-    right-taken (scopeOf (start .args .prefix .now) (start .args .clauses .now)) (length (at .loop .offsets)) (stored (start .args .inputs) (start .args .clauses .now) (start .args .steps .now) (at .loop .offsets) (at .loop .numbered)) (start .args .steps .now) (at .loop .at) (called .before .before .before .loop-test .taken) (c .before .next .given .0 .0) (sym (c .before .next .given .1) ∙ called .check-step .ensures .answer)
+    right-taken (scopeOf (start .args .prefix .now) (start .args .clauses .now)) (length (at .loop .offsets)) (stored (start .args .inputs) (start .args .clauses .now) (start .args .steps .now) (at .loop .offsets) (at .loop .numbered)) (start .args .steps .now) (at .loop .at) (called .before .before .before .loop-test .taken) (c .before .next .given .0 .0) (rw (c .before .next .given .1) at (called .check-step .ensures .answer))
 
 room-at : (c : tie.After-known-told2 Inv-loop μ-loop) → c .before .before .before .before .before .before .before .before .before .loop .numbered < length (c .before .before .before .before .before .before .before .before .before .loop .offsets)
 room-at c =

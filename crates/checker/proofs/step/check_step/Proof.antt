@@ -13,8 +13,8 @@ use Rattle.checker.specs.Steps.{Scope, Step, readStep, judge}
 use Rattle.checker.specs.Verdict.{scopeOf}
 use Rattle.checker.specs.Numbered.{stored}
 use Rattle.checker.specs.Numbered.Laws.{stored-length}
-use Rattle.checker.specs.Reading.{fieldsOf}
-use Rattle.checker.specs.Reading.Laws.{reading-broken, reading-step, fields-next, step-whole}
+use Rattle.checker.specs.Read.{fieldsOf}
+use Rattle.checker.specs.Read.Laws.{reading-broken, reading-step, fields-next, step-whole}
 use Rattle.checker.specs.Result.{judgementOf}
 use Rattle.checker.specs.Step.Laws.{step-broken, step-no-room, step-right, step-wrong, judgement-right, judgement-wrong}
 use Rattle.checker.proofs.step.check_step.Statement.{statement}
@@ -41,8 +41,7 @@ judged-at : (c : tie.After-judge-step) → c .judge-step .result ≡ judgementOf
 judged-at c =
     let start = c .before .before .before .before .before .before .before .before .before in
     let t = step-at (c .before .before .before) in
-    c .judge-step .ensures .answer
-    ∙ ap (λ (s : Step). judgementOf (judge (scope-at start) (known-at start) s)) (step-whole (start .args .steps .now) (start .args .at) (start .pre .1 .1 .0) (t .0) (t .1) (c .before .before .before .before .step .given .0 .0) (t .2))
+    rw (step-whole (start .args .steps .now) (start .args .at) (start .pre .1 .1 .0) (t .0) (t .1) (c .before .before .before .before .step .given .0 .0) (t .2)) at (c .judge-step .ensures .answer)
 
 returns : tie.Need-returns
 returns c =

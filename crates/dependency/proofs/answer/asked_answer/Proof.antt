@@ -10,7 +10,7 @@ use Rattle.qbf.specs.Formula.{universal}
 use Rattle.formula.specs.Word.{wordOf}
 use Rattle.formula.specs.Prefix.{prefixOf, quantifies}
 use Rattle.formula.specs.declared.literal.Variable.{Variable}
-use Rattle.formula.specs.declared.literal.Word.the-variants.{Positive}
+use Rattle.formula.specs.declared.word.Word.the-variants.{Positive}
 use Rattle.dependency.specs.Answer.{universalAsked}
 use Rattle.dependency.specs.Answer.Laws.{not-asked, asked-variable}
 use Rattle.dependency.proofs.answer.asked_answer.Statement.{statement}

@@ -7,8 +7,8 @@ use mir.Val.{toZ, ofZ}
 use borrow.Author.Needs.{needs}
 use Rattle.formula.specs.Word.{wordOf}
 use Rattle.formula.specs.declared.literal.Variable.{Variable}
-use Rattle.formula.specs.declared.literal.Word.{Word}
-use Rattle.formula.specs.declared.literal.Word.the-variants.{Positive}
+use Rattle.formula.specs.declared.word.Word.{Word}
+use Rattle.formula.specs.declared.word.Word.the-variants.{Positive}
 use Rattle.dependency.specs.Answer.{Asked}
 use Rattle.dependency.proofs.answer.asked_variable.Statement.{statement}
 use Rattle.dependency.proofs.answer.asked_variable.Tie as tie

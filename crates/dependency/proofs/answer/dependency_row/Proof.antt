@@ -10,7 +10,7 @@ use borrow.Author.Needs.{needs}
 use Rattle.qbf.specs.Formula.{universal}
 use Rattle.formula.specs.Word.{wordOf}
 use Rattle.formula.specs.declared.refusal.Refusal.{Refusal}
-use Rattle.formula.specs.declared.literal.Word.the-variants.{Positive}
+use Rattle.formula.specs.declared.word.Word.the-variants.{Positive}
 use Rattle.formula.specs.Clear.{clearFrom}
 use Rattle.formula.specs.Prefix.{prefixOf, quantifies}
 use Rattle.formula.specs.Tables.Laws.{admitted-entries}

@@ -16,17 +16,17 @@ returns-2 c =
     let args = c .before .before .before .before .before .before .before .before .args in
     let pre = c .before .before .before .before .before .before .before .before .pre in
     let n = c .before .before .before .before .before .before .token .given in
-    let isLiteral = natural-literal (args .place) (args .variables) (args .used) (args .clauses .now) (n .0 .0) (c .before .before .before .before .if1 .left) in
+    let isLiteral = natural-literal (args .variables) (args .used) (args .clauses .now) (n .0 .0) (c .before .before .before .before .if1 .left) in
     rw (n .1) (literal-post (pre .0) (pre .3) (pre .2) (Natural (n .0 .0)) isLiteral (c .before .put-literal .ensures))
 
 returns-3 : tie.Need-returns-3
 returns-3 c =
     let pre = c .before .before .before .before .before .before .before .pre in
     let n = c .before .before .before .before .before .token2 .given in
-    rw (n .1) (literal-post (pre .0) (pre .3) (pre .2) (Negative (n .0 .0)) (λ rp count P. refl) (c .before .put-literal2 .ensures))
+    rw (n .1) (literal-post (pre .0) (pre .3) (pre .2) (Negative (n .0 .0)) (λ p rp count P. refl) (c .before .put-literal2 .ensures))
 
 returns-4 : tie.Need-returns-4
-returns-4 c = rw (c .new .ensures, c .before .enum-told .given .1) (record { states = λ rp count P M. refl; stores = tt })
+returns-4 c = rw (c .enum-told .given .1) (record { states = λ p rp count P M. refl; stores = tt })
 
 pub clause-token-spec : {M : Type 1} → statement M
 clause-token-spec =
@@ -38,7 +38,6 @@ clause-token-spec =
     (λ c. search needs)
     (λ c κs. (search needs, search needs, search needs))
     (λ c. search needs)
-    (λ c κs. search needs)
     (λ c. search needs)
     returns
     (λ c. search needs)

@@ -2,29 +2,27 @@
 use mathlib.Core.Path.{refl}
 use borrow.Author.Needs.{needs}
 use borrow.Author.Tests.{lt-ltb, le-ltb}
-use Rattle.formula.specs.Text.{closingRefusal}
+use Rattle.formula.specs.Text.{closingReason}
 use Rattle.formula.proofs.clauses.close_clause.Statement.{statement}
 use Rattle.formula.proofs.clauses.close_clause.Tie as tie
 
 returns : tie.Need-returns
-unfolding closingRefusal
-returns c = record { answers = rw (c .new .ensures) (simp (le-ltb _ _ (c .before .if1 .taken))); stores = tt }
+unfolding closingReason
+returns c = record { answers = simp (le-ltb _ _ (c .if1 .taken)); stores = tt }
 
 returns-2 : tie.Need-returns-2
-unfolding closingRefusal
-returns-2 c = record { answers = rw (c .new2 .ensures) (simp (lt-ltb _ _ (c .before .before .if1 .left), le-ltb _ _ (c .before .if2 .taken))); stores = tt }
+unfolding closingReason
+returns-2 c = record { answers = simp (lt-ltb _ _ (c .before .if1 .left), le-ltb _ _ (c .if2 .taken)); stores = tt }
 
 returns-3 : tie.Need-returns-3
-unfolding closingRefusal
+unfolding closingReason
 returns-3 c = record { answers = simp (lt-ltb _ _ (c .before .if1 .left), lt-ltb _ _ (c .if2 .left)); stores = refl }
 
 pub close-clause-spec : {M : Type 1} → statement M
 close-clause-spec =
     tie.close
     (tie.spec
-    (λ c κs. search needs)
     returns
-    (λ c κs. search needs)
     returns-2
     (λ c. search needs)
     (λ c. search needs)

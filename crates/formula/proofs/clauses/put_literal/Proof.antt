@@ -6,7 +6,7 @@ use lib.ListN.{length, getD}
 use lib.Dec.{ltb, eqb}
 use Rattle.formula.specs.Bounds.{variableBound}
 use Rattle.formula.specs.Text.Laws.{LiteralFine, literal-fine}
-use Rattle.formula.specs.Text.Clauses.{literalStep, markedRefusal}
+use Rattle.formula.specs.Text.Clauses.{literalStep, markedReason}
 use Rattle.formula.specs.Text.Clauses.Laws.{literal-none}
 use Rattle.formula.proofs.SignedWord.{signed-back}
 use borrow.Author.Needs.{needs}
@@ -14,13 +14,13 @@ use Rattle.formula.proofs.clauses.put_literal.Statement.{statement}
 use Rattle.formula.proofs.clauses.put_literal.Tie as tie
 
 -- the literal as it is judged, by its variable's mark
-judged-at : (c : tie.After-judge-literal) → let args = c .before .before .before .args in c .judge-literal .result ≡ literalStep (markedRefusal (args .place) (args .variables) (args .n) (args .marks .now) (args .closed) (args .used) (length (args .clauses .now)))
+judged-at : (c : tie.After-judge-literal) → let args = c .before .before .before .args in c .judge-literal .result ≡ literalStep (markedReason (args .variables) (args .n) (args .marks .now) (args .closed) (args .used) (length (args .clauses .now)))
 judged-at c = rw (← c .before .mark-of .ensures) (c .judge-literal .ensures)
 
 fine-at : (c : tie.After-enum-told2) → let args = c .before .before .before .before .before .args in LiteralFine (args .variables) (args .n) (ltb 0 (getD (args .marks .now) (args .n) 0)) (eqb (getD (args .marks .now) (args .n) 0) (args .closed + 2)) (args .used) (length (args .clauses .now))
 fine-at c =
     let args = c .before .before .before .before .before .args in
-    literal-fine (args .place) (args .variables) (args .n) _ _ (args .used) _ (literal-none (markedRefusal (args .place) (args .variables) (args .n) (args .marks .now) (args .closed) (args .used) (length (args .clauses .now))) (sym (c .enum-told2 .given .1) ∙ judged-at (c .before .before)))
+    literal-fine (args .variables) (args .n) _ _ (args .used) _ (literal-none (markedReason (args .variables) (args .n) (args .marks .now) (args .closed) (args .used) (length (args .clauses .now))) (sym (c .enum-told2 .given .1) ∙ judged-at (c .before .before)))
 
 small-at : (c : tie.After-enum-told2) → c .before .before .before .before .before .args .n ≤ variableBound
 small-at c = omega (arith, fine-at c .inRange, c .before .before .before .before .before .pre .0)
@@ -28,8 +28,8 @@ small-at c = omega (arith, fine-at c .inRange, c .before .before .before .before
 signed-word-requires : tie.Need-signed-word-requires
 signed-word-requires c κs = small-at c
 
-mul-t19 : tie.Need-mul-t19
-mul-t19 c = omega (arith, fine-at (c .before) .fits)
+mul-t18 : tie.Need-mul-t18
+mul-t18 c = omega (arith, fine-at (c .before) .fits)
 
 slice-set-from-clauses : tie.Need-slice-set-from-clauses
 slice-set-from-clauses c = omega (arith, fine-at (c .before) .fits)
@@ -65,7 +65,7 @@ put-literal-spec =
     (λ c. search needs)
     (λ c. search needs)
     signed-word-requires
-    mul-t19
+    mul-t18
     slice-set-from-clauses
     (λ c. search needs)
     mul-marks

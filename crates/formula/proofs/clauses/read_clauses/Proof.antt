@@ -29,13 +29,13 @@ returns : tie.Need-returns Inv-loop μ-loop
 returns c = rw (c .clauses-end .ensures) (clauses-end (c .before .before .before .before .loop .inv) (sym (c .before .before .before .next-token .ensures) ∙ c .before .enum-told .given .1))
 
 returns-2 : tie.Need-returns-2 Inv-loop μ-loop
-returns-2 c = rw (c .new .ensures) (clauses-over (c .before .before .before .before .before .before .loop .inv) (found (c .before .before)) (c .before .if1 .taken) [])
+returns-2 c = rw (c .in-text .ensures) (clauses-over (c .before .before .before .before .before .before .loop .inv) (found (c .before .before)) (c .before .if1 .taken) [])
 
 clause-token-requires : tie.Need-clause-token-requires Inv-loop μ-loop
 clause-token-requires c κs = let I = c .before .before .before .before .before .before .before .loop .inv in (search needs, search needs, I .size, I .room)
 
 returns-3 : tie.Need-returns-3 Inv-loop μ-loop
-returns-3 c = clauses-refuse (c .before .before .before .before .before .before .before .before .before .before .before .before .loop .inv) (found (c .before .before .before .before .before .before .before .before)) (c .before .before .before .before .before .before .before .if1 .left) (rw (c .before .r .given .1) at (c .before .before .before .before .clause-token .ensures))
+returns-3 c = rw (c .in-text2 .ensures) (clauses-refuse (c .before .before .before .before .before .before .before .before .before .before .before .before .before .loop .inv) (found (c .before .before .before .before .before .before .before .before .before)) (c .before .before .before .before .before .before .before .before .if1 .left) (rw (c .before .before .reason .given .1) at (c .before .before .before .before .before .clause-token .ensures)))
 
 loop-less : tie.Need-loop-less Inv-loop μ-loop
 loop-less c = let f = found (c .before .before .before .before .before .before .before) in omega (arith, f .after, f .inside)
@@ -69,6 +69,7 @@ read-clauses-spec =
     returns-2
     clause-token-requires
     (λ c. search needs)
+    (λ c κs. search needs)
     (λ c. search needs)
     returns-3
     (λ c. search needs)

@@ -1,6 +1,8 @@
 -- `header_clauses` reads C, within its bound. Assumes nothing.
-use mathlib.Core.Path.{sym, _∙_}
+use mathlib.Core.Path.{ap, sym, _∙_}
 use mathlib.Core.List.{[]}
+use denote.Enum.Declared.{tagOf}
+use Rattle.formula.proofs.bounds.ClauseCountFit.{the-type}
 use borrow.Author.Needs.{needs}
 use borrow.Author.Tests.{leb-true}
 use Rattle.formula.specs.Bounds.{countBound}
@@ -19,7 +21,7 @@ returns-2 : tie.Need-returns-2
 returns-2 c =
     let args = c .before .before .before .before .before .before .before .before .before .args in
     let n = c .before .before .before .before .before .value .given in
-    let large = fit-refused _ _ _ _ (sym (c .before .before .before .new .ensures) ∙ c .before .enum-told .given .1) (λ z. cc) in
+    let large = fit-refused _ _ _ _ (sym (c .before .before .before .new .ensures) ∙ c .before .enum-told .given .1) (ap (tagOf the-type)) in
     λ rp rc.
     rw (c .new2 .ensures)
     (c-read rp rc (args .text .now) (args .variables .0) (args .at) _ (sym (n .1) ∙ c .before .before .before .before .before .before .before .header-field .ensures)

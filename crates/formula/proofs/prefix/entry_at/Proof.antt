@@ -10,7 +10,7 @@ use Rattle.formula.specs.Word.{wordOf}
 use Rattle.formula.specs.Word.Laws.{zero-word, not-too-large}
 use Rattle.formula.specs.Prefix.{entryShown}
 use Rattle.formula.specs.Prefix.Laws.{entry-count, entry-word, entry-positive, entry-negative, entry-ranged}
-use Rattle.formula.specs.declared.literal.Word.the-variants.{Zero}
+use Rattle.formula.specs.declared.word.Word.the-variants.{Zero}
 use borrow.Author.Needs.{needs}
 use Rattle.formula.proofs.prefix.entry_at.Statement.{statement}
 use Rattle.formula.proofs.prefix.entry_at.Tie as tie

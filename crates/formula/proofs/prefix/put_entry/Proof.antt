@@ -6,7 +6,7 @@ use native.Mathlib.Omega.{arith}
 use borrow.Author.Tests.{ltb-true}
 use lib.ListN.{length, set}
 use Rattle.qbf.specs.Formula.{entry}
-use Rattle.formula.specs.Text.{signed}
+use Rattle.formula.specs.Word.{signed}
 use Rattle.formula.specs.Prefix.{entryWord, entryFits, putEntry, usedAfter, quantifierOf}
 use Rattle.formula.proofs.SignedWord.{signed-back}
 use borrow.Author.Needs.{needs}

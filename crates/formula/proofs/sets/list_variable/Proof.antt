@@ -6,17 +6,17 @@ use borrow.Author.Needs.{needs}
 use borrow.Author.Tests.{lt-ltb, le-ltb, le-leb, lt-leb}
 use Rattle.formula.specs.Bounds.{variableBound, inRange}
 use Rattle.formula.specs.Bounds.Laws.{variable-made, variable-refused, above-range}
-use Rattle.formula.specs.Text.{variableRefusal}
+use Rattle.formula.specs.Text.{variableReason}
 use Rattle.formula.proofs.sets.list_variable.Statement.{statement}
 use Rattle.formula.proofs.sets.list_variable.Tie as tie
 
 returns : tie.Need-returns
-unfolding variableRefusal
-returns c = record { answers = rw (c .new3 .ensures) (simp (lt-leb _ _ (c .before .if1 .taken))); stores = tt }
+unfolding variableReason
+returns c = record { answers = simp (lt-leb _ _ (c .if1 .taken)); stores = tt }
 
 returns-2 : tie.Need-returns-2
-unfolding variableRefusal
-returns-2 c = record { answers = rw (c .new4 .ensures) (simp (le-leb _ _ (c .before .before .before .if1 .left), lt-ltb _ _ (c .before .if2 .taken))); stores = tt }
+unfolding variableReason
+returns-2 c = record { answers = simp (le-leb _ _ (c .before .before .if1 .left), lt-ltb _ _ (c .if2 .taken)); stores = tt }
 
 put-entry-requires : tie.Need-put-entry-requires
 put-entry-requires c κs =
@@ -25,7 +25,7 @@ put-entry-requires c κs =
     (sym (c .before .before .entry-fits .ensures) ∙ c .before .if3 .taken, omega (arith, made .1))
 
 returns-3 : tie.Need-returns-3
-unfolding variableRefusal
+unfolding variableReason
 returns-3 c =
     let k = c .before .before .before .before .before .before .before .before .before .variable .given in
     let made = variable-made (inRange (c .before .before .before .before .before .before .before .before .before .before .before .before .args .n) variableBound) (c .before .before .before .before .before .before .before .before .before .before .before .before .args .n) (k .0 .0) (sym (c .before .before .before .before .before .before .before .before .before .before .before .new .ensures) ∙ k .1) in
@@ -36,18 +36,18 @@ returns-3 c =
     }
 
 returns-4 : tie.Need-returns-4
-unfolding variableRefusal
+unfolding variableReason
 returns-4 c =
-    let args = c .before .before .before .before .args in
-    let outside = variable-refused (inRange (args .n) variableBound) (args .n) (sym (c .before .before .before .new .ensures) ∙ c .before .enum-told .given .1) in
-    let above : args .variables < args .n = omega (arith, above-range (args .n) variableBound (c .before .before .before .before .pre .0) outside) in
-    record { answers = rw (c .new2 .ensures) (simp (lt-leb _ _ above)); stores = tt }
+    let args = c .before .before .before .args in
+    let outside = variable-refused (inRange (args .n) variableBound) (args .n) (sym (c .before .before .new .ensures) ∙ c .enum-told .given .1) in
+    let above : args .variables < args .n = omega (arith, above-range (args .n) variableBound (c .before .before .before .pre .0) outside) in
+    record { answers = simp (lt-leb _ _ above); stores = tt }
 
 returns-5 : tie.Need-returns-5
-unfolding variableRefusal
+unfolding variableReason
 returns-5 c =
-    let full = sym (c .before .before .entry-fits .ensures) ∙ c .before .if3 .left in
-    record { answers = rw (c .new5 .ensures) (simp (le-leb _ _ (c .before .before .before .before .before .if1 .left), le-ltb _ _ (c .before .before .before .if2 .left), full)); stores = tt }
+    let full = sym (c .before .entry-fits .ensures) ∙ c .if3 .left in
+    record { answers = simp (le-leb _ _ (c .before .before .before .before .if1 .left), le-ltb _ _ (c .before .before .if2 .left), full); stores = tt }
 
 pub list-variable-spec : {M : Type 1} → statement M
 list-variable-spec =
@@ -55,13 +55,10 @@ list-variable-spec =
     (tie.spec
     (λ c κs. search needs)
     (λ c. search needs)
-    (λ c κs. search needs)
     (λ c. search needs)
-    (λ c κs. search needs)
     returns
     (λ c. search needs)
     (λ c. search needs)
-    (λ c κs. search needs)
     returns-2
     (λ c κs. search needs)
     (λ c. search needs)
@@ -69,6 +66,5 @@ list-variable-spec =
     put-entry-requires
     (λ c. search needs)
     returns-3
-    (λ c κs. search needs)
     returns-4
     returns-5)

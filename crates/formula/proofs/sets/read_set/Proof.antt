@@ -27,13 +27,13 @@ found : (c : tie.After-set-token Inv-loop μ-loop) → let g = c .before .before
 found c = token-found (c .before .before .before .before .before .before .before .before .before .args .text .now) (c .before .before .before .before .before .before .before .loop .at) (sym (c .before .before .before .before .before .before .next-token .ensures) ∙ c .before .before .before .before .token .given .1)
 
 returns : tie.Need-returns Inv-loop μ-loop
-returns c = rw (c .new .ensures) (set-ends (c .before .before .before .before .loop .inv) (sym (c .before .before .before .next-token .ensures) ∙ c .before .enum-told .given .1) [] [])
+returns c = rw (c .in-text .ensures) (set-ends (c .before .before .before .before .loop .inv) (sym (c .before .before .before .next-token .ensures) ∙ c .before .enum-told .given .1) [] [])
 
 set-token-requires : tie.Need-set-token-requires Inv-loop μ-loop
 set-token-requires c κs = let I = c .before .before .before .before .before .before .loop .inv in (search needs, I .room, I .listed)
 
 returns-2 : tie.Need-returns-2 Inv-loop μ-loop
-returns-2 c = set-refuses (c .before .before .before .before .before .before .before .before .before .before .before .loop .inv) (found (c .before .before .before .before)) (rw (c .before .r .given .1) at (c .before .before .before .before .set-token .ensures))
+returns-2 c = rw (c .in-text2 .ensures) (set-refuses (c .before .before .before .before .before .before .before .before .before .before .before .before .loop .inv) (found (c .before .before .before .before .before)) (rw (c .before .before .reason .given .1) at (c .before .before .before .before .before .set-token .ensures)))
 
 returns-3 : tie.Need-returns-3 Inv-loop μ-loop
 returns-3 c = set-closes (c .before .before .before .before .before .before .before .before .before .before .loop .inv) (found (c .before .before .before)) (rw (c .enum-told2 .given .1) at (c .before .before .before .set-token .ensures))
@@ -59,6 +59,7 @@ read-set-spec =
     (λ c. search needs)
     set-token-requires
     (λ c. search needs)
+    (λ c κs. search needs)
     (λ c. search needs)
     returns-2
     (λ c. search needs)

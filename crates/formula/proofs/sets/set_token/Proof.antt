@@ -15,13 +15,13 @@ returns c =
 
 returns-2 : tie.Need-returns-2
 returns-2 c =
-    rw (c .before .before .before .token .given .1, c .close-set .ensures) (closing-post _ _ _ _ _ _ _ _ (c .before .if1 .left))
+    rw (c .before .before .before .token .given .1, c .close-set .ensures) (closing-post _ _ _ _ _ _ _ (c .before .if1 .left))
 
 returns-3 : tie.Need-returns-3
-returns-3 c = rw (c .new .ensures, c .before .enum-told .given .1) (record { states = λ n rc. refl; stores = tt })
+returns-3 c = rw (c .enum-told .given .1) (record { states = λ p n rc. refl; stores = tt })
 
 returns-4 : tie.Need-returns-4
-returns-4 c = rw (c .new2 .ensures, c .before .enum-told2 .given .1) (record { states = λ n rc. refl; stores = tt })
+returns-4 c = rw (c .enum-told2 .given .1) (record { states = λ p n rc. refl; stores = tt })
 
 pub set-token-spec : {M : Type 1} → statement M
 set-token-spec =
@@ -31,9 +31,7 @@ set-token-spec =
     list-variable-requires
     (λ c κs. search needs)
     (λ c. search needs)
-    (λ c κs. search needs)
     (λ c. search needs)
-    (λ c κs. search needs)
     (λ c. search needs)
     returns
     returns-2

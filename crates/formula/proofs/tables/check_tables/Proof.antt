@@ -1,11 +1,15 @@
 -- `check_tables`: sizes first, then the words. Assumes nothing.
-use mathlib.Core.Path.{_≡_, sym, _∙_}
+use mathlib.Core.Path.{_≡_, ap, sym, _∙_}
 use mathlib.Core.Bool.{true, false}
 use lib.ListN.{length}
 use lib.Dec.{leb}
+use denote.Enum.Declared.{tagOf}
 use Rattle.formula.specs.Bounds.{variableBound, matrixBound, countBound}
 use Rattle.formula.specs.Bounds.Laws.{fit-made, fit-refused, clauses-made}
 use Rattle.formula.specs.Tables.{zeros, sized}
+use Rattle.formula.proofs.bounds.VariableCountFit as variable-fit
+use Rattle.formula.proofs.bounds.MatrixFit as matrix-fit
+use Rattle.formula.proofs.bounds.ClauseCountFit as count-fit
 use Rattle.formula.proofs.Scan.{sizes-refused, words-refused, words-admitted}
 use borrow.Author.Needs.{needs}
 use Rattle.formula.proofs.tables.check_tables.Statement.{statement}
@@ -24,28 +28,28 @@ second c = c .before .before .before .before .before
 returns : tie.Need-returns
 returns c =
     let a = c .before .before .before .before .args in
-    let e : leb (length (a .prefix .now)) variableBound ≡ false = fit-refused _ _ _ _ (sym (c .before .before .new2 .ensures) ∙ c .enum-told2 .given .1) (λ z. cc) in
+    let e : leb (length (a .prefix .now)) variableBound ≡ false = fit-refused _ _ _ _ (sym (c .before .before .new2 .ensures) ∙ c .enum-told2 .given .1) (ap (tagOf variable-fit.the-type)) in
     rw (c .before .before .before .new .ensures) (sym (sizes-refused (a .prefix .now) (a .clauses .now) (rw e)))
 
 prefix-within : (c : tie.After-enum-told) → leb (length (start c .args .prefix .now)) variableBound ≡ true
-prefix-within c = fit-made _ _ _ _ (sym (c .before .before .new2 .ensures) ∙ c .enum-told .given .1) (λ z. cc) .0
+prefix-within c = fit-made _ _ _ _ (sym (c .before .before .new2 .ensures) ∙ c .enum-told .given .1) (λ z. ap (tagOf variable-fit.the-type) (sym z)) .0
 
 returns-2 : tie.Need-returns-2
 returns-2 c =
     let k = c .before .before .before in
     let a = start k .args in
-    let e : leb (length (a .clauses .now)) matrixBound ≡ false = fit-refused _ _ _ _ (sym (c .before .before .new3 .ensures) ∙ c .enum-told4 .given .1) (λ z. cc) in
+    let e : leb (length (a .clauses .now)) matrixBound ≡ false = fit-refused _ _ _ _ (sym (c .before .before .new3 .ensures) ∙ c .enum-told4 .given .1) (ap (tagOf matrix-fit.the-type)) in
     rw (k .before .before .before .new .ensures) (sym (sizes-refused (a .prefix .now) (a .clauses .now) (rw (prefix-within k, e))))
 
 clauses-within : (c : tie.After-enum-told3) → leb (length (start (first c) .args .clauses .now)) matrixBound ≡ true
-clauses-within c = fit-made _ _ _ _ (sym (c .before .before .new3 .ensures) ∙ c .enum-told3 .given .1) (λ z. cc) .0
+clauses-within c = fit-made _ _ _ _ (sym (c .before .before .new3 .ensures) ∙ c .enum-told3 .given .1) (λ z. ap (tagOf matrix-fit.the-type) (sym z)) .0
 
 returns-3 : tie.Need-returns-3
 returns-3 c =
     let k = c .before .before .before in
     let f = first (k .before) in
     let a = start f .args in
-    let e = fit-refused _ _ _ _ (sym (c .before .before .new4 .ensures) ∙ c .enum-told5 .given .1) (λ z. cc) in
+    let e = fit-refused _ _ _ _ (sym (c .before .before .new4 .ensures) ∙ c .enum-told5 .given .1) (ap (tagOf count-fit.the-type)) in
     let many : leb (zeros (a .clauses .now)) countBound ≡ false = rw (k .count-zeros .ensures) at e in
     rw (f .before .before .before .new .ensures) (sym (sizes-refused (a .prefix .now) (a .clauses .now) (rw (prefix-within f, clauses-within (k .before), many))))
 

@@ -3,7 +3,7 @@
 use Prim.Native.Nat.{ℕ, _+_, _-_, _≤_, _<_}
 use mathlib.Core.Path.{_≡_, refl, ap, sym, _∙_}
 use mathlib.Core.Bool.{true, false, false≢true}
-use mathlib.Core.List.{[]}
+use mathlib.Core.List.{List, []}
 use native.Mathlib.Numerals.{add-one}
 use native.Mathlib.Nat.{zero-add}
 use native.Mathlib.Omega.{arith}
@@ -11,7 +11,7 @@ use borrow.Author.Needs.{needs}
 use borrow.Author.Tests.{leb-true}
 use lib.Dec.{leb}
 use lib.ListN.{length, getD, drop, drop-of-length-le}
-use lib.IntN.{pos, negℤ, natAbs}
+use lib.IntN.{ℤ, pos, negℤ, natAbs}
 use mir.Syntax.{w32}
 use mir.Val.{toZ, ofZ}
 use mir.Facts.{toZ-ofZ}
@@ -42,58 +42,56 @@ search-holds : tie.Need-search-holds Inv-loop μ-loop Inv-search μ-search
 unfolding variablesBefore
 search-holds c = (sym (zero-add _), omega arith)
 
--- every word of the clause is in range
-range-at : (c : tie.In-search Inv-loop μ-loop Inv-search μ-search) → inRange (natAbs (getD (c .before .before .args .clause .now) (c .before .search .i) (pos 0))) variableBound ≡ true
-range-at c =
-    let i = c .before .search .i in
-    let ws = c .before .before .args .clause .now in
-    c .before .before .pre (getD ws i (pos 0)) (getD-member ws i (pos 0) (search needs))
+abbrev Outer : Type 0
+Outer = tie.In-search Inv-loop μ-loop Inv-search μ-search
 
-small-at : (c : tie.In-search Inv-loop μ-loop Inv-search μ-search) → natAbs (getD (c .before .before .args .clause .now) (c .before .search .i) (pos 0)) ≤ variableBound
-small-at c =
-    let n = natAbs (getD (c .before .before .args .clause .now) (c .before .search .i) (pos 0)) in
-    leb-true n variableBound (and-both (leb 1 n) (leb n variableBound) (range-at c) .1)
+abbrev Inner : Type 0
+Inner = tie.After-negated Inv-loop μ-loop Inv-search μ-search
+
+-- the clause, the word at the outer place, and the outer loop seen from the inner one
+abbrev words : Outer → List ℤ
+words c = c .before .before .args .clause .now
+
+abbrev word : Outer → ℤ
+word c = getD (words c) (c .before .search .i) (pos 0)
+
+abbrev outer : Inner → Outer
+outer c = c .before .before .before .before .before .before
+
+-- every word of the clause is in range
+range-at : (c : Outer) → inRange (natAbs (word c)) variableBound ≡ true
+range-at c = c .before .before .pre (word c) (getD-member (words c) (c .before .search .i) (pos 0) (search needs))
+
+small-at : (c : Outer) → natAbs (word c) ≤ variableBound
+small-at c = leb-true (natAbs (word c)) variableBound (and-both (leb 1 (natAbs (word c))) (leb (natAbs (word c)) variableBound) (range-at c) .1)
 
 returns : tie.Need-returns Inv-loop μ-loop Inv-search μ-search
 returns c =
-    let w = getD (c .before .before .before .before .before .before .args .clause .now) (c .before .before .before .before .before .search .i) (pos 0) in
-    let e : toZ w32 (ofZ w32 w) ≡ w = search needs in
-    absurd (false≢true (sym (literal-refused (inRange (natAbs w) variableBound) w (rw e at (sym (c .before .before .new .ensures)) ∙ c .enum-told .given .1)) ∙ range-at (c .before .before .before .before)))
+    let o = c .before .before .before .before in
+    let e = literal-refused (inRange (natAbs (word o)) variableBound) (word o) (rw (toZ-ofZ (record { sfits = c .before .before .before .new-arg .given })) at (sym (c .before .before .new .ensures)) ∙ c .enum-told .given .1) in
+    absurd (false≢true (sym e ∙ range-at o))
 
 -- the literal at the outer place is its word
-literal-at : (c : tie.After-known-told Inv-loop μ-loop Inv-search μ-search) → c .before .literal .given .0 .0 .0 ≡ getD (c .before .before .before .before .before .before .before .args .clause .now) (c .before .before .before .before .before .before .search .i) (pos 0)
+literal-at : (c : tie.After-known-told Inv-loop μ-loop Inv-search μ-search) → c .before .literal .given .0 .0 .0 ≡ word (c .before .before .before .before .before)
 literal-at c =
-    let w = getD (c .before .before .before .before .before .before .before .args .clause .now) (c .before .before .before .before .before .before .search .i) (pos 0) in
-    let e : toZ w32 (ofZ w32 w) ≡ w = search needs in
-    sym (literal-made (inRange (natAbs w) variableBound) w _ (rw e at (sym (c .before .before .before .new .ensures)) ∙ c .before .literal .given .1) .1)
+    let o = c .before .before .before .before .before in
+    sym (literal-made (inRange (natAbs (word o)) variableBound) (word o) _ (rw (toZ-ofZ (record { sfits = c .before .before .before .before .new-arg .given })) at (sym (c .before .before .before .new .ensures)) ∙ c .before .literal .given .1) .1)
 
 negated-requires : tie.Need-negated-requires Inv-loop μ-loop Inv-search μ-search
 negated-requires c κs = rw (literal-at c) (small-at (c .before .before .before .before .before))
 
 -- its opposite, and the opposite's bits read back
-opposite-at :
-    (c : tie.After-negated Inv-loop μ-loop Inv-search μ-search)
-    → c .negated .result .0 ≡ negℤ (getD (c .before .before .before .before .before .before .before .before .args .clause .now) (c .before .before .before .before .before .before .before .search .i) (pos 0))
+opposite-at : (c : Inner) → c .negated .result .0 ≡ negℤ (word (outer c))
 opposite-at c = rw (literal-at (c .before)) at (c .negated .ensures)
 
-opposite-back :
-    (c : tie.After-negated Inv-loop μ-loop Inv-search μ-search)
-    → toZ w32 (ofZ w32 (negℤ (getD (c .before .before .before .before .before .before .before .before .args .clause .now) (c .before .before .before .before .before .before .before .search .i) (pos 0))))
-    ≡ negℤ (getD (c .before .before .before .before .before .before .before .before .args .clause .now) (c .before .before .before .before .before .before .before .search .i) (pos 0))
-opposite-back c = toZ-ofZ (negated-fits (getD (c .before .before .before .before .before .before .before .before .args .clause .now) (c .before .before .before .before .before .before .before .search .i) (pos 0)) (small-at (c .before .before .before .before .before .before)))
+opposite-back : (c : Inner) → toZ w32 (ofZ w32 (negℤ (word (outer c)))) ≡ negℤ (word (outer c))
+opposite-back c = toZ-ofZ (negated-fits (word (outer c)) (small-at (outer c)))
 
 -- an earlier word of the same variable: the outer place is the answer
-found :
-    (c : tie.After-negated Inv-loop μ-loop Inv-search μ-search) (j : ℕ)
-    → j < c .before .before .before .before .before .before .before .search .i
-    → natAbs (getD (c .before .before .before .before .before .before .before .before .args .clause .now) (c .before .before .before .before .before .before .before .search .i) (pos 0))
-    ≡ natAbs (getD (c .before .before .before .before .before .before .before .before .args .clause .now) j (pos 0))
-    → c .before .before .before .before .before .before .before .search .i ≡ clashFree [] (c .before .before .before .before .before .before .before .before .args .clause .now)
+found : (c : Outer) (j : ℕ) → j < c .before .search .i → natAbs (word c) ≡ natAbs (getD (words c) j (pos 0)) → c .before .search .i ≡ clashFree [] (words c)
 found c j h e =
-    let l = c .before .before .before .before .before .before .before .search in
-    let ws = c .before .before .before .before .before .before .before .before .args .clause .now in
-    let w = getD ws (l .i) (pos 0) in
-    let z = clash-at-seen ws (l .i) (search needs) (variablesBefore ws (l .i)) (before-found (natAbs w) ws j (l .i) h e) in
+    let l = c .before .search in
+    let z = clash-at-seen (words c) (l .i) (c .search-test .taken) (variablesBefore (words c) (l .i)) (before-found (natAbs (word c)) (words c) j (l .i) h e) in
     omega (arith, z, l .inv .0)
 
 loop-holds : tie.Need-loop-holds Inv-loop μ-loop Inv-search μ-search
@@ -102,27 +100,26 @@ loop-holds c = (refl, omega arith)
 
 loop-again : tie.Need-loop-again Inv-loop μ-loop Inv-search μ-search
 loop-again c =
-    let n = c .before .before .before .before .before .before .before .before .before .before in
-    let l = n .before .before .before .before .before .before .before .search in
-    let ws = n .before .before .before .before .before .before .before .before .args .clause .now in
-    let k = c .before .before .before .before .before .before .before .before .before .loop in
-    let v = getD ws (k .j) (pos 0) in
-    let w = getD ws (l .i) (pos 0) in
+    let k = c .before .before .before .before .before .before .before .before in
+    let j = k .before .loop .j in
+    let n = k .before .before in
+    let w = word (outer n) in
+    let v = getD (words (outer n)) j (pos 0) in
     let differ : natAbs w ≡ natAbs v → ⊥ =
     neither-clashes v w
     (λ e. c .before .before .before .before .if1 .left (rw (literal-at (n .before)) (ap (ofZ w32) e)))
     (λ e. c .if2 .left (rw (opposite-at n) (ap (ofZ w32) e))) in
-    rw add-one (before-fresh (natAbs w) ws (k .j) differ (k .inv .0), search needs)
+    rw add-one (before-fresh (natAbs w) (words (outer n)) j differ (k .before .loop .inv .0), k .loop-test .taken)
 
 search-again : tie.Need-search-again Inv-loop μ-loop Inv-search μ-search
 unfolding variablesBefore
 search-again c =
-    let l = c .before .before .before .before .before .before .before .before .before .search in
-    let ws = c .before .before .before .before .before .before .before .before .before .before .args .clause .now in
-    let e : c .before .loop .j ≡ l .i = search needs in
-    let fresh : isIn (natAbs (getD ws (l .i) (pos 0))) (variablesBefore ws (l .i)) ≡ false = rw e at (c .before .loop .inv .0) in
-    let step = clash-at-fresh ws (l .i) (search needs) (variablesBefore ws (l .i)) fresh in
-    rw add-one (omega (arith, step, l .inv .0), search needs)
+    let o = outer (c .before .before) in
+    let l = o .before .search in
+    let e : c .before .loop .j ≡ l .i = omega (arith, c .loop-test .left, c .before .loop .inv .1) in
+    let fresh : isIn (natAbs (word o)) (variablesBefore (words o) (l .i)) ≡ false = rw e at (c .before .loop .inv .0) in
+    let step = clash-at-fresh (words o) (l .i) (o .search-test .taken) (variablesBefore (words o) (l .i)) fresh in
+    rw add-one (omega (arith, step, l .inv .0), o .search-test .taken)
 
 returns-2 : tie.Need-returns-2 Inv-loop μ-loop Inv-search μ-search
 unfolding clashFree
@@ -135,26 +132,19 @@ returns-2 c =
 
 returns-3 : tie.Need-returns-3 Inv-loop μ-loop Inv-search μ-search
 returns-3 c =
-    let n = c .before .before .before .before .before .before in
-    let l = n .before .before .before .before .before .before .before .search in
-    let ws = n .before .before .before .before .before .before .before .before .args .clause .now in
-    let j = c .before .before .before .before .before .loop .j in
-    let v = getD ws j (pos 0) in
-    let w = getD ws (l .i) (pos 0) in
-    let ev : toZ w32 (ofZ w32 v) ≡ v = search needs in
-    let ew : toZ w32 (ofZ w32 w) ≡ w = search needs in
-    found n j (search needs) (same-clashes v w (sym ev ∙ ap (toZ w32) (rw (literal-at (n .before)) at (c .if1 .taken)) ∙ ew))
+    let k = c .before .before .before .before in
+    let j = k .before .loop .j in
+    let n = k .before .before in
+    let o = outer n in
+    found o j (k .loop-test .taken) (same-clashes (getD (words o) j (pos 0)) (word o) (sym (toZ-ofZ (record { sfits = c .before .before .before .if12 .given })) ∙ ap (toZ w32) (rw (literal-at (n .before)) at (c .if1 .taken)) ∙ toZ-ofZ (record { sfits = n .before .before .before .before .before .new-arg .given })))
 
 returns-4 : tie.Need-returns-4 Inv-loop μ-loop Inv-search μ-search
 returns-4 c =
-    let n = c .before .before .before .before .before .before .before .before .before .before in
-    let l = n .before .before .before .before .before .before .before .search in
-    let ws = n .before .before .before .before .before .before .before .before .args .clause .now in
-    let j = c .before .before .before .before .before .before .before .before .before .loop .j in
-    let v = getD ws j (pos 0) in
-    let w = getD ws (l .i) (pos 0) in
-    let ev : toZ w32 (ofZ w32 v) ≡ v = search needs in
-    found n j (search needs) (opposed-clashes v w (sym ev ∙ ap (toZ w32) (rw (opposite-at n) at (c .if2 .taken)) ∙ opposite-back n))
+    let k = c .before .before .before .before .before .before .before .before in
+    let j = k .before .loop .j in
+    let n = k .before .before in
+    let o = outer n in
+    found o j (k .loop-test .taken) (opposed-clashes (getD (words o) j (pos 0)) (word o) (sym (toZ-ofZ (record { sfits = c .before .before .before .if22 .given })) ∙ ap (toZ w32) (rw (opposite-at n) at (c .if2 .taken)) ∙ opposite-back n))
 
 pub find-clash-spec : {M : Type 1} → statement M
 find-clash-spec =

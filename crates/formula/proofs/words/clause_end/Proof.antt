@@ -9,8 +9,8 @@ use borrow.Author.Needs.{needs}
 use denote.Ref.{now}
 use lib.ListN.{length, drop}
 use lib.IntN.{ℤ}
-use Rattle.formula.specs.ClauseWords.{wordAt, closeFrom}
-use Rattle.formula.specs.ClauseWords.Laws.{word-within, close-past-word, close-at-zero, close-at-end}
+use Rattle.formula.specs.Words.{wordAt, closeFrom}
+use Rattle.formula.specs.Words.Laws.{word-within, close-past-word, close-at-zero, close-at-end}
 use Rattle.formula.specs.declared.words.ClauseWord.the-variants.{Word}
 use Rattle.formula.proofs.words.clause_end.Statement.{statement}
 use Rattle.formula.proofs.words.clause_end.Tie as tie

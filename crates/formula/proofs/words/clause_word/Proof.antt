@@ -37,7 +37,7 @@ use denote.Triple.Spec.{tripleOf}
 use denote.Triple.Statement.{Contract, Triple}
 use denote.Triple.Table.{entered, cited}
 use denote.Triple.Walked.{says, walkOf, ends-at}
-use Rattle.formula.specs.ClauseWords.{wordAt, placeAfter}
+use Rattle.formula.specs.Words.{wordAt, placeAfter}
 use Rattle.formula.specs.declared.words.WordRead.{WordRead}
 use Rattle.formula.specs.declared.words.WordReader.{WordReader}
 use Rattle.formula.proofs.Lent.{Words, words-val, lent, passed, taken, token, taken-lent, lent-taken, lent-passed, lent-stays, lent-goes, Reader, reader-type, reader-laws, reader-val, Read, read-type, read-laws, read-val, word-val, answered, walk-shown}

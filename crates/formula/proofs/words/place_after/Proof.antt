@@ -2,7 +2,7 @@
 use mathlib.Core.Path.{sym}
 use native.Mathlib.Numerals.{add-one}
 use borrow.Author.Needs.{needs}
-use Rattle.formula.specs.ClauseWords.Laws.{place-after-end, place-after-word}
+use Rattle.formula.specs.Words.Laws.{place-after-end, place-after-word}
 use Rattle.formula.proofs.words.place_after.Statement.{statement}
 use Rattle.formula.proofs.words.place_after.Tie as tie
 

@@ -6,8 +6,8 @@ use lib.IntN.{pos}
 use mir.Syntax.{w32}
 use mir.Val.{toZ, ofZ, SFits}
 use denote.Ref.{now}
-use Rattle.formula.specs.ClauseWords.{wordIs}
-use Rattle.formula.specs.ClauseWords.Laws.{word-at-end, word-at-word, word-nonzero}
+use Rattle.formula.specs.Words.{wordIs}
+use Rattle.formula.specs.Words.Laws.{word-at-end, word-at-word, word-nonzero}
 use Rattle.formula.proofs.Signed.{bits-zero}
 use Rattle.formula.proofs.words.word_at.Statement.{statement}
 use Rattle.formula.proofs.words.word_at.Tie as tie

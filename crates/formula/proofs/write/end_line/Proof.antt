@@ -1,7 +1,7 @@
 -- `end_line` stores nothing where no line is open, else 0 and LF. Assumes nothing.
 use Rattle.formula.specs.Store.Laws.{stores-none}
-use Rattle.formula.specs.Writing.{lineEnd}
-use Rattle.formula.specs.Written.Laws.{line-end-open}
+use Rattle.formula.specs.Write.Stream.{lineEnd}
+use Rattle.formula.specs.Write.Laws.{line-end-open}
 use borrow.Author.Needs.{needs}
 use Rattle.formula.proofs.write.end_line.Statement.{statement}
 use Rattle.formula.proofs.write.end_line.Tie as tie

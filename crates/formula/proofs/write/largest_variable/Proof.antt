@@ -7,8 +7,8 @@ use native.Mathlib.Omega.{arith}
 use borrow.Author.Needs.{needs}
 use lib.ListN.{drop, drop-of-length-le}
 use Rattle.formula.specs.Prefix.{prefixOf, entryCount}
-use Rattle.formula.specs.Written.{largest}
-use Rattle.formula.specs.Written.Laws.{largest-drop}
+use Rattle.formula.specs.Write.{largest}
+use Rattle.formula.specs.Write.Laws.{largest-drop}
 use Rattle.formula.proofs.write.largest_variable.Statement.{statement}
 use Rattle.formula.proofs.write.largest_variable.Tie as tie
 

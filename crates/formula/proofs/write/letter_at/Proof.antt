@@ -3,7 +3,7 @@ use mathlib.Core.Path.{ap, sym, _∙_}
 use Rattle.qbf.specs.Formula.{Entry}
 use Rattle.formula.specs.Prefix.{entryAt}
 use Rattle.formula.specs.Prefix.Laws.{shown-existential, shown-universal}
-use Rattle.formula.specs.Written.{letterOf}
+use Rattle.formula.specs.Write.{letterOf}
 use borrow.Author.Needs.{needs}
 use Rattle.formula.proofs.write.letter_at.Statement.{statement}
 use Rattle.formula.proofs.write.letter_at.Tie as tie

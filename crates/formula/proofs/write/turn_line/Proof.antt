@@ -3,8 +3,8 @@ use mathlib.Core.Path.{_≡_}
 use mathlib.Core.List.{[], _∷_, _++_}
 use lib.Dec.{eqb}
 use Rattle.formula.specs.Store.Laws.{stores-none, stores-append, below-first, below-rest}
-use Rattle.formula.specs.Writing.{lineEnd, lineTurn}
-use Rattle.formula.specs.Written.Laws.{line-turn-same, line-turn-other}
+use Rattle.formula.specs.Write.Stream.{lineEnd, lineTurn}
+use Rattle.formula.specs.Write.Laws.{line-turn-same, line-turn-other}
 use borrow.Author.Needs.{needs}
 use Rattle.formula.proofs.write.turn_line.Statement.{statement}
 use Rattle.formula.proofs.write.turn_line.Tie as tie

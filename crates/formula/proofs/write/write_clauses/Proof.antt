@@ -11,8 +11,8 @@ use mir.Syntax.{w32}
 use mir.Val.{toZ, ofZ}
 use Rattle.formula.specs.Store.{Remains}
 use Rattle.formula.specs.Store.Laws.{remains-all, remains-less, remains-none, remains-length, below-first, below-remains}
-use Rattle.formula.specs.Writing.{wordText, clausesText}
-use Rattle.formula.specs.Written.Laws.{clauses-text-drop}
+use Rattle.formula.specs.Write.Stream.{wordText, clausesText}
+use Rattle.formula.specs.Write.Laws.{clauses-text-drop}
 use Rattle.formula.proofs.write.write_clauses.Statement.{statement}
 use Rattle.formula.proofs.write.write_clauses.Tie as tie
 

@@ -3,7 +3,7 @@ use mathlib.Core.List.{[], _∷_, _++_}
 use lib.Dec.{eqb}
 use Rattle.formula.specs.Decimal.{decimal}
 use Rattle.formula.specs.Store.Laws.{stores-append, below-first, below-rest}
-use Rattle.formula.specs.Writing.{lineTurn, entryText}
+use Rattle.formula.specs.Write.Stream.{lineTurn, entryText}
 use borrow.Author.Needs.{needs}
 use Rattle.formula.proofs.write.write_entry.Statement.{statement}
 use Rattle.formula.proofs.write.write_entry.Tie as tie

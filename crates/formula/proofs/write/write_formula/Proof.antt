@@ -2,7 +2,7 @@
 use mathlib.Core.Path.{_≡_, sym, _∙_}
 use Rattle.formula.specs.Tables.{zeros, Admitted}
 use Rattle.formula.specs.Tables.Laws.{answer-admitted, answer-refused}
-use Rattle.formula.specs.Written.Room.{writes-refused, writes-finished}
+use Rattle.formula.specs.Write.Room.{writes-refused, writes-finished}
 use borrow.Author.Needs.{needs}
 use Rattle.formula.proofs.write.write_formula.Statement.{statement}
 use Rattle.formula.proofs.write.write_formula.Tie as tie

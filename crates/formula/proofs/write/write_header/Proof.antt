@@ -1,8 +1,8 @@
 -- `write_header` stores the header's five parts in order. Assumes nothing.
 use native.Mathlib.Omega.{arith}
 use Rattle.formula.specs.Store.Laws.{stores-append}
-use Rattle.formula.specs.Written.{headerText}
-use Rattle.formula.specs.Written.Laws.{length-header}
+use Rattle.formula.specs.Write.{headerText}
+use Rattle.formula.specs.Write.Laws.{length-header}
 use borrow.Author.Needs.{needs}
 use Rattle.formula.proofs.write.write_header.Statement.{statement}
 use Rattle.formula.proofs.write.write_header.Tie as tie

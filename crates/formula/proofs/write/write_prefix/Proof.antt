@@ -10,8 +10,8 @@ use lib.ListN.{drop, drop-of-length-le}
 use Rattle.formula.specs.Prefix.{prefixOf, entryCount}
 use Rattle.formula.specs.Store.{Remains}
 use Rattle.formula.specs.Store.Laws.{remains-all, remains-less, remains-last, remains-length, below-first, below-remains}
-use Rattle.formula.specs.Writing.{lineEnd, entryText, prefixText}
-use Rattle.formula.specs.Written.Laws.{prefix-text-drop}
+use Rattle.formula.specs.Write.Stream.{lineEnd, entryText, prefixText}
+use Rattle.formula.specs.Write.Laws.{prefix-text-drop}
 use Rattle.formula.proofs.write.write_prefix.Statement.{statement}
 use Rattle.formula.proofs.write.write_prefix.Tie as tie
 

@@ -7,10 +7,10 @@ use lib.ListN.{length}
 use Rattle.formula.specs.Store.Laws.{stores-append, below-first, below-rest}
 use Rattle.formula.specs.Prefix.{prefixOf}
 use Rattle.formula.specs.Tables.Laws.{admitted-entries}
-use Rattle.formula.specs.Written.{written, headerText}
-use Rattle.formula.specs.Writing.{prefixText, clausesText}
-use Rattle.formula.specs.Written.Lines.{written-parts}
-use Rattle.formula.specs.Written.Length.{clauses-bounded, written-below}
+use Rattle.formula.specs.Write.{written, headerText}
+use Rattle.formula.specs.Write.Stream.{prefixText, clausesText}
+use Rattle.formula.specs.Write.Lines.{written-parts}
+use Rattle.formula.specs.Write.Length.{clauses-bounded, written-below}
 use borrow.Author.Needs.{needs}
 use Rattle.formula.proofs.write.write_tables.Statement.{statement}
 use Rattle.formula.proofs.write.write_tables.Tie as tie

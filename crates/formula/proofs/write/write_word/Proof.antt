@@ -5,9 +5,9 @@ use mir.Syntax.{w32}
 use mir.Val.{toZ, ofZ}
 use Rattle.formula.specs.Decimal.{decimal}
 use Rattle.formula.specs.Store.Laws.{stores-append, below-first, below-rest}
-use Rattle.formula.specs.Writing.{wordText}
+use Rattle.formula.specs.Write.Stream.{wordText}
 use Rattle.formula.specs.Word.Laws.{not-too-large}
-use Rattle.formula.specs.Written.Laws.{text-zero, text-positive, text-negative}
+use Rattle.formula.specs.Write.Laws.{text-zero, text-positive, text-negative}
 use borrow.Author.Needs.{needs}
 use Rattle.formula.proofs.write.write_word.Statement.{statement}
 use Rattle.formula.proofs.write.write_word.Tie as tie

@@ -17,13 +17,14 @@ use Rattle.formula.specs.Bounds.{variableBound}
 use Rattle.qbf.specs.Formula.{Prefix, listed}
 use Rattle.formula.specs.Prefix.{prefixWords}
 use Rattle.formula.specs.Tables.{isIn, zeros}
-use Rattle.formula.specs.Text.{readingFrom, read, clauses, stopped, signed, openFrom, openClause, isOpen, literalRefusal, closingRefusal, putLiteral, clauseToken, clausesEnding, step, ending}
-use Rattle.formula.specs.Refusal.{unless, refusal, require}
+use Rattle.formula.specs.Word.{signed}
+use Rattle.formula.specs.Text.{readingFrom, read, clauses, stoppedAt, openFrom, openClause, isOpen, literalReason, closingReason, putLiteral, clauseToken, clausesEnding, step, ending}
+use Rattle.formula.specs.Refusal.{unless, inText, require}
 use Rattle.formula.specs.Text.Sets.{Listed}
 use Rattle.formula.specs.Text.Clauses.{
   Marked,
   literalStep,
-  markedRefusal,
+  markedReason,
   LiteralPost,
   closingStep,
   ClosingPost,
@@ -36,7 +37,7 @@ use Rattle.formula.specs.Text.Laws.{literal-fine, closing-fine, from-end
 use Rattle.formula.specs.Token.{nextToken}
 use Rattle.formula.specs.Token.Laws.{FoundAt}
 use Rattle.formula.specs.declared.refusal.Reason.the-variants.{Miscount}
-use Rattle.formula.specs.declared.refusal.Refusal.{Refusal}
+use Rattle.formula.specs.declared.refusal.Reason.{Reason}
 use Rattle.formula.specs.declared.token.Token.{Token}
 use Rattle.formula.specs.declared.token.Token.the-variants.{Natural}
 use Rattle.formula.specs.declared.clauses.ClauseStep.{ClauseStep}
@@ -143,68 +144,68 @@ module _ (marks : List ℕ) (P : Prefix) (words : List ℤ) (closed : ℕ) (M : 
       }
 
 -- Above V the marks are not asked.
-literal-refusal-marks : (at v n : ℕ) (bound bound′ clash clash′ : Bool) (used room : ℕ) → (n ≤ v → bound ≡ bound′) → (n ≤ v → clash ≡ clash′) → literalRefusal at v n bound clash used room ≡ literalRefusal at v n bound′ clash′ used room
-unfolding literalRefusal
-literal-refusal-marks at v n bound bound′ clash clash′ used room e f = go (leb n v) refl
+literal-reason-marks : (v n : ℕ) (bound bound′ clash clash′ : Bool) (used room : ℕ) → (n ≤ v → bound ≡ bound′) → (n ≤ v → clash ≡ clash′) → literalReason v n bound clash used room ≡ literalReason v n bound′ clash′ used room
+unfolding literalReason
+literal-reason-marks v n bound bound′ clash clash′ used room e f = go (leb n v) refl
   where
-    go : (b : Bool) → leb n v ≡ b → literalRefusal at v n bound clash used room ≡ literalRefusal at v n bound′ clash′ used room
+    go : (b : Bool) → leb n v ≡ b → literalReason v n bound clash used room ≡ literalReason v n bound′ clash′ used room
     go true g = rw (e (leb-true n v g), f (leb-true n v g))
     go false g = rw g
 
-pub literal-none : (x : Option Refusal) → Literal ≡ literalStep x → x ≡ none
+pub literal-none : (x : Option Reason) → Literal ≡ literalStep x → x ≡ none
 literal-none none e = refl
 literal-none (some r) e = let z : _≡_ {A = ℕ} 0 1 = cc in absurd (omega arith)
 
 -- What a literal does to the state and to the tables, by its answer; `token` is read as the literal.
-module _ {n place v : ℕ} {positive : Bool} {used closed : ℕ} {table : List ℤ} {marks : List ℕ} {table′ : List ℤ} {marks′ : List ℕ} {answer : ClauseStep} (small : v ≤ variableBound) (room : used ≤ length table) (size : length marks ≡ variableBound + 1) (token : Token) (isLiteral : (prefixRoom c : ℕ) (P : Prefix) → clauseToken prefixRoom (length table) place v c P (take used table) token ≡ putLiteral prefixRoom (length table) place v c P (take used table) positive n) (post : LiteralPost n place v positive used closed table marks table′ marks′ answer) where
-  abbrev judged : Option Refusal
-  judged = markedRefusal place v n marks closed used (length table)
+module _ {n v : ℕ} {positive : Bool} {used closed : ℕ} {table : List ℤ} {marks : List ℕ} {table′ : List ℤ} {marks′ : List ℕ} {answer : ClauseStep} (small : v ≤ variableBound) (room : used ≤ length table) (size : length marks ≡ variableBound + 1) (token : Token) (isLiteral : (place prefixRoom c : ℕ) (P : Prefix) → clauseToken prefixRoom (length table) place v c P (take used table) token ≡ putLiteral prefixRoom (length table) place v c P (take used table) positive n) (post : LiteralPost n v positive used closed table marks table′ marks′ answer) where
+  abbrev judged : Option Reason
+  judged = markedReason v n marks closed used (length table)
 
-  literal-judged : (prefixRoom c : ℕ) (P : Prefix) → Marked marks P (take used table) closed → clauseToken prefixRoom (length table) place v c P (take used table) token ≡ unless stopped judged (clauses v c P (take used table ++ (signed positive n ∷ [])))
-  literal-judged prefixRoom c P M =
-      isLiteral prefixRoom c P ∙ rw (length-take-le used table room, literal-refusal-marks place v n (isIn n (listed P)) (ltb 0 (getD marks n 0)) (isIn n (openClause (take used table))) (eqb (getD marks n 0) (closed + 2)) used (length table) (λ h. M .says n (omega (arith, small))) (λ h. M .holds n (omega (arith, small))))
+  literal-judged : (place prefixRoom c : ℕ) (P : Prefix) → Marked marks P (take used table) closed → clauseToken prefixRoom (length table) place v c P (take used table) token ≡ unless (stoppedAt place) judged (clauses v c P (take used table ++ (signed positive n ∷ [])))
+  literal-judged place prefixRoom c P M =
+      isLiteral place prefixRoom c P ∙ rw (length-take-le used table room, literal-reason-marks v n (isIn n (listed P)) (ltb 0 (getD marks n 0)) (isIn n (openClause (take used table))) (eqb (getD marks n 0) (closed + 2)) used (length table) (λ h. M .says n (omega (arith, small))) (λ h. M .holds n (omega (arith, small))))
 
-  pub literal-post : ClauseTokenPost token place v used closed table marks table′ marks′ answer
+  pub literal-post : ClauseTokenPost token v used closed table marks table′ marks′ answer
   literal-post = go judged refl (post .answers)
     where
-      go : (o : Option Refusal) → judged ≡ o → answer ≡ literalStep o → ClauseTokenPost token place v used closed table marks table′ marks′ answer
+      go : (o : Option Reason) → judged ≡ o → answer ≡ literalStep o → ClauseTokenPost token v used closed table marks table′ marks′ answer
       go none e a =
-          let f = literal-fine place v n (ltb 0 (getD marks n 0)) (eqb (getD marks n 0) (closed + 2)) used (length table) e in
+          let f = literal-fine v n (ltb 0 (getD marks n 0)) (eqb (getD marks n 0) (closed + 2)) used (length table) e in
           let stored = rw a at (post .stores) in
           let pushed : take (used + 1) table′ ≡ take used table ++ (signed positive n ∷ []) = rw (stored .0) (take-push table used (signed positive n) (f .fits)) in
           rw a (record {
-            states = λ rp c P M. (
-              rw pushed (literal-judged rp c P M ∙ rw e),
+            states = λ p rp c P M. (
+              rw pushed (literal-judged p rp c P M ∙ rw e),
               rw (pushed, stored .1) (marked-literal marks P (take used table) closed M positive n (omega (arith, f .inRange, small)) (f .isBound)),
               rw (pushed, open-literal [] (take used table) positive n (marked-proper marks P (take used table) closed M n (f .isBound))),
             );
             stores = (f .fits, rw (stored .1, length-set) size);
           })
-      go (some r) e a = rw a (record { states = λ rp c P M. literal-judged rp c P M ∙ rw e; stores = tt })
+      go (some r) e a = rw a (record { states = λ p rp c P M. literal-judged p rp c P M ∙ rw e; stores = tt })
 
 -- A number that is not 0 is a literal.
-pub natural-literal : (place v used : ℕ) (table : List ℤ) (n : ℕ) → (n ≡ 0 → ⊥) → (prefixRoom c : ℕ) (P : Prefix) → clauseToken prefixRoom (length table) place v c P (take used table) (Natural n) ≡ putLiteral prefixRoom (length table) place v c P (take used table) true n
-natural-literal place v used table zero z prefixRoom c P = absurd (z refl)
-natural-literal place v used table (suc n) z prefixRoom c P = refl
+pub natural-literal : (v used : ℕ) (table : List ℤ) (n : ℕ) → (n ≡ 0 → ⊥) → (place prefixRoom c : ℕ) (P : Prefix) → clauseToken prefixRoom (length table) place v c P (take used table) (Natural n) ≡ putLiteral prefixRoom (length table) place v c P (take used table) true n
+natural-literal v used table zero z place prefixRoom c P = absurd (z refl)
+natural-literal v used table (suc n) z place prefixRoom c P = refl
 
 -- The same of a closing 0.
-pub closing-post : {place v used closed : ℕ} {table table′ : List ℤ} {marks : List ℕ} {answer : ClauseStep} → used ≤ length table → length marks ≡ variableBound + 1 → ClosingPost place used table table′ answer → ClauseTokenPost (Natural 0) place v used closed table marks table′ marks answer
-closing-post {place} {v} {used} {closed} {table} {table′} {marks} {answer} room size post = go (closingRefusal place used (length table)) refl (post .answers)
+pub closing-post : {v used closed : ℕ} {table table′ : List ℤ} {marks : List ℕ} {answer : ClauseStep} → used ≤ length table → length marks ≡ variableBound + 1 → ClosingPost used table table′ answer → ClauseTokenPost (Natural 0) v used closed table marks table′ marks answer
+closing-post {v} {used} {closed} {table} {table′} {marks} {answer} room size post = go (closingReason used (length table)) refl (post .answers)
   where
-    go : (o : Option Refusal) → closingRefusal place used (length table) ≡ o → answer ≡ closingStep o → ClauseTokenPost (Natural 0) place v used closed table marks table′ marks answer
+    go : (o : Option Reason) → closingReason used (length table) ≡ o → answer ≡ closingStep o → ClauseTokenPost (Natural 0) v used closed table marks table′ marks answer
     go none e a =
-        let f = closing-fine place used (length table) e in
+        let f = closing-fine used (length table) e in
         let stored = rw a at (post .stores) in
         let pushed : take (used + 1) table′ ≡ take used table ++ (pos 0 ∷ []) = rw stored (take-push table used (pos 0) (f .fits)) in
         rw a (record {
-          states = λ rp c P M. (
+          states = λ p rp c P M. (
             rw (pushed, length-take-le used table room, e),
             rw pushed (marked-closing marks P (take used table) closed M),
             rw (pushed, open-closing [] (take used table)),
           );
           stores = (f .fits, size);
         })
-    go (some r) e a = rw a (record { states = λ rp c P M. rw (length-take-le used table room, e); stores = tt })
+    go (some r) e a = rw a (record { states = λ p rp c P M. rw (length-take-le used table room, e); stores = tt })
 
 -- Among the clauses, at the place `at`: `used` words are used, `closed` clauses are closed, the open one from `start` on.
 pub record ClausesRead (text : List ℕ) (from v c : ℕ) (room : ℕ) (table : List ℤ) (marks : List ℕ) (at used closed start prefixRoom : ℕ) (P : Prefix) : Type 0 where
@@ -246,22 +247,22 @@ module _ {text : List ℕ} {from v c : ℕ} {table₀ table : List ℤ} {marks�
 
   module _ {t : Token} {p k : ℕ} (f : FoundAt text at t p k) where
     -- The token at hand goes to a clause, or is one too many.
-    clauses-step : (b : Bool) → ltb closed c ≡ b → (prefixRoom : ℕ) (P : Prefix) → Listed marks₀ P → readingFrom prefixRoom (length table₀) text (clauses v c P []) from ≡ readingFrom prefixRoom (length table₀) text (require b (stopped (refusal Miscount p)) (clauseToken prefixRoom (length table₀) p v c P (take used table) t)) k
+    clauses-step : (b : Bool) → ltb closed c ≡ b → (prefixRoom : ℕ) (P : Prefix) → Listed marks₀ P → readingFrom prefixRoom (length table₀) text (clauses v c P []) from ≡ readingFrom prefixRoom (length table₀) text (require b (stoppedAt p Miscount) (clauseToken prefixRoom (length table₀) p v c P (take used table) t)) k
     unfolding step
     clauses-step b e rp P L =
         let R = I .sofar rp P L in
         R .reads ∙ from-token rp (length table₀) text (clauses v c P (take used table)) f ∙ rw (R .marked .count, e)
 
-    pub clauses-over : c ≤ closed → (table′ : List ℤ) (prefixRoom : ℕ) (P : Prefix) → Listed marks₀ P → ClausesPost text from v c prefixRoom P table₀ table′ (NoClauses (refusal Miscount p))
+    pub clauses-over : c ≤ closed → (table′ : List ℤ) (prefixRoom : ℕ) (P : Prefix) → Listed marks₀ P → ClausesPost text from v c prefixRoom P table₀ table′ (NoClauses (inText p Miscount))
     clauses-over h table′ rp P L =
-        clauses-step false (le-ltb closed c h) rp P L ∙ from-stopped rp (length table₀) text (refusal Miscount p) k
+        clauses-step false (le-ltb closed c h) rp P L ∙ from-stopped rp (length table₀) text (inText p Miscount) k
 
     module _ (h : closed < c) where
-      pub clauses-refuse : {r : Refusal} {table′ : List ℤ} {marks′ : List ℕ} → ClauseTokenPost t p v used closed table marks table′ marks′ (NoStep r) → (prefixRoom : ℕ) (P : Prefix) → Listed marks₀ P → ClausesPost text from v c prefixRoom P table₀ table′ (NoClauses r)
+      pub clauses-refuse : {r : Reason} {table′ : List ℤ} {marks′ : List ℕ} → ClauseTokenPost t v used closed table marks table′ marks′ (NoStep r) → (prefixRoom : ℕ) (P : Prefix) → Listed marks₀ P → ClausesPost text from v c prefixRoom P table₀ table′ (NoClauses (inText p r))
       clauses-refuse {r} post rp P L =
-          clauses-step true (lt-ltb closed c h) rp P L ∙ rw (← I .same, post .states rp c P (I .sofar rp P L .marked)) (from-stopped rp (length table) text r k)
+          clauses-step true (lt-ltb closed c h) rp P L ∙ rw (← I .same, post .states p rp c P (I .sofar rp P L .marked)) (from-stopped rp (length table) text (inText p r) k)
 
-      pub clauses-literal : {table′ : List ℤ} {marks′ : List ℕ} → length table′ ≡ length table → ClauseTokenPost t p v used closed table marks table′ marks′ Literal → ClausesSoFar text from v c table₀ table′ marks₀ marks′ k (used + 1) closed start
+      pub clauses-literal : {table′ : List ℤ} {marks′ : List ℕ} → length table′ ≡ length table → ClauseTokenPost t v used closed table marks table′ marks′ Literal → ClausesSoFar text from v c table₀ table′ marks₀ marks′ k (used + 1) closed start
       clauses-literal {table′} {marks′} l post =
           record {
             room = omega (arith, l, post .stores .0);
@@ -269,7 +270,7 @@ module _ {text : List ℕ} {from v c : ℕ} {table₀ table : List ℤ} {marks�
             size = post .stores .1;
             begun = omega (arith, I .begun);
             few = I .few;
-            sofar = λ rp P L. more rp P L (post .states rp c P (I .sofar rp P L .marked));
+            sofar = λ rp P L. more rp P L (post .states p rp c P (I .sofar rp P L .marked));
           }
         where
           more : (rp : ℕ) (P : Prefix) → Listed marks₀ P → TokenStates t p v used closed table table′ marks′ rp c P Literal → ClausesRead text from v c (length table₀) table′ marks′ k (used + 1) closed start rp P
@@ -280,7 +281,7 @@ module _ {text : List ℕ} {from v c : ℕ} {table₀ table : List ℤ} {marks�
                 reads = clauses-step true (lt-ltb closed c h) rp P L ∙ rw (← I .same, s .0);
               }
 
-      pub clauses-closed : {table′ : List ℤ} {marks′ : List ℕ} → length table′ ≡ length table → ClauseTokenPost t p v used closed table marks table′ marks′ Closed → ClausesSoFar text from v c table₀ table′ marks₀ marks′ k (used + 1) (closed + 1) (used + 1)
+      pub clauses-closed : {table′ : List ℤ} {marks′ : List ℕ} → length table′ ≡ length table → ClauseTokenPost t v used closed table marks table′ marks′ Closed → ClausesSoFar text from v c table₀ table′ marks₀ marks′ k (used + 1) (closed + 1) (used + 1)
       clauses-closed {table′} {marks′} l post =
           record {
             room = omega (arith, l, post .stores .0);
@@ -288,7 +289,7 @@ module _ {text : List ℕ} {from v c : ℕ} {table₀ table : List ℤ} {marks�
             size = post .stores .1;
             begun = omega arith;
             few = omega arith;
-            sofar = λ rp P L. more rp P L (post .states rp c P (I .sofar rp P L .marked));
+            sofar = λ rp P L. more rp P L (post .states p rp c P (I .sofar rp P L .marked));
           }
         where
           more : (rp : ℕ) (P : Prefix) → Listed marks₀ P → TokenStates t p v used closed table table′ marks′ rp c P Closed → ClausesRead text from v c (length table₀) table′ marks′ k (used + 1) (closed + 1) (used + 1) rp P

@@ -2,15 +2,14 @@
 use Prim.Native.Nat.{ℕ}
 use mathlib.Core.Path.{_≡_, refl, _∙_}
 use mathlib.Core.Bool.{Bool, true, false}
-use mathlib.Core.Option.{Option, none, some}
 use mathlib.Core.List.{List, []}
 use lib.ListN.{length}
 use lib.Dec.{leb, eqb}
 use Rattle.formula.specs.Bounds.{variableBound, countBound}
-use Rattle.formula.specs.Refusal.{refusal, require}
+use Rattle.formula.specs.Refusal.{refusal, inText, require}
 use Rattle.formula.specs.Token.{pWord, cnfWord, Placed, placed, nextToken}
 use Rattle.formula.specs.Token.Laws.{FoundAt, token-found}
-use Rattle.formula.specs.Text.{refused, State, wantsP, wantsCnf, wantsV, wantsC, betweenSets, stopped, headerWord, headerNumber, step, ending, readingFrom}
+use Rattle.formula.specs.Text.{refused, State, wantsP, wantsCnf, wantsV, wantsC, betweenSets, stoppedAt, headerWord, headerNumber, step, ending, readingFrom}
 use Rattle.formula.specs.Text.Laws.{from-end, from-token, from-stopped}
 use Rattle.formula.specs.Text.Header.{valueOf, fieldOr, fieldFound, HeaderPost}
 use Rattle.formula.specs.declared.refusal.Reason.the-variants.{Headless, Oversized}
@@ -20,15 +19,17 @@ use Rattle.formula.specs.declared.token.Next.{Next}
 use Rattle.formula.specs.declared.token.Next.the-variants.{End, Found}
 use Rattle.formula.specs.declared.header.Wanted.{Wanted}
 use Rattle.formula.specs.declared.header.Wanted.the-variants.{Word as WantsWord, Number as WantsNumber}
+use Rattle.formula.specs.declared.header.FieldValue.{FieldValue}
+use Rattle.formula.specs.declared.header.FieldValue.the-variants.{Value, Other}
 use Rattle.formula.specs.declared.header.FieldAnswer.{FieldAnswer}
 use Rattle.formula.specs.declared.header.FieldAnswer.the-variants.{Field, Refused as NoField}
 use Rattle.formula.specs.declared.header.HeaderAnswer.{HeaderAnswer}
 use Rattle.formula.specs.declared.header.HeaderAnswer.the-variants.{Header, Refused as NoHeader}
 
 -- The state after a token at the place `at`, by its value.
-abbrev valued : Option ℕ → ℕ → (ℕ → State) → State
-valued none at next = stopped (refusal Headless at)
-valued (some n) at next = next n
+abbrev valued : FieldValue → ℕ → (ℕ → State) → State
+valued Other at next = stoppedAt at Headless
+valued (Value n) at next = next n
 
 -- A word of the header and a number of it, by their value.
 word-valued : (w at : ℕ) (t : Token) (next : State) → headerWord w at t next ≡ valued (valueOf t (WantsWord w)) at (λ n. next)
@@ -36,12 +37,12 @@ word-valued w at (Natural n) next = refl
 word-valued w at (Negative n) next = refl
 word-valued w at (Word x) next = go (eqb x w)
   where
-    go : (b : Bool) → require b (stopped (refusal Headless at)) next ≡ valued (require b none (some 0)) at (λ n. next)
+    go : (b : Bool) → require b (stoppedAt at Headless) next ≡ valued (require b Other (Value 0)) at (λ n. next)
     go true = refl
     go false = refl
 
 abbrev pub bounded : ℕ → (ℕ → State) → ℕ → State
-bounded bound next n = require (leb n bound) (stopped (refusal Oversized 0)) (next n)
+bounded bound next n = require (leb n bound) (stoppedAt 0 Oversized) (next n)
 
 number-valued : (bound at : ℕ) (t : Token) (next : ℕ → State) → headerNumber bound at t next ≡ valued (valueOf t WantsNumber) at (bounded bound next)
 number-valued bound at (Natural n) next = refl
@@ -52,7 +53,7 @@ module _ (prefixRoom clauseRoom : ℕ) (text : List ℕ) where
   -- A state of the header, what it wants and what follows by the value.
   record Wants (s : State) (wanted : Wanted) (next : ℕ → State) : Type 0 where
     steps : (t : Placed) → step prefixRoom clauseRoom s t ≡ valued (valueOf (t .token) wanted) (t .place) next
-    ends : ending (length text) s ≡ refused (refusal Headless (length text))
+    ends : ending (length text) s ≡ refused (inText (length text) Headless)
 
   abbrev pub FieldReads : State → (ℕ → State) → ℕ → FieldAnswer → Type 0
   FieldReads s next at (Field n k) = readingFrom prefixRoom clauseRoom text s at ≡ readingFrom prefixRoom clauseRoom text (next n) k
@@ -62,9 +63,9 @@ module _ (prefixRoom clauseRoom : ℕ) (text : List ℕ) where
   unfolding fieldFound
   field-read s wanted next at W = go (nextToken text at) refl
     where
-      test : (t : Token) (p k : ℕ) → FoundAt text at t p k → (o : Option ℕ) → valueOf t wanted ≡ o → FieldReads s next at (fieldOr o p k)
-      test t p k e none f = from-token prefixRoom clauseRoom text s e ∙ rw (W .steps (placed t p), f) (from-stopped prefixRoom clauseRoom text (refusal Headless p) k)
-      test t p k e (some n) f = from-token prefixRoom clauseRoom text s e ∙ rw (W .steps (placed t p), f)
+      test : (t : Token) (p k : ℕ) → FoundAt text at t p k → (o : FieldValue) → valueOf t wanted ≡ o → FieldReads s next at (fieldOr o p k)
+      test t p k e Other f = from-token prefixRoom clauseRoom text s e ∙ rw (W .steps (placed t p), f) (from-stopped prefixRoom clauseRoom text (inText p Headless) k)
+      test t p k e (Value n) f = from-token prefixRoom clauseRoom text s e ∙ rw (W .steps (placed t p), f)
 
       go : (nx : Next) → nextToken text at ≡ nx → FieldReads s next at (fieldFound (length text) wanted nx)
       go End e = from-end prefixRoom clauseRoom text s at e ∙ W .ends

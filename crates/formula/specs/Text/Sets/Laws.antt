@@ -14,17 +14,18 @@ use lib.Dec.{ltb, leb, eqb}
 use lib.IntN.{ℤ}
 use Rattle.qbf.specs.Formula.{Quantifier, entry, Prefix, listed}
 use Rattle.formula.specs.Bounds.{variableBound}
-use Rattle.formula.specs.Refusal.{refusal, unless}
+use Rattle.formula.specs.Refusal.{inText, unless}
 use Rattle.formula.specs.Prefix.{prefixOf, entryFits, usedAfter, quantifierOf}
 use Rattle.formula.specs.Prefix.Laws.{prefix-none, prefix-words, put-entries, put-more, put-within}
 use Rattle.formula.specs.Tables.{isIn, zeros}
 use Rattle.formula.specs.Token.{aWord, eWord, nextToken}
 use Rattle.formula.specs.Token.Laws.{FoundAt}
-use Rattle.formula.specs.Text.{betweenSets, inSet, clauses, stopped, isWord, opens, openFrom, variableRefusal, setToken, clausesToken, step, ending, readingFrom}
+use Rattle.formula.specs.Text.{betweenSets, inSet, clauses, stoppedAt, isWord, opens, openFrom, variableReason, setToken, clausesToken, step, ending, readingFrom}
 use Rattle.formula.specs.Text.Distinct.{or-no}
 use Rattle.formula.specs.Text.Laws.{variable-fine, from-end, from-token, from-stopped}
 use Rattle.formula.specs.Text.Sets.{Listed, listing, ListingPost, setClosing, SetTokenPost, SetPost, SetsPost}
 use Rattle.formula.specs.declared.refusal.Reason.the-variants.{Unfinished}
+use Rattle.formula.specs.declared.refusal.Reason.{Reason}
 use Rattle.formula.specs.declared.refusal.Refusal.{Refusal}
 use Rattle.formula.specs.declared.token.Token.{Token}
 use Rattle.formula.specs.declared.token.Token.the-variants.{Natural, Word}
@@ -62,48 +63,48 @@ listed-more marks P q n h z L =
     small v (no e) = rw (getD-set-other marks n v 1 0 e) (L .small v)
 
 -- Above V the marks are not asked.
-variable-refusal-marks : (at v n : ℕ) (known marked fits : Bool) → (n ≤ v → known ≡ marked) → variableRefusal at v n known fits ≡ variableRefusal at v n marked fits
-unfolding variableRefusal
-variable-refusal-marks at v n known marked fits e = go (leb n v) refl
+variable-reason-marks : (v n : ℕ) (known marked fits : Bool) → (n ≤ v → known ≡ marked) → variableReason v n known fits ≡ variableReason v n marked fits
+unfolding variableReason
+variable-reason-marks v n known marked fits e = go (leb n v) refl
   where
-    go : (b : Bool) → leb n v ≡ b → variableRefusal at v n known fits ≡ variableRefusal at v n marked fits
+    go : (b : Bool) → leb n v ≡ b → variableReason v n known fits ≡ variableReason v n marked fits
     go true f = rw (e (leb-true n v f))
     go false f = rw f
 
 -- What a number other than 0 does to the state and to the tables, by its answer.
-module _ {n place v : ℕ} {q : Quantifier} {used : ℕ} {prefix : List ℤ} {marks : List ℕ} {prefix′ : List ℤ} {marks′ : List ℕ} {answer : SetStep} (filled : Bool) (small : v ≤ variableBound) (room : used ≤ length prefix) (L : Listed marks (prefixOf (take used prefix))) (z : 0 < n) (post : ListingPost n place v q used prefix marks prefix′ marks′ answer) where
+module _ {n v : ℕ} {q : Quantifier} {used : ℕ} {prefix : List ℤ} {marks : List ℕ} {prefix′ : List ℤ} {marks′ : List ℕ} {answer : SetStep} (filled : Bool) (small : v ≤ variableBound) (room : used ≤ length prefix) (L : Listed marks (prefixOf (take used prefix))) (z : 0 < n) (post : ListingPost n v q used prefix marks prefix′ marks′ answer) where
   -- It is judged by its mark.
-  abbrev judged : Option Refusal
-  judged = variableRefusal place v n (ltb 0 (getD marks n 0)) (entryFits (length prefix) used)
+  abbrev judged : Option Reason
+  judged = variableReason v n (ltb 0 (getD marks n 0)) (entryFits (length prefix) used)
 
-  set-judged : (m c clauseRoom : ℕ) → m ≡ n → setToken (length prefix) clauseRoom place v c q filled (prefixOf (take used prefix)) (Natural m) ≡ unless stopped judged (inSet v c q true (prefixOf (take used prefix) ++ (entry m q ∷ [])))
-  set-judged zero c clauseRoom e = absurd (omega arith)
-  set-judged (suc m) c clauseRoom e =
-      rw (prefix-words (take used prefix), length-take-le used prefix room, ← e, variable-refusal-marks place v (suc m) (isIn (suc m) (listed (prefixOf (take used prefix)))) (ltb 0 (getD marks (suc m) 0)) (entryFits (length prefix) used) (λ h. L .says (suc m) (omega (arith, small))))
+  set-judged : (m place c clauseRoom : ℕ) → m ≡ n → setToken (length prefix) clauseRoom place v c q filled (prefixOf (take used prefix)) (Natural m) ≡ unless (stoppedAt place) judged (inSet v c q true (prefixOf (take used prefix) ++ (entry m q ∷ [])))
+  set-judged zero place c clauseRoom e = absurd (omega arith)
+  set-judged (suc m) place c clauseRoom e =
+      rw (prefix-words (take used prefix), length-take-le used prefix room, ← e, variable-reason-marks v (suc m) (isIn (suc m) (listed (prefixOf (take used prefix)))) (ltb 0 (getD marks (suc m) 0)) (entryFits (length prefix) used) (λ h. L .says (suc m) (omega (arith, small))))
 
-  pub variable-post : SetTokenPost (Natural n) place v q filled used prefix marks prefix′ marks′ answer
+  pub variable-post : SetTokenPost (Natural n) v q filled used prefix marks prefix′ marks′ answer
   variable-post = go judged refl (post .answers)
     where
-      go : (o : Option Refusal) → judged ≡ o → answer ≡ listing (usedAfter used) o → SetTokenPost (Natural n) place v q filled used prefix marks prefix′ marks′ answer
+      go : (o : Option Reason) → judged ≡ o → answer ≡ listing (usedAfter used) o → SetTokenPost (Natural n) v q filled used prefix marks prefix′ marks′ answer
       go none e a =
-          let f = variable-fine place v n (ltb 0 (getD marks n 0)) (entryFits (length prefix) used) e in
+          let f = variable-fine v n (ltb 0 (getD marks n 0)) (entryFits (length prefix) used) e in
           let stored = rw a at (post .stores) in
           let pushed : prefixOf (take (usedAfter used) prefix′) ≡ prefixOf (take used prefix) ++ (entry n q ∷ []) = rw (stored .0) (put-entries prefix used n q (f .room) z) in
           rw a (record {
-            states = λ c rc. rw pushed (set-judged n c rc refl ∙ rw e);
+            states = λ p c rc. rw pushed (set-judged n p c rc refl ∙ rw e);
             stores = (
               put-more used,
               put-within (length prefix) used (f .room),
               rw (pushed, stored .1) (listed-more marks (prefixOf (take used prefix)) q n (omega (arith, f .inRange, small)) z L),
             );
           })
-      go (some r) e a = rw a (record { states = λ c rc. set-judged n c rc refl ∙ rw e; stores = tt })
+      go (some r) e a = rw a (record { states = λ p c rc. set-judged n p c rc refl ∙ rw e; stores = tt })
 
 -- A set's closing 0.
-pub closing-post : (n place v : ℕ) (q : Quantifier) (filled : Bool) (used : ℕ) (prefix : List ℤ) (marks : List ℕ) → n ≤ 0 → SetTokenPost (Natural n) place v q filled used prefix marks prefix marks (setClosing filled place)
-closing-post zero place v q true used prefix marks z = record { states = λ c rc. refl; stores = (refl, refl) }
-closing-post zero place v q false used prefix marks z = record { states = λ c rc. refl; stores = tt }
-closing-post (suc n) place v q filled used prefix marks z = absurd (omega arith)
+pub closing-post : (n v : ℕ) (q : Quantifier) (filled : Bool) (used : ℕ) (prefix : List ℤ) (marks : List ℕ) → n ≤ 0 → SetTokenPost (Natural n) v q filled used prefix marks prefix marks (setClosing filled)
+closing-post zero v q true used prefix marks z = record { states = λ p c rc. refl; stores = (refl, refl) }
+closing-post zero v q false used prefix marks z = record { states = λ p c rc. refl; stores = tt }
+closing-post (suc n) v q filled used prefix marks z = absurd (omega arith)
 
 -- In a set, at the place `at`: `used` words were used as it began, n are now.
 pub record SetSoFar (text : List ℕ) (start v : ℕ) (q : Quantifier) (used : ℕ) (prefix₀ prefix : List ℤ) (marks : List ℕ) (at n : ℕ) : Type 0 where
@@ -119,7 +120,7 @@ set-begins text start v q used prefix marks h L =
     record { room = h; more = omega arith; same = refl; listed = L; on = omega arith; reads = λ c rc. rw (le-ltb used used (omega arith)) }
 
 module _ {text : List ℕ} {start v : ℕ} {q : Quantifier} {used : ℕ} {prefix₀ prefix : List ℤ} {marks : List ℕ} {at n : ℕ} (I : SetSoFar text start v q used prefix₀ prefix marks at n) where
-  pub set-ends : nextToken text at ≡ End → (prefix′ : List ℤ) (marks′ : List ℕ) → SetPost text start v q used prefix₀ prefix′ marks′ (NoSets (refusal Unfinished (length text)))
+  pub set-ends : nextToken text at ≡ End → (prefix′ : List ℤ) (marks′ : List ℕ) → SetPost text start v q used prefix₀ prefix′ marks′ (NoSets (inText (length text) Unfinished))
   unfolding ending
   set-ends e prefix′ marks′ = λ c rc. I .reads c rc ∙ from-end (length prefix₀) rc text _ at e
 
@@ -129,14 +130,14 @@ module _ {text : List ℕ} {start v : ℕ} {q : Quantifier} {used : ℕ} {prefix
     unfolding step
     set-step c rc = I .reads c rc ∙ from-token (length prefix₀) rc text _ f
 
-    pub set-closes : {prefix′ : List ℤ} {marks′ : List ℕ} → SetTokenPost t p v q (ltb used n) n prefix marks prefix′ marks′ Closes → SetPost text start v q used prefix₀ prefix′ marks′ (Sets n k)
+    pub set-closes : {prefix′ : List ℤ} {marks′ : List ℕ} → SetTokenPost t v q (ltb used n) n prefix marks prefix′ marks′ Closes → SetPost text start v q used prefix₀ prefix′ marks′ (Sets n k)
     set-closes post =
-        rw (post .stores .0, post .stores .1) (λ c rc. set-step c rc ∙ rw (← I .same, post .states c rc), I .listed, I .room, omega (arith, f .after, I .on))
+        rw (post .stores .0, post .stores .1) (λ c rc. set-step c rc ∙ rw (← I .same, post .states p c rc), I .listed, I .room, omega (arith, f .after, I .on))
 
-    pub set-refuses : {r : Refusal} {prefix′ : List ℤ} {marks′ : List ℕ} → SetTokenPost t p v q (ltb used n) n prefix marks prefix′ marks′ (NoListing r) → SetPost text start v q used prefix₀ prefix′ marks′ (NoSets r)
-    set-refuses {r} post = λ c rc. set-step c rc ∙ rw (← I .same, post .states c rc) (from-stopped (length prefix) rc text r k)
+    pub set-refuses : {r : Reason} {prefix′ : List ℤ} {marks′ : List ℕ} → SetTokenPost t v q (ltb used n) n prefix marks prefix′ marks′ (NoListing r) → SetPost text start v q used prefix₀ prefix′ marks′ (NoSets (inText p r))
+    set-refuses {r} post = λ c rc. set-step c rc ∙ rw (← I .same, post .states p c rc) (from-stopped (length prefix) rc text (inText p r) k)
 
-    pub set-lists : {more : ℕ} {prefix′ : List ℤ} {marks′ : List ℕ} → length prefix′ ≡ length prefix → SetTokenPost t p v q (ltb used n) n prefix marks prefix′ marks′ (Lists more) → SetSoFar text start v q used prefix₀ prefix′ marks′ k more
+    pub set-lists : {more : ℕ} {prefix′ : List ℤ} {marks′ : List ℕ} → length prefix′ ≡ length prefix → SetTokenPost t v q (ltb used n) n prefix marks prefix′ marks′ (Lists more) → SetSoFar text start v q used prefix₀ prefix′ marks′ k more
     set-lists {more} l post =
         record {
           room = omega (arith, l, post .stores .1);
@@ -144,7 +145,7 @@ module _ {text : List ℕ} {start v : ℕ} {q : Quantifier} {used : ℕ} {prefix
           same = l ∙ I .same;
           listed = post .stores .2;
           on = omega (arith, f .after, I .on);
-          reads = λ c rc. set-step c rc ∙ rw (← I .same, post .states c rc, lt-ltb used more (omega (arith, I .more, post .stores .0)));
+          reads = λ c rc. set-step c rc ∙ rw (← I .same, post .states p c rc, lt-ltb used more (omega (arith, I .more, post .stores .0)));
         }
 
 -- Between sets, at the place `at`: `used` words are used.

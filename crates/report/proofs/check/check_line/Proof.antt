@@ -2,9 +2,8 @@
 use mathlib.Core.Path.{sym, ap, _∙_}
 use lib.IntN.{pos}
 use lib.ListN.{length, take}
-use Rattle.report.specs.Check.{checkLine}
-use Rattle.report.specs.Checking.{lent}
-use Rattle.report.specs.Checking.Laws.{accepted-denotes-lost}
+use Rattle.report.specs.Check.{checkLine, lent}
+use Rattle.report.specs.Check.Laws.{accepted-denotes-lost}
 use Rattle.report.specs.Printing.Laws.{cleared-kept, stored-prints}
 use borrow.Author.Needs.{needs}
 use Rattle.report.proofs.check.check_line.Statement.{statement}

@@ -2,8 +2,8 @@
 -- Assumes nothing.
 use mathlib.Core.Path.{sym}
 use lib.Seq.{length-take-le}
-use Rattle.report.specs.Checking.Laws.{refused-line, read-line}
-use Rattle.report.specs.Settled.Laws.{formula-settled-read, formula-settled-refused}
+use Rattle.report.specs.Check.Laws.{refused-line, read-line}
+use Rattle.report.specs.Settle.Laws.{formula-settled-read, formula-settled-refused}
 use Rattle.report.specs.Printing.Laws.{stores-instead}
 use borrow.Author.Needs.{needs}
 use Rattle.report.proofs.check.files_line.Statement.{statement}

@@ -2,7 +2,7 @@
 use mathlib.Core.Path.{sym, ap}
 use lib.Seq.{length-take-le}
 use Rattle.report.specs.Check.{stepsLine}
-use Rattle.report.specs.Settled.Laws.{proof-settled-read, proof-settled-refused}
+use Rattle.report.specs.Settle.Laws.{proof-settled-read, proof-settled-refused}
 use Rattle.report.specs.Printing.Laws.{stores-instead}
 use borrow.Author.Needs.{needs}
 use Rattle.report.proofs.check.proof_line.Statement.{statement}

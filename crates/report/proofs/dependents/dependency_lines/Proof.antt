@@ -5,7 +5,7 @@ use mathlib.Core.List.{[]}
 use lib.ListN.{length, replicate}
 use lib.IntN.{pos}
 use Rattle.formula.specs.Clear.{clearFrom}
-use Rattle.report.specs.Checking.{lent}
+use Rattle.report.specs.Check.{lent}
 use Rattle.report.specs.Dependents.{dependencyText}
 use Rattle.report.specs.Printing.Laws.{stored-prints}
 use borrow.Author.Needs.{needs}

@@ -13,8 +13,8 @@ use Rattle.formula.specs.Store.{Remains}
 use Rattle.formula.specs.Store.Laws.{remains-all, remains-less, remains-none, remains-length, below-first, below-remains}
 use Rattle.dependency.specs.Scratch.{rowIn}
 use Rattle.report.specs.Dependents.{ifDependent}
-use Rattle.report.specs.Listing.{marked}
-use Rattle.report.specs.Listing.Laws.{marked-drop}
+use Rattle.report.specs.Dependents.Listing.{marked}
+use Rattle.report.specs.Dependents.Laws.{marked-drop}
 use Rattle.report.proofs.dependents.write_dependents.Statement.{statement}
 use Rattle.report.proofs.dependents.write_dependents.Tie as tie
 

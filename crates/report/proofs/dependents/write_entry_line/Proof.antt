@@ -7,7 +7,7 @@ use Rattle.formula.specs.Prefix.Laws.{shown-existential, shown-universal}
 use Rattle.formula.specs.Store.Laws.{stores-none}
 use Rattle.formula.specs.Tables.Laws.{admitted-entries}
 use Rattle.report.specs.Dependents.{entryLine, universalLine}
-use Rattle.report.specs.Listing.Laws.{universal-at}
+use Rattle.report.specs.Dependents.Laws.{universal-at}
 use borrow.Author.Needs.{needs}
 use Rattle.report.proofs.dependents.write_entry_line.Statement.{statement}
 use Rattle.report.proofs.dependents.write_entry_line.Tie as tie

@@ -11,8 +11,8 @@ use Rattle.formula.specs.Prefix.{prefixOf, entryCount, entryAt}
 use Rattle.formula.specs.Store.{Remains}
 use Rattle.formula.specs.Store.Laws.{remains-all, remains-less, remains-none, remains-length, below-first, below-remains}
 use Rattle.report.specs.Dependents.{entryLine, universalLines}
-use Rattle.report.specs.Listing.Laws.{universal-lines-drop}
-use Rattle.report.specs.Listing.Length.{universal-lines-below}
+use Rattle.report.specs.Dependents.Laws.{universal-lines-drop}
+use Rattle.report.specs.Dependents.Length.{universal-lines-below}
 use Rattle.report.proofs.dependents.write_lines.Statement.{statement}
 use Rattle.report.proofs.dependents.write_lines.Tie as tie
 

@@ -4,7 +4,7 @@ use Rattle.formula.specs.Decimal.{decimal}
 use Rattle.formula.specs.Prefix.{prefixOf}
 use Rattle.formula.specs.Store.Laws.{stores-append, below-first, below-rest}
 use Rattle.dependency.specs.Scratch.{rowIn}
-use Rattle.report.specs.Listing.{marked, rowLine}
+use Rattle.report.specs.Dependents.Listing.{marked, rowLine}
 use borrow.Author.Needs.{needs}
 use Rattle.report.proofs.dependents.write_row_line.Statement.{statement}
 use Rattle.report.proofs.dependents.write_row_line.Tie as tie

@@ -9,11 +9,10 @@ use lib.IntN.{ℤ}
 use Rattle.formula.specs.Text.{read}
 use Rattle.formula.specs.declared.read.ReadAnswer.{ReadAnswer}
 use Rattle.report.specs.Line.{settled}
-use Rattle.report.specs.Settled.{tablesRead}
-use Rattle.report.specs.Check.{Room}
-use Rattle.report.specs.Checking.{lent}
+use Rattle.report.specs.Settle.{tablesRead}
+use Rattle.report.specs.Check.{Room, lent}
 use Rattle.report.specs.Printing.Laws.{stores-instead}
-use Rattle.report.specs.Listing.Laws.{text-refused, text-read, settled-admitted}
+use Rattle.report.specs.Dependents.Laws.{text-refused, text-read, settled-admitted}
 use borrow.Author.Needs.{needs}
 use Rattle.report.proofs.dependents.write_settled.Statement.{statement}
 use Rattle.report.proofs.dependents.write_settled.Tie as tie

@@ -4,7 +4,7 @@ use borrow.Author.Tests.{le-leb, lt-leb}
 use lib.ListN.{length}
 use Rattle.dependency.specs.Scratch.{scratchBound}
 use Rattle.report.specs.Dependents.{tablesText}
-use Rattle.report.specs.Listing.Length.{universal-lines-short}
+use Rattle.report.specs.Dependents.Length.{universal-lines-short}
 use borrow.Author.Needs.{needs}
 use Rattle.report.proofs.dependents.write_tables.Statement.{statement}
 use Rattle.report.proofs.dependents.write_tables.Tie as tie

@@ -5,8 +5,8 @@ use Rattle.formula.specs.Prefix.{prefixOf}
 use Rattle.formula.specs.Tables.Laws.{admitted-entries}
 use Rattle.dependency.specs.Scratch.{rowIn}
 use Rattle.report.specs.Dependents.{universalLine}
-use Rattle.report.specs.Listing.{rowLine}
-use Rattle.report.specs.Listing.Laws.{row-line-is}
+use Rattle.report.specs.Dependents.Listing.{rowLine}
+use Rattle.report.specs.Dependents.Laws.{row-line-is}
 use borrow.Author.Needs.{needs}
 use Rattle.report.proofs.dependents.write_universal.Statement.{statement}
 use Rattle.report.proofs.dependents.write_universal.Tie as tie

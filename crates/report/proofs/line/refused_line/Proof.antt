@@ -16,7 +16,7 @@ returns c =
     let bytes = number .before .before .before .before .before in
     let stored =
     stores-append (bytes .write-bytes .ensures)
-    (stores-append (rw (number .before .number .ensures) at (number .write-spaced .ensures .0))
+    (stores-append (rw (number .before .number .ensures .0) at (number .write-spaced .ensures .0))
     (stores-append (word .write-word .ensures .0)
     (stores-append (space .put .ensures) (place .write-last .ensures .0)))) in
     record {

@@ -3,7 +3,7 @@ use Prim.Native.Nat.{ℕ}
 use lib.IntN.{ℤ, pos}
 use lib.ListN.{replicate, length-replicate}
 use Rattle.dependency.specs.Scratch.{scratchBound}
-use Rattle.report.specs.Checking.{lent}
+use Rattle.report.specs.Check.{lent}
 use Rattle.report.specs.Line.{fileBound}
 use Rattle.report.specs.Program.Laws.{line-printed}
 use borrow.Author.Needs.{needs}

@@ -5,7 +5,7 @@ use mathlib.Core.List.{[]}
 use lib.IntN.{ℤ, pos}
 use lib.ListN.{replicate, length-replicate}
 use Rattle.dependency.specs.Scratch.{scratchBound}
-use Rattle.report.specs.Checking.{lent}
+use Rattle.report.specs.Check.{lent}
 use Rattle.report.specs.Line.{fileBound}
 use Rattle.report.specs.Program.Laws.{text-printed}
 use borrow.Author.Needs.{needs}

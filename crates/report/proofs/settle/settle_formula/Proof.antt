@@ -1,6 +1,6 @@
 -- `settle_formula` goes by the test on the file's length. Assumes nothing.
 use mathlib.Core.Path.{sym, _∙_}
-use Rattle.report.specs.Settled.Laws.{fit-within, fit-oversized, formula-oversized, formula-read}
+use Rattle.report.specs.Settle.Laws.{fit-within, fit-oversized, formula-oversized, formula-read}
 use borrow.Author.Needs.{needs}
 use Rattle.report.proofs.settle.settle_formula.Statement.{statement}
 use Rattle.report.proofs.settle.settle_formula.Tie as tie

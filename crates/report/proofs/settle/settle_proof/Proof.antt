@@ -1,6 +1,6 @@
 -- `settle_proof` goes by the test on the file's length. Assumes nothing.
 use mathlib.Core.Path.{sym, _∙_}
-use Rattle.report.specs.Settled.Laws.{fit-within, fit-oversized, proof-oversized, proof-read}
+use Rattle.report.specs.Settle.Laws.{fit-within, fit-oversized, proof-oversized, proof-read}
 use borrow.Author.Needs.{needs}
 use Rattle.report.proofs.settle.settle_proof.Statement.{statement}
 use Rattle.report.proofs.settle.settle_proof.Tie as tie

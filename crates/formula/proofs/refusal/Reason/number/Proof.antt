@@ -6,7 +6,7 @@ use Rattle.formula.proofs.refusal.Reason.number.Statement.{statement}
 use Rattle.formula.proofs.refusal.Reason.number.Tie as tie
 
 returns : tie.Need-returns
-returns c = let t = c .tag in rw (t .ensures .0) (sym (number-at (t .result) (t .ensures .1) (t .ensures .2)))
+returns c = let t = c .tag in (rw (t .ensures .0) (sym (number-at (t .result) (t .ensures .1) (t .ensures .2))), t .ensures)
 
 pub number-spec : {M : Type 1} → statement M
 number-spec = tie.close (tie.spec (λ c κs. search needs) returns)

@@ -36,7 +36,7 @@ use denote.Triple.Statement.{Contract, Triple}
 use denote.Triple.Table.{entered, cited}
 use denote.Triple.Walked.{says, Stays, stay-none, walkOf, goes-none, ends-at}
 use denote.Exit.{yes}
-use Rattle.formula.specs.ClauseWords.{wordAt, placeAfter}
+use Rattle.formula.specs.Words.{wordAt, placeAfter}
 use Rattle.formula.specs.declared.words.ClauseWord.{ClauseWord}
 use Rattle.formula.specs.declared.words.WordRead.{WordRead}
 use Rattle.formula.specs.declared.words.WordReader.{WordReader}

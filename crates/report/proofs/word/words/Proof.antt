@@ -1,0 +1,12 @@
+-- `words` lists the words of the table: by computing. Assumes nothing.
+use mathlib.Core.Path.{refl}
+use Rattle.report.specs.Word.{wordIn, same, filled}
+use Rattle.report.proofs.word.words.Statement.{statement}
+use Rattle.report.proofs.word.words.Tie as tie
+
+returns : tie.Need-returns
+unfolding wordIn same filled
+returns c = refl
+
+pub words-spec : {M : Type 1} → statement M
+words-spec = tie.close (tie.spec returns)
