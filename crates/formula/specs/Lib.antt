@@ -1,4 +1,4 @@
--- The definitions that layer 1's contracts cite. What a reader must believe: Bounds, Word, Refusal, Prefix, Tables, Decode (tables),
+-- The definitions that layer 1's contracts cite. What a reader must believe: Bounds, Word, Position, Refusal, Prefix, Tables, Decode (tables),
 -- Token, Text (reading), Decimal, Write, Clear, Words, RoundTrip. For inner contracts: Store, Write/Stream, and
 -- the stages of reading in Text/{Header,Sets,Clauses,Fill}.
 pub mod Bounds
@@ -12,6 +12,7 @@ pub mod Words
 pub mod Decimal
 pub mod Store
 pub mod Write
+pub mod Position
 pub mod Token
 pub mod Text
 pub mod RoundTrip

@@ -8,6 +8,8 @@ use mathlib.Core.Option.{Option, none, some}
 use mathlib.Core.List.{List, [], _∷_}
 use lib.ListN.{length, getD}
 use lib.Dec.{eqb}
+use Rattle.formula.specs.Position.{positionAt}
+use Rattle.formula.specs.declared.position.Position.{Position}
 use Rattle.formula.specs.declared.refusal.Reason.{Reason}
 use Rattle.formula.specs.declared.refusal.Refusal.{Refusal}
 use Rattle.formula.specs.declared.refusal.Reason.the-variants.{
@@ -33,9 +35,9 @@ use Rattle.formula.specs.declared.refusal.Reason.the-variants.{
   NotUniversal,
 }
 
--- A reason joined with its place.
+-- A reason joined with its place, where that is in no text: line and column are 0.
 abbrev pub refusal : Reason → ℕ → Refusal
-refusal r p = record { reason = r; place = p }
+refusal r p = record { reason = r; place = p; line = 0; column = 0 }
 
 -- A test that must hold: what comes later where it does, and else the refusal, of whatever kind the answer is.
 abbrev pub require : {A : Type 0} → Bool → (refused later : A) → A
@@ -70,9 +72,14 @@ number Misstated = 18
 number NoConclusion = 19
 number NotUniversal = 20
 
--- A refusal of a text at the place of a token, or at the end; 2 has no place.
-abbrev pub inText : ℕ → Reason → Refusal
-inText at r = refusal r (cond (eqb (number r) (number Oversized)) 0 at)
+-- A reason joined with a position in a text; 2 has no place.
+abbrev pub refusedAt : Position → Reason → Refusal
+refusedAt p r =
+    cond (eqb (number r) (number Oversized)) (refusal r 0) (record { reason = r; place = p .place; line = p .line; column = p .column })
+
+-- A refusal of a text at the place of a token, or at the end.
+abbrev pub inText : List ℕ → ℕ → Reason → Refusal
+inText text at r = refusedAt (positionAt text at) r
 
 -- A reason with the bytes of its word.
 pub record Named : Type 0 where

@@ -10,6 +10,7 @@ pub mod Clauses
 pub mod Fill
 pub mod Distinct
 pub mod Admits
+pub mod Placed
 use Prim.Native.Nat.{ℕ, zero, suc, _-_}
 use mathlib.Core.Path.{_≡_}
 use mathlib.Core.Bool.{Bool, true, false, not}
@@ -25,7 +26,7 @@ use Rattle.formula.specs.Refusal.{refusal, inText, require, unless}
 use Rattle.formula.specs.Word.{signed}
 use Rattle.formula.specs.Prefix.{entryFits, prefixWords}
 use Rattle.formula.specs.Tables.{isIn, zeros}
-use Rattle.formula.specs.Token.{Placed, tokens, tokensAt, pWord, cnfWord, aWord, eWord}
+use Rattle.formula.specs.Token.{Token, tokens, tokensAt, same, pText, cnfText, aText, eText, Number, natural, negative, noNumber, numberOf}
 use Rattle.formula.specs.declared.refusal.Refusal.{Refusal}
 use Rattle.formula.specs.declared.refusal.Reason.{Reason}
 use Rattle.formula.specs.declared.refusal.Reason.the-variants.{
@@ -40,8 +41,6 @@ use Rattle.formula.specs.declared.refusal.Reason.the-variants.{
   Unfinished,
   Miscount,
 }
-use Rattle.formula.specs.declared.token.Token.{Token}
-use Rattle.formula.specs.declared.token.Token.the-variants.{Natural, Negative, Word}
 use Rattle.formula.specs.declared.read.ReadAnswer.{ReadAnswer}
 use Rattle.formula.specs.declared.read.ReadAnswer.the-variants.{Read, Refused}
 
@@ -59,13 +58,8 @@ pub data State : Type 0 where
   betweenSets : (v c : ℕ) (P : Prefix) → State
   inSet : (v c : ℕ) (q : Quantifier) (filled : Bool) (P : Prefix) → State
   clauses : (v c : ℕ) (P : Prefix) (words : List ℤ) → State
-  stopped : Refusal → State
-
--- The token is the word of the number w.
-abbrev pub isWord : ℕ → Token → Bool
-isWord w (Natural n) = false
-isWord w (Negative n) = false
-isWord w (Word x) = eqb x w
+  -- A token, or the end, is refused at a byte's place.
+  stopped : (at : ℕ) → Reason → State
 
 -- The variables of the clause that no 0 has closed yet, the last one first.
 unfoldable pub openFrom : List ℕ → List ℤ → List ℕ
@@ -81,19 +75,15 @@ abbrev pub isOpen : List ℕ → Bool
 isOpen [] = false
 isOpen (v ∷ vs) = true
 
--- The token at a place is refused.
-abbrev pub stoppedAt : ℕ → Reason → State
-stoppedAt at r = stopped (inText at r)
-
 -- A word of the header.
-abbrev pub headerWord : ℕ → ℕ → Token → State → State
-headerWord w at t next = require (isWord w t) (stoppedAt at Headless) next
+abbrev pub headerWord : (word : List ℕ) (at : ℕ) (bytes : List ℕ) → State → State
+headerWord word at bytes next = require (same bytes word) (stopped at Headless) next
 
 -- A number of the header, without minus and within its bound.
-abbrev pub headerNumber : ℕ → ℕ → Token → (ℕ → State) → State
-headerNumber bound at (Natural n) next = require (leb n bound) (stoppedAt at Oversized) (next n)
-headerNumber bound at (Negative n) next = stoppedAt at Headless
-headerNumber bound at (Word w) next = stoppedAt at Headless
+abbrev pub headerNumber : (bound at : ℕ) → Number → (ℕ → State) → State
+headerNumber bound at (natural n) next = require (leb n bound) (stopped at Oversized) (next n)
+headerNumber bound at (negative n) next = stopped at Headless
+headerNumber bound at noNumber next = stopped at Headless
 
 -- Why the variable n is not listed in a set: 5, 6, 3. `known` says whether one before it lists n, `fits` whether an entry has room.
 unfoldable pub variableReason : (v n : ℕ) (known fits : Bool) → Option Reason
@@ -123,78 +113,83 @@ opens false false v c P later = later
 module _ (prefixRoom clauseRoom : ℕ) where
   -- A token in a set: a variable, or the closing 0 of a set that is not empty.
   abbrev pub setNumber : (at v c : ℕ) (q : Quantifier) (filled : Bool) (P : Prefix) → ℕ → State
-  setNumber at v c q filled P zero = require filled (stoppedAt at BadToken) (betweenSets v c P)
+  setNumber at v c q filled P zero = require filled (stopped at BadToken) (betweenSets v c P)
   setNumber at v c q filled P (suc n) =
-      unless (stoppedAt at) (variableReason v (suc n) (isIn (suc n) (listed P)) (entryFits prefixRoom (length (prefixWords P))))
+      unless (stopped at) (variableReason v (suc n) (isIn (suc n) (listed P)) (entryFits prefixRoom (length (prefixWords P))))
       (inSet v c q true (P ++ (entry (suc n) q ∷ [])))
 
-  abbrev pub setToken : (at v c : ℕ) (q : Quantifier) (filled : Bool) (P : Prefix) → Token → State
-  setToken at v c q filled P (Natural n) = setNumber at v c q filled P n
-  setToken at v c q filled P (Negative n) = stoppedAt at BadToken
-  setToken at v c q filled P (Word w) = stoppedAt at BadToken
+  abbrev pub setToken : (at v c : ℕ) (q : Quantifier) (filled : Bool) (P : Prefix) → Number → State
+  setToken at v c q filled P (natural n) = setNumber at v c q filled P n
+  setToken at v c q filled P (negative n) = stopped at BadToken
+  setToken at v c q filled P noNumber = stopped at BadToken
 
   -- A token of a clause: a literal, or the closing 0.
   abbrev pub putLiteral : (at v c : ℕ) (P : Prefix) (words : List ℤ) (positive : Bool) → ℕ → State
   putLiteral at v c P words positive n =
-      unless (stoppedAt at) (literalReason v n (isIn n (listed P)) (isIn n (openClause words)) (length words) clauseRoom)
+      unless (stopped at) (literalReason v n (isIn n (listed P)) (isIn n (openClause words)) (length words) clauseRoom)
       (clauses v c P (words ++ (signed positive n ∷ [])))
 
   abbrev pub clauseNumber : (at v c : ℕ) (P : Prefix) (words : List ℤ) → ℕ → State
   clauseNumber at v c P words zero =
-      unless (stoppedAt at) (closingReason (length words) clauseRoom) (clauses v c P (words ++ (pos 0 ∷ [])))
+      unless (stopped at) (closingReason (length words) clauseRoom) (clauses v c P (words ++ (pos 0 ∷ [])))
   clauseNumber at v c P words (suc n) = putLiteral at v c P words true (suc n)
 
-  abbrev pub clauseToken : (at v c : ℕ) (P : Prefix) (words : List ℤ) → Token → State
-  clauseToken at v c P words (Natural n) = clauseNumber at v c P words n
-  clauseToken at v c P words (Negative n) = putLiteral at v c P words false n
-  clauseToken at v c P words (Word w) = stoppedAt at BadToken
+  abbrev pub clauseToken : (at v c : ℕ) (P : Prefix) (words : List ℤ) → Number → State
+  clauseToken at v c P words (natural n) = clauseNumber at v c P words n
+  clauseToken at v c P words (negative n) = putLiteral at v c P words false n
+  clauseToken at v c P words noNumber = stopped at BadToken
 
   -- After clause C any token is one too many.
-  abbrev pub clausesToken : (at v c : ℕ) (P : Prefix) (words : List ℤ) → Token → State
-  clausesToken at v c P words t =
-      require (ltb (zeros words) c) (stoppedAt at Miscount) (clauseToken at v c P words t)
+  abbrev pub clausesToken : (at v c : ℕ) (P : Prefix) (words : List ℤ) → Number → State
+  clausesToken at v c P words m =
+      require (ltb (zeros words) c) (stopped at Miscount) (clauseToken at v c P words m)
 
   -- One token.
-  unfoldable pub step : State → Placed → State
-  step wantsP t = headerWord pWord (t .place) (t .token) wantsCnf
-  step wantsCnf t = headerWord cnfWord (t .place) (t .token) wantsV
-  step wantsV t = headerNumber variableBound (t .place) (t .token) wantsC
-  step (wantsC v) t = headerNumber countBound (t .place) (t .token) (λ c. betweenSets v c [])
+  unfoldable pub step : State → Token → State
+  step wantsP t = headerWord pText (t .place) (t .bytes) wantsCnf
+  step wantsCnf t = headerWord cnfText (t .place) (t .bytes) wantsV
+  step wantsV t = headerNumber variableBound (t .place) (numberOf (t .bytes)) wantsC
+  step (wantsC v) t = headerNumber countBound (t .place) (numberOf (t .bytes)) (λ c. betweenSets v c [])
   step (betweenSets v c P) t =
-      opens (isWord eWord (t .token)) (isWord aWord (t .token)) v c P (clausesToken (t .place) v c P [] (t .token))
-  step (inSet v c q filled P) t = setToken (t .place) v c q filled P (t .token)
-  step (clauses v c P words) t = clausesToken (t .place) v c P words (t .token)
-  step (stopped r) t = stopped r
+      opens (same (t .bytes) eText) (same (t .bytes) aText) v c P (clausesToken (t .place) v c P [] (numberOf (t .bytes)))
+  step (inSet v c q filled P) t = setToken (t .place) v c q filled P (numberOf (t .bytes))
+  step (clauses v c P words) t = clausesToken (t .place) v c P words (numberOf (t .bytes))
+  step (stopped at r) t = stopped at r
 
-  unfoldable pub run : State → List Placed → State
+  unfoldable pub run : State → List Token → State
   run s [] = s
   run s (t ∷ ts) = run (step s t) ts
 
--- The text ends, `at` being its length: no clause is open, and none is missing.
-abbrev pub clausesEnding : ℕ → (clauseOpen missing : Bool) → Reading → Reading
-clausesEnding at clauseOpen missing done =
-    require (not clauseOpen) (refused (inText at Unfinished)) (require (not missing) (refused (inText at Miscount)) done)
+-- A refusal at the end of a text.
+abbrev pub atEnd : List ℕ → Reason → Refusal
+atEnd text r = inText text (length text) r
 
-unfoldable pub ending : ℕ → State → Reading
-ending at wantsP = refused (inText at Headless)
-ending at wantsCnf = refused (inText at Headless)
-ending at wantsV = refused (inText at Headless)
-ending at (wantsC v) = refused (inText at Headless)
-ending at (betweenSets v c P) = clausesEnding at false (ltb 0 c) (read (prefixWords P) [] c)
-ending at (inSet v c q filled P) = refused (inText at Unfinished)
-ending at (clauses v c P words) =
-    clausesEnding at (isOpen (openClause words)) (ltb (zeros words) c) (read (prefixWords P) words c)
-ending at (stopped r) = refused r
+-- The text ends: no clause is open, and none is missing.
+abbrev pub clausesEnding : List ℕ → (clauseOpen missing : Bool) → Reading → Reading
+clausesEnding text clauseOpen missing done =
+    require (not clauseOpen) (refused (atEnd text Unfinished)) (require (not missing) (refused (atEnd text Miscount)) done)
+
+-- What is read where the text ends in a state. A refusal has the line and the column of its place in the text.
+unfoldable pub ending : List ℕ → State → Reading
+ending text wantsP = refused (atEnd text Headless)
+ending text wantsCnf = refused (atEnd text Headless)
+ending text wantsV = refused (atEnd text Headless)
+ending text (wantsC v) = refused (atEnd text Headless)
+ending text (betweenSets v c P) = clausesEnding text false (ltb 0 c) (read (prefixWords P) [] c)
+ending text (inSet v c q filled P) = refused (atEnd text Unfinished)
+ending text (clauses v c P words) =
+    clausesEnding text (isOpen (openClause words)) (ltb (zeros words) c) (read (prefixWords P) words c)
+ending text (stopped at r) = refused (inText text at r)
 
 -- What a text is read as, with so many words of room for the prefix and for the clauses.
 unfoldable pub reading : List ℕ → (prefixRoom clauseRoom : ℕ) → Reading
 reading text prefixRoom clauseRoom =
     require (leb (length text) textBound) (refused (refusal Oversized 0))
-    (ending (length text) (run prefixRoom clauseRoom wantsP (tokens text)))
+    (ending text (run prefixRoom clauseRoom wantsP (tokens text)))
 
 -- What the text is read as from a state and a place on.
 abbrev pub readingFrom : (prefixRoom clauseRoom : ℕ) → List ℕ → State → ℕ → Reading
-readingFrom prefixRoom clauseRoom text s at = ending (length text) (run prefixRoom clauseRoom s (tokensAt text at))
+readingFrom prefixRoom clauseRoom text s at = ending text (run prefixRoom clauseRoom s (tokensAt text at))
 
 -- What `read_formula` answers, and what it leaves in the tables: the words read, then zeros.
 abbrev pub readAnswer : Reading → ReadAnswer

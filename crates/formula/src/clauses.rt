@@ -1,6 +1,7 @@
 // The clauses of a formula's text: literals, each clause closed by 0. A variable's mark is 0 where no set lists it, and the
 // number of clauses closed so far, plus 2, where the open clause holds it.
 use crate::bounds::MatrixLength;
+use crate::position::Position;
 use crate::refusal::Reason;
 use crate::refusal::Refusal;
 use crate::token::Next;
@@ -12,7 +13,10 @@ ghost use Prim.Native.Nat.{ℕ, _≤_};
 ghost use lib.ListN.{length, getD};
 ghost use lib.Dec.{ltb};
 ghost use Rattle.qbf.specs.Formula.{Prefix};
-ghost use Rattle.formula.specs.Bounds.{variableBound, countBound};
+ghost use Rattle.formula.specs.Bounds.{variableBound, countBound, textBound};
+ghost use Rattle.formula.specs.Position.{PositionIn};
+ghost use Rattle.formula.specs.Token.{Number};
+ghost use Rattle.formula.specs.Token.Scan.{shown};
 ghost use Rattle.formula.specs.Text.{literalReason};
 ghost use Rattle.formula.specs.Text.Sets.{Listed};
 ghost use Rattle.formula.specs.Text.Clauses.{literalStep, LiteralPost, ClosingPost, ClauseTokenPost, clausesEnd, ClausesPost};
@@ -117,7 +121,7 @@ fn clause_token(
     marks: &mut [usize; 1025],
 ) -> ClauseStep
     requires { ⌜ (variables ≤ variableBound) × (closed ≤ countBound) × (length (now marks) ≡ 1025) × (used ≤ length (now clauses)) ⌝ }
-    ensures { λ r. ⌜ ClauseTokenPost token variables used closed (now (clauses .entry)) (now (marks .entry)) (now (clauses .exit)) (now (marks .exit)) r ⌝ }
+    ensures { λ r. ⌜ ((m : Number) → shown m ≡ token → ClauseTokenPost m variables used closed (now (clauses .entry)) (now (marks .entry)) (now (clauses .exit)) (now (marks .exit)) r) ⌝ }
 {
     match token {
         Token::Natural(n) => if n == 0 {
@@ -126,34 +130,41 @@ fn clause_token(
             put_literal(n, variables, true, clauses, used, closed, marks)
         },
         Token::Negative(n) => put_literal(n, variables, false, clauses, used, closed, marks),
-        Token::Word(_) => ClauseStep::Refused(Reason::BadToken),
+        Token::Word => ClauseStep::Refused(Reason::BadToken),
     }
 }
 
 // The text ends: a clause that is open from `start` on, or fewer clauses than C.
-fn clauses_end(size: usize, start: usize, used: usize, closed: usize, count: usize) -> ClausesAnswer
-    ensures { λ r. ⌜ r ≡ clausesEnd size (ltb start used) (ltb closed count) used ⌝ }
+fn clauses_end(
+    end: Position,
+    start: usize,
+    used: usize,
+    closed: usize,
+    count: usize,
+) -> ClausesAnswer
+    ensures { λ r. ⌜ r ≡ clausesEnd end (ltb start used) (ltb closed count) used ⌝ }
 {
     if start < used {
-        return ClausesAnswer::Refused(Refusal::in_text(Reason::Unfinished, size));
+        return ClausesAnswer::Refused(Refusal::in_text(Reason::Unfinished, end));
     }
     if closed < count {
-        return ClausesAnswer::Refused(Refusal::in_text(Reason::Miscount, size));
+        return ClausesAnswer::Refused(Refusal::in_text(Reason::Miscount, end));
     }
     ClausesAnswer::Clauses { used }
 }
 
-// The clauses, from the byte after the sets on.
+// The clauses, from the position after the sets on.
 pub fn read_clauses(
     text: &[u8],
-    from: usize,
+    from: Position,
     variables: usize,
     count: usize,
     clauses: &mut [i32],
     marks: &mut [usize; 1025],
 ) -> ClausesAnswer
+    requires { ⌜ PositionIn (now text) from × (length (now text) ≤ textBound) ⌝ }
     requires { ⌜ (variables ≤ variableBound) × (count ≤ countBound) × (length (now marks) ≡ 1025) ⌝ }
-    ensures { λ r. ⌜ ((prefixRoom : ℕ) (P : Prefix) → Listed (now (marks .entry)) P → ClausesPost (now (text .entry)) from variables count prefixRoom P (now (clauses .entry)) (now (clauses .exit)) r) ⌝ }
+    ensures { λ r. ⌜ ((prefixRoom : ℕ) (P : Prefix) → Listed (now (marks .entry)) P → ClausesPost (now (text .entry)) (from .place) variables count prefixRoom P (now (clauses .entry)) (now (clauses .exit)) r) ⌝ }
 {
     let mut at = from;
     let mut used = 0;
@@ -161,7 +172,7 @@ pub fn read_clauses(
     let mut start = 0;
     loop {
         match next_token(text, at) {
-            Next::End => return clauses_end(text.len(), start, used, closed, count),
+            Next::End(end) => return clauses_end(end, start, used, closed, count),
             Next::Found { token, place, next } => {
                 if count <= closed {
                     return ClausesAnswer::Refused(Refusal::in_text(Reason::Miscount, place));

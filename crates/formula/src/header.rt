@@ -3,25 +3,27 @@ use crate::bounds::ClauseCount;
 use crate::bounds::ClauseCountFit;
 use crate::bounds::VariableCount;
 use crate::bounds::VariableCountFit;
+use crate::position::Position;
 use crate::refusal::Reason;
 use crate::refusal::Refusal;
-use crate::token::CNF;
 use crate::token::Next;
-use crate::token::P;
 use crate::token::Token;
 use crate::token::first_token;
+use crate::token::is_word;
 use crate::token::next_token;
 ghost use mathlib.Core.Path.{_≡_};
-ghost use Prim.Native.Nat.{_≤_};
-ghost use lib.ListN.{length};
-ghost use Rattle.formula.specs.Bounds.{variableBound};
-ghost use Rattle.formula.specs.Token.{firstToken, nextToken};
+ghost use Prim.Native.Nat.{_-_, _≤_};
+ghost use lib.ListN.{length, take, drop};
+ghost use Rattle.formula.specs.Bounds.{variableBound, textBound};
+ghost use Rattle.formula.specs.Position.{PositionIn};
+ghost use Rattle.formula.specs.Token.{firstToken, tokensAt};
 ghost use Rattle.formula.specs.Text.{wantsP, wantsV, wantsC};
-ghost use Rattle.formula.specs.Text.Header.{valueOf, fieldFound, HeaderPost};
+ghost use Rattle.formula.specs.Text.Header.{wordValue, numberValue, valueOf, fieldFound, HeaderPost};
 
-// What the header wants next: a word, told by its number, or a number without minus.
+// What the header wants next: `p`, `cnf`, or a number without minus.
 pub enum Wanted {
-    Word(usize),
+    P,
+    Cnf,
     Number,
 }
 
@@ -31,60 +33,79 @@ pub enum FieldValue {
     Other,
 }
 
-// What was wanted: its value, and the byte after it.
+// What was wanted: its value, and the position after it.
 pub enum FieldAnswer {
-    Field { value: usize, next: usize },
+    Field { value: usize, next: Position },
     Refused(Refusal),
 }
 
-// V and C, and the byte after them.
+// V and C, and the position after them.
 pub enum HeaderAnswer {
     Header {
         variables: VariableCount,
         clauses: ClauseCount,
-        next: usize,
+        next: Position,
     },
     Refused(Refusal),
 }
 
-// The value of a token that is what the header wants.
-fn field_value(token: Token, wanted: Wanted) -> FieldValue
-    ensures { λ r. ⌜ r ≡ valueOf token wanted ⌝ }
+// A word that was wanted has the value 0.
+fn word_value(is: bool) -> FieldValue
+    ensures { λ r. ⌜ r ≡ wordValue is ⌝ }
+{
+    if is {
+        FieldValue::Value(0)
+    } else {
+        FieldValue::Other
+    }
+}
+
+// The value of a number without minus.
+fn number_value(token: Token) -> FieldValue
+    ensures { λ r. ⌜ r ≡ numberValue token ⌝ }
 {
     match token {
-        Token::Natural(n) => match wanted {
-            Wanted::Number => FieldValue::Value(n),
-            Wanted::Word(_) => FieldValue::Other,
-        },
+        Token::Natural(n) => FieldValue::Value(n),
         Token::Negative(_) => FieldValue::Other,
-        Token::Word(w) => match wanted {
-            Wanted::Number => FieldValue::Other,
-            Wanted::Word(word) => if w == word {
-                FieldValue::Value(0)
-            } else {
-                FieldValue::Other
-            },
-        },
+        Token::Word => FieldValue::Other,
+    }
+}
+
+// The value of a token, from the byte `from` up to `to`, that is what the header wants.
+fn field_value(text: &[u8], token: Token, from: usize, to: usize, wanted: Wanted) -> FieldValue
+    requires { ⌜ (from ≤ to) × (to ≤ length (now text)) ⌝ }
+    ensures { λ r. ⌜ r ≡ valueOf wanted (take (to - from) (drop from (now (text .entry)))) token ⌝ }
+{
+    match wanted {
+        Wanted::P => word_value(is_word(text, from, to, b"p")),
+        Wanted::Cnf => word_value(is_word(text, from, to, b"cnf")),
+        Wanted::Number => number_value(token),
     }
 }
 
 // The next token, if it is what the header wants there; a number may be however large.
-fn header_field(text: &[u8], at: usize, wanted: Wanted) -> FieldAnswer
-    ensures { λ r. ⌜ r ≡ fieldFound (length (now (text .entry))) wanted (nextToken (now (text .entry)) at) ⌝ }
+fn header_field(text: &[u8], at: Position, wanted: Wanted) -> FieldAnswer
+    requires { ⌜ PositionIn (now text) at × (length (now text) ≤ textBound) ⌝ }
+    ensures { λ r. ⌜ r ≡ fieldFound (now (text .entry)) wanted (tokensAt (now (text .entry)) (at .place)) ⌝ }
 {
     match next_token(text, at) {
-        Next::End => FieldAnswer::Refused(Refusal::in_text(Reason::Headless, text.len())),
-        Next::Found { token, place, next } => match field_value(token, wanted) {
-            FieldValue::Value(value) => FieldAnswer::Field { value, next },
-            FieldValue::Other => FieldAnswer::Refused(Refusal::in_text(Reason::Headless, place)),
-        },
+        Next::End(end) => FieldAnswer::Refused(Refusal::in_text(Reason::Headless, end)),
+        Next::Found { token, place, next } => {
+            match field_value(text, token, place.place, next.place, wanted) {
+                FieldValue::Value(value) => FieldAnswer::Field { value, next },
+                FieldValue::Other => FieldAnswer::Refused(Refusal::in_text(
+                    Reason::Headless,
+                    place,
+                )),
+            }
+        }
     }
 }
 
-// C, from the byte after V on.
-fn header_clauses(text: &[u8], at: usize, variables: VariableCount) -> HeaderAnswer
-    requires { ⌜ variables .0 ≤ variableBound ⌝ }
-    ensures { λ r. ⌜ HeaderPost (now (text .entry)) (wantsC (variables .0)) at r ⌝ }
+// C, from the position after V on.
+fn header_clauses(text: &[u8], at: Position, variables: VariableCount) -> HeaderAnswer
+    requires { ⌜ PositionIn (now text) at × (length (now text) ≤ textBound) × (variables .0 ≤ variableBound) ⌝ }
+    ensures { λ r. ⌜ HeaderPost (now (text .entry)) (wantsC (variables .0)) (at .place) r ⌝ }
 {
     match header_field(text, at, Wanted::Number) {
         FieldAnswer::Refused(r) => HeaderAnswer::Refused(r),
@@ -99,9 +120,10 @@ fn header_clauses(text: &[u8], at: usize, variables: VariableCount) -> HeaderAns
     }
 }
 
-// V and C, from the byte after `cnf` on.
-fn header_numbers(text: &[u8], at: usize) -> HeaderAnswer
-    ensures { λ r. ⌜ HeaderPost (now (text .entry)) wantsV at r ⌝ }
+// V and C, from the position after `cnf` on.
+fn header_numbers(text: &[u8], at: Position) -> HeaderAnswer
+    requires { ⌜ PositionIn (now text) at × (length (now text) ≤ textBound) ⌝ }
+    ensures { λ r. ⌜ HeaderPost (now (text .entry)) wantsV (at .place) r ⌝ }
 {
     match header_field(text, at, Wanted::Number) {
         FieldAnswer::Refused(r) => HeaderAnswer::Refused(r),
@@ -117,12 +139,13 @@ fn header_numbers(text: &[u8], at: usize) -> HeaderAnswer
 
 // The header, from the text's first token on.
 pub fn read_header(text: &[u8]) -> HeaderAnswer
+    requires { ⌜ length (now text) ≤ textBound ⌝ }
     ensures { λ r. ⌜ HeaderPost (now (text .entry)) wantsP (firstToken (now (text .entry))) r ⌝ }
 {
-    match header_field(text, first_token(text), Wanted::Word(P)) {
+    match header_field(text, first_token(text), Wanted::P) {
         FieldAnswer::Refused(r) => HeaderAnswer::Refused(r),
         FieldAnswer::Field { value: _, next: at } => {
-            match header_field(text, at, Wanted::Word(CNF)) {
+            match header_field(text, at, Wanted::Cnf) {
                 FieldAnswer::Refused(r) => HeaderAnswer::Refused(r),
                 FieldAnswer::Field { value: _, next } => header_numbers(text, next),
             }

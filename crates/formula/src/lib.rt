@@ -5,6 +5,7 @@ pub mod clear;
 pub mod decimal;
 mod header;
 pub mod literal;
+pub mod position;
 pub mod prefix;
 pub mod read;
 pub mod refusal;

@@ -6,6 +6,7 @@ use crate::clauses::read_clauses;
 use crate::clear::clear_words;
 use crate::header::HeaderAnswer;
 use crate::header::read_header;
+use crate::position::Position;
 use crate::refusal::Reason;
 use crate::refusal::Refusal;
 use crate::sets::SetsAnswer;
@@ -13,7 +14,8 @@ use crate::sets::read_sets;
 ghost use Prim.Native.Nat.{_≤_};
 ghost use mathlib.Core.List.{[]};
 ghost use lib.ListN.{length};
-ghost use Rattle.formula.specs.Bounds.{variableBound, countBound};
+ghost use Rattle.formula.specs.Bounds.{variableBound, countBound, textBound};
+ghost use Rattle.formula.specs.Position.{PositionIn};
 ghost use Rattle.formula.specs.Text.{betweenSets, reading, readingFrom, ReadPost};
 ghost use Rattle.formula.specs.Text.Fill.{FillPost};
 
@@ -27,17 +29,18 @@ pub enum ReadAnswer {
     Refused(Refusal),
 }
 
-// The sets and the clauses, from the byte after the header on. Past the used part the tables hold anything.
+// The sets and the clauses, from the position after the header on. Past the used part the tables hold anything.
 fn fill_tables(
     text: &[u8],
-    from: usize,
+    from: Position,
     variables: usize,
     count: usize,
     prefix: &mut [i32],
     clauses: &mut [i32],
 ) -> ReadAnswer
+    requires { ⌜ PositionIn (now text) from × (length (now text) ≤ textBound) ⌝ }
     requires { ⌜ (variables ≤ variableBound) × (count ≤ countBound) ⌝ }
-    ensures { λ r. ⌜ FillPost (readingFrom (length (now (prefix .entry))) (length (now (clauses .entry))) (now (text .entry)) (betweenSets variables count []) from) (now (prefix .exit)) (now (clauses .exit)) r ⌝ }
+    ensures { λ r. ⌜ FillPost (readingFrom (length (now (prefix .entry))) (length (now (clauses .entry))) (now (text .entry)) (betweenSets variables count []) (from .place)) (now (prefix .exit)) (now (clauses .exit)) r ⌝ }
 {
     let mut marks = [0usize; 1025];
     match read_sets(text, from, variables, prefix, &mut marks) {

@@ -1,8 +1,9 @@
 // Why and where the checker says no: the twenty reasons of 01, each with its number, and a reason joined with its place. A reason
 // more is a line in the enum and in `tag`, in `number` and `table` of specs/Refusal.antt, and in the list of words of
 // report/src/word.rt.
+use crate::position::Position;
 ghost use mathlib.Core.Path.{_≡_};
-ghost use Rattle.formula.specs.Refusal.{refusal, inText, number, Tagged};
+ghost use Rattle.formula.specs.Refusal.{refusal, refusedAt, number, Tagged};
 
 pub enum Reason {
     Headless,
@@ -27,28 +28,40 @@ pub enum Reason {
     NotUniversal,
 }
 
-// Bytes and words count from 0; a clause's place is its number.
+// Bytes and words count from 0; a clause's place is its number. A place in a text has its line and its column, any other has 0 0.
 pub struct Refusal {
     pub reason: Reason,
     pub place: usize,
+    pub line: usize,
+    pub column: usize,
 }
 
 impl Refusal {
-    // Every refusal is made here.
+    // Every refusal that is not about text is made here.
     pub fn new(reason: Reason, place: usize) -> Refusal
         ensures { λ r. ⌜ r ≡ refusal reason place ⌝ }
     {
-        Refusal { reason, place }
+        Refusal {
+            reason,
+            place,
+            line: 0,
+            column: 0,
+        }
     }
 
-    // A refusal of a text at the place of a token, or at the end; 2 has no place.
-    pub fn in_text(reason: Reason, place: usize) -> Refusal
-        ensures { λ r. ⌜ r ≡ inText place reason ⌝ }
+    // A refusal of a text at the position of a token, or at the end; 2 has no place.
+    pub fn in_text(reason: Reason, at: Position) -> Refusal
+        ensures { λ r. ⌜ r ≡ refusedAt at reason ⌝ }
     {
         if reason.number() == 2 {
             return Refusal::new(reason, 0);
         }
-        Refusal::new(reason, place)
+        Refusal {
+            reason,
+            place: at.place,
+            line: at.line,
+            column: at.column,
+        }
     }
 }
 

@@ -1,20 +1,23 @@
 // The quantifier sets of a formula's text: `a` or `e`, positive numbers, 0. A mark per variable says whether it is listed.
 use crate::literal::Variable;
 use crate::literal::VariableFit;
+use crate::position::Position;
 use crate::prefix::entry_fits;
 use crate::prefix::put_entry;
 use crate::refusal::Reason;
 use crate::refusal::Refusal;
-use crate::token::A;
-use crate::token::E;
 use crate::token::Next;
 use crate::token::Token;
+use crate::token::is_word;
 use crate::token::next_token;
 ghost use mathlib.Core.Path.{_≡_};
 ghost use Prim.Native.Nat.{_≤_, _<_};
 ghost use mathlib.Core.List.{[]};
 ghost use lib.ListN.{length, take};
-ghost use Rattle.formula.specs.Bounds.{variableBound};
+ghost use Rattle.formula.specs.Bounds.{variableBound, textBound};
+ghost use Rattle.formula.specs.Position.{PositionIn};
+ghost use Rattle.formula.specs.Token.{Number};
+ghost use Rattle.formula.specs.Token.Scan.{shown};
 ghost use Rattle.formula.specs.Prefix.{prefixOf, quantifierOf};
 ghost use Rattle.formula.specs.Text.Sets.{ListingPost, Listed, setClosing, SetTokenPost, SetPost, SetsPost};
 
@@ -26,9 +29,9 @@ pub enum SetStep {
     Refused(Reason),
 }
 
-// The words of the prefix used so far, and the byte from which to go on.
+// The words of the prefix used so far, and the position from which to go on.
 pub enum SetsAnswer {
-    Sets { used: usize, next: usize },
+    Sets { used: usize, next: Position },
     Refused(Refusal),
 }
 
@@ -83,7 +86,7 @@ fn set_token(
     marks: &mut [usize; 1025],
 ) -> SetStep
     requires { ⌜ (variables ≤ variableBound) × (used ≤ length (now prefix)) × Listed (now marks) (prefixOf (take used (now prefix))) ⌝ }
-    ensures { λ r. ⌜ SetTokenPost token variables (quantifierOf existential) filled used (now (prefix .entry)) (now (marks .entry)) (now (prefix .exit)) (now (marks .exit)) r ⌝ }
+    ensures { λ r. ⌜ ((m : Number) → shown m ≡ token → SetTokenPost m variables (quantifierOf existential) filled used (now (prefix .entry)) (now (marks .entry)) (now (prefix .exit)) (now (marks .exit)) r) ⌝ }
 {
     match token {
         Token::Natural(n) => if 0 < n {
@@ -92,31 +95,29 @@ fn set_token(
             close_set(filled)
         },
         Token::Negative(_) => SetStep::Refused(Reason::BadToken),
-        Token::Word(_) => SetStep::Refused(Reason::BadToken),
+        Token::Word => SetStep::Refused(Reason::BadToken),
     }
 }
 
-// A set, from the byte after its letter on.
+// A set, from the position after its letter on.
 fn read_set(
     text: &[u8],
-    from: usize,
+    from: Position,
     variables: usize,
     existential: bool,
     prefix: &mut [i32],
     used: usize,
     marks: &mut [usize; 1025],
 ) -> SetsAnswer
+    requires { ⌜ PositionIn (now text) from × (length (now text) ≤ textBound) ⌝ }
     requires { ⌜ (variables ≤ variableBound) × (used ≤ length (now prefix)) × Listed (now marks) (prefixOf (take used (now prefix))) ⌝ }
-    ensures { λ r. ⌜ SetPost (now (text .entry)) from variables (quantifierOf existential) used (now (prefix .entry)) (now (prefix .exit)) (now (marks .exit)) r ⌝ }
+    ensures { λ r. ⌜ SetPost (now (text .entry)) (from .place) variables (quantifierOf existential) used (now (prefix .entry)) (now (prefix .exit)) (now (marks .exit)) r ⌝ }
 {
     let mut at = from;
     let mut n = used;
     loop {
         match next_token(text, at) {
-            Next::End => return SetsAnswer::Refused(Refusal::in_text(
-                Reason::Unfinished,
-                text.len(),
-            )),
+            Next::End(end) => return SetsAnswer::Refused(Refusal::in_text(Reason::Unfinished, end)),
             Next::Found { token, place, next } => {
                 match set_token(token, variables, existential, used < n, prefix, n, marks) {
                     SetStep::Refused(reason) => {
@@ -133,29 +134,32 @@ fn read_set(
     }
 }
 
-// The sets, from the byte after the header on, up to the first token that is neither `a` nor `e`.
+// The sets, from the position after the header on, up to the first token that is neither `a` nor `e`.
 pub fn read_sets(
     text: &[u8],
-    from: usize,
+    from: Position,
     variables: usize,
     prefix: &mut [i32],
     marks: &mut [usize; 1025],
 ) -> SetsAnswer
+    requires { ⌜ PositionIn (now text) from × (length (now text) ≤ textBound) ⌝ }
     requires { ⌜ (variables ≤ variableBound) × Listed (now marks) [] ⌝ }
-    ensures { λ r. ⌜ SetsPost (now (text .entry)) from variables (now (prefix .entry)) (now (prefix .exit)) (now (marks .exit)) r ⌝ }
+    ensures { λ r. ⌜ SetsPost (now (text .entry)) (from .place) variables (now (prefix .entry)) (now (prefix .exit)) (now (marks .exit)) r ⌝ }
 {
     let mut at = from;
     let mut used = 0;
     loop {
         match next_token(text, at) {
-            Next::End => return SetsAnswer::Sets { used, next: at },
+            Next::End(_) => return SetsAnswer::Sets { used, next: at },
             Next::Found {
-                token,
-                place: _,
+                token: _,
+                place,
                 next,
-            } => match token {
-                Token::Word(w) => if (w == E) | (w == A) {
-                    match read_set(text, next, variables, w == E, prefix, used, marks) {
+            } => {
+                let e = is_word(text, place.place, next.place, b"e");
+                let a = is_word(text, place.place, next.place, b"a");
+                if e | a {
+                    match read_set(text, next, variables, e, prefix, used, marks) {
                         SetsAnswer::Refused(r) => return SetsAnswer::Refused(r),
                         SetsAnswer::Sets {
                             used: n,
@@ -167,10 +171,8 @@ pub fn read_sets(
                     }
                 } else {
                     return SetsAnswer::Sets { used, next: at };
-                },
-                Token::Natural(_) => return SetsAnswer::Sets { used, next: at },
-                Token::Negative(_) => return SetsAnswer::Sets { used, next: at },
-            },
+                }
+            }
         }
     }
 }

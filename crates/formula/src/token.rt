@@ -1,28 +1,17 @@
-// Tokens of a formula's text: where the first one starts, what the next one is, its place and where to look for the one after.
+// Tokens of a formula's text: where the first one starts, what the next one is, its position and where to look for the one after.
+use crate::position::Position;
 ghost use mathlib.Core.Path.{_≡_};
-ghost use Prim.Native.Nat.{_≤_};
-ghost use lib.ListN.{drop};
+ghost use mathlib.Core.Bool.{false};
+ghost use Prim.Native.Nat.{_+_, _-_, _^_, _≤_, _<_};
+ghost use lib.ListN.{length, getD, take, drop};
 ghost use lib.Dec.{eqb};
-ghost use Rattle.formula.specs.Token.{lineFeed, leadBlank, isBlank, isDigit, leadStep, firstToken, numeral, spell, grow, within, emptyWord, nextFrom, nextToken, SkipPost};
-ghost use Rattle.formula.specs.declared.token.Token.the-variants.{Natural, Negative, Word};
+ghost use Rattle.formula.specs.Bounds.{textBound};
+ghost use Rattle.formula.specs.Position.{lineFeed, positionAt, PositionIn};
+ghost use Rattle.formula.specs.Token.{leadBlank, isBlank, isDigit, leadStep, firstToken, same, tokensAt};
+ghost use Rattle.formula.specs.Token.Scan.{numeral, nextOf, moreDigits, DigitsRead, SkipPost};
 
-// The value of a number above every bound, and the number of a word that has none of its own.
-const TOO_LARGE: usize = 8_193;
-
-const NO_WORD: usize = 33_554_432;
-
-// The numbers of words: none yet, `-`, `p`, `cnf`, `a`, `e`.
-const EMPTY: usize = 1;
-
-const MINUS: usize = 301;
-
-pub const P: usize = 368;
-
-pub const CNF: usize = 23_293_542;
-
-pub const A: usize = 353;
-
-pub const E: usize = 357;
+// The value of a number above every bound: one more than the largest 32-bit word.
+const TOO_LARGE: usize = 2_147_483_648;
 
 // Where the bytes before the first token stand: at a line's start, further in a line, in a comment; or they are over.
 pub enum Lead {
@@ -32,22 +21,29 @@ pub enum Lead {
     Over,
 }
 
-// A number without minus, a number with one, or any other run of bytes. A number above every bound has the value 8,193;
-// a word has a number of its own while it has at most three bytes (specs/Token.antt).
+// A number without minus, a number with one, or any other run of bytes.
 pub enum Token {
     Natural(usize),
     Negative(usize),
-    Word(usize),
+    Word,
 }
 
-// What is found from a byte on: nothing more, or a token with its place and the byte from which to go on.
+// What is found from a position on: nothing more, up to the end; or a token with its position and the one from which to go on.
 pub enum Next {
-    End,
+    End(Position),
     Found {
         token: Token,
-        place: usize,
-        next: usize,
+        place: Position,
+        next: Position,
     },
+}
+
+// Of a run of bytes up to a blank or the end: whether it is digits alone, of which a first 0 stands alone, then their value; and
+// where it ends.
+pub struct Digits {
+    pub plain: bool,
+    pub value: usize,
+    pub end: usize,
 }
 
 // Space, tab, CR, LF.
@@ -93,20 +89,23 @@ fn lead_step(lead: Lead, b: u8) -> Lead
     }
 }
 
-// The place of the first token; the length where there is none. Comments end before it.
-pub fn first_token(text: &[u8]) -> usize
-    ensures { λ r. ⌜ r ≡ firstToken (now (text .entry)) ⌝ }
+// The position of the first token; the end where there is none. Comments end before it.
+pub fn first_token(text: &[u8]) -> Position
+    requires { ⌜ length (now text) ≤ textBound ⌝ }
+    ensures { λ r. ⌜ (r .place ≡ firstToken (now (text .entry))) × PositionIn (now (text .entry)) r ⌝ }
 {
     let mut lead = Lead::LineStart;
-    let mut i = 0;
-    while i < text.len() {
-        lead = lead_step(lead, text[i]);
+    let mut at = Position::start();
+    while at.place < text.len() {
+        let i = at.place;
+        let b = text[i];
+        lead = lead_step(lead, b);
         if let Lead::Over = lead {
-            return i;
+            return at;
         }
-        i += 1;
+        at = at.past(b);
     }
-    i
+    at
 }
 
 // A number with one more digit, never wrapped.
@@ -114,103 +113,136 @@ fn numeral(n: usize, b: u8) -> usize
     requires { ⌜ 48 ≤ b ⌝ }
     ensures { λ r. ⌜ r ≡ numeral n b ⌝ }
 {
-    if 819 < n {
+    if 214_748_364 < n {
         return TOO_LARGE;
     }
     let m = 10 * n + ((b - b'0') as usize);
     if m < TOO_LARGE { m } else { TOO_LARGE }
 }
 
-// The number of a word with one more byte, never wrapped.
-fn spell(w: usize, b: u8) -> usize
-    ensures { λ r. ⌜ r ≡ spell w b ⌝ }
+// What was read with one more byte, the first of the run or not.
+fn more_digits(read: Digits, first: bool, b: u8) -> Digits
+    requires { ⌜ read .end + 1 < 2 ^ 64 ⌝ }
+    ensures { λ r. ⌜ r ≡ moreDigits read first b ⌝ }
 {
-    if 131_071 < w {
-        return NO_WORD;
+    if (read.plain & is_digit(b)) & (first | (0 < read.value)) {
+        return Digits {
+            plain: true,
+            value: numeral(read.value, b),
+            end: read.end + 1,
+        };
     }
-    256 * w + (b as usize)
-}
-
-// A word with one more byte: a digit makes a number of no word yet, and of a minus where it is not 0.
-fn grow_word(w: usize, b: u8) -> Token
-    ensures { λ r. ⌜ r ≡ grow (Word w) b ⌝ }
-{
-    if (w == EMPTY) & is_digit(b) {
-        return Token::Natural(numeral(0, b));
-    }
-    if (w == MINUS) & (is_digit(b) & (b'0' < b)) {
-        return Token::Negative(numeral(0, b));
-    }
-    Token::Word(spell(w, b))
-}
-
-// A token with one more byte.
-fn grow(token: Token, b: u8) -> Token
-    ensures { λ r. ⌜ r ≡ grow token b ⌝ }
-{
-    match token {
-        Token::Natural(n) => if (0 < n) & is_digit(b) {
-            Token::Natural(numeral(n, b))
-        } else {
-            Token::Word(NO_WORD)
-        },
-        Token::Negative(n) => if is_digit(b) {
-            Token::Negative(numeral(n, b))
-        } else {
-            Token::Word(NO_WORD)
-        },
-        Token::Word(w) => grow_word(w, b),
+    Digits {
+        plain: false,
+        value: read.value,
+        end: read.end + 1,
     }
 }
 
-// The token that the bytes from `start` up to a blank or the end make.
-fn grow_token(text: &[u8], start: usize) -> Next
-    ensures { λ r. ⌜ r ≡ nextFrom start (within start (Word emptyWord)) (drop start (now (text .entry))) ⌝ }
+// The digits of the run of bytes that begins at `from`.
+fn read_digits(text: &[u8], from: usize) -> Digits
+    requires { ⌜ (from ≤ length (now text)) × (length (now text) ≤ textBound) ⌝ }
+    ensures { λ r. ⌜ DigitsRead (now (text .entry)) from r ⌝ }
 {
-    let mut token = Token::Word(EMPTY);
-    let mut i = start;
-    while i < text.len() {
+    let mut read = Digits {
+        plain: true,
+        value: 0,
+        end: from,
+    };
+    while read.end < text.len() {
+        let i = read.end;
         let b = text[i];
         if is_blank(b) {
+            return read;
+        }
+        read = more_digits(read, i == from, b);
+    }
+    read
+}
+
+// The token that begins at a position.
+fn token_at(text: &[u8], place: Position) -> Next
+    requires { ⌜ PositionIn (now text) place × (length (now text) ≤ textBound) × (place .place < length (now text)) × (isBlank (getD (now text) (place .place) 0) ≡ false) ⌝ }
+    ensures { λ r. ⌜ r ≡ nextOf (now (text .entry)) (tokensAt (now (text .entry)) (place .place)) ⌝ }
+{
+    let start = place.place;
+    if text[start] == b'-' {
+        let read = read_digits(text, start + 1);
+        let next = place.along(read.end - start);
+        if read.plain & (0 < read.value) {
             return Next::Found {
-                token,
-                place: start,
-                next: i,
+                token: Token::Negative(read.value),
+                place,
+                next,
             };
         }
-        token = grow(token, b);
-        i += 1;
+        return Next::Found {
+            token: Token::Word,
+            place,
+            next,
+        };
+    }
+    let read = read_digits(text, start);
+    let next = place.along(read.end - start);
+    if read.plain {
+        return Next::Found {
+            token: Token::Natural(read.value),
+            place,
+            next,
+        };
     }
     Next::Found {
-        token,
-        place: start,
-        next: i,
+        token: Token::Word,
+        place,
+        next,
     }
 }
 
-// The next byte that is no blank, or the length.
-fn skip_blanks(text: &[u8], from: usize) -> usize
-    ensures { λ r. ⌜ SkipPost (now (text .entry)) from r ⌝ }
+// The next byte that is no blank, or the end.
+fn skip_blanks(text: &[u8], from: Position) -> Position
+    requires { ⌜ PositionIn (now text) from × (length (now text) ≤ textBound) ⌝ }
+    ensures { λ r. ⌜ SkipPost (now (text .entry)) (from .place) r ⌝ }
 {
-    let mut i = from;
-    while i < text.len() {
-        if is_blank(text[i]) {
-            i += 1;
+    let mut at = from;
+    while at.place < text.len() {
+        let i = at.place;
+        let b = text[i];
+        if is_blank(b) {
+            at = at.past(b);
         } else {
-            return i;
+            return at;
         }
     }
-    i
+    at
 }
 
-// The first token from the byte `at` on, with its place and the byte from which to go on.
-pub fn next_token(text: &[u8], at: usize) -> Next
-    ensures { λ r. ⌜ r ≡ nextToken (now (text .entry)) at ⌝ }
+// The first token from a position on, with its own and the one from which to go on.
+pub fn next_token(text: &[u8], at: Position) -> Next
+    requires { ⌜ PositionIn (now text) at × (length (now text) ≤ textBound) ⌝ }
+    ensures { λ r. ⌜ r ≡ nextOf (now (text .entry)) (tokensAt (now (text .entry)) (at .place)) ⌝ }
 {
-    let start = skip_blanks(text, at);
-    if start < text.len() {
-        grow_token(text, start)
+    let place = skip_blanks(text, at);
+    if place.place < text.len() {
+        token_at(text, place)
     } else {
-        Next::End
+        Next::End(place)
     }
+}
+
+// Whether the bytes between two places are a word.
+pub fn is_word(text: &[u8], from: usize, to: usize, word: &[u8]) -> bool
+    requires { ⌜ (from ≤ to) × (to ≤ length (now text)) ⌝ }
+    ensures { λ r. ⌜ r ≡ same (take (to - from) (drop from (now (text .entry)))) (now (word .entry)) ⌝ }
+{
+    if to - from != word.len() {
+        return false;
+    }
+    let mut i = 0;
+    while i < word.len() {
+        if text[from + i] != word[i] {
+            return false;
+        }
+        i += 1;
+    }
+    true
 }

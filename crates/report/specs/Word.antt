@@ -7,6 +7,7 @@ use mathlib.Core.List.{List, [], _∷_}
 use lib.ListN.{length}
 use lib.Dec.{eqb}
 use Rattle.formula.specs.Refusal.{Named}
+use Rattle.formula.specs.Token.{same}
 
 -- A word filled up with dots: the bytes before the first.
 abbrev pub beforeDot : Bool → ℕ → List ℕ → List ℕ
@@ -16,13 +17,6 @@ beforeDot false b later = b ∷ later
 unfoldable pub wordIn : List ℕ → List ℕ
 wordIn [] = []
 wordIn (b ∷ bs) = beforeDot (eqb b 46) b (wordIn bs)
-
--- Two lists of bytes are the same.
-unfoldable pub same : List ℕ → List ℕ → Bool
-same [] [] = true
-same [] (c ∷ cs) = false
-same (b ∷ bs) [] = false
-same (b ∷ bs) (c ∷ cs) = eqb b c && same bs cs
 
 -- A list of words filled up with dots to 14 bytes, each the word of the table's row at its place.
 unfoldable pub filled : List (List ℕ) → List Named → Bool

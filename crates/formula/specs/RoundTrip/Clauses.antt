@@ -18,14 +18,18 @@ use Rattle.formula.specs.Decode.Laws.{positive-magnitude}
 use Rattle.formula.specs.Tables.{isIn, zeros, literalWord, clauseWord, clausesEnd, clausesRefusal}
 use Rattle.formula.specs.Tables.Laws.{Kind, kind, closing, large, signed, clause-word-large, clause-word-literal}
 use Rattle.formula.specs.Write.Stream.{wordText, clausesText}
-use Rattle.formula.specs.Token.{placed, aWord, eWord}
-use Rattle.formula.specs.Text.{read, State, betweenSets, clauses, isWord, openFrom, openClause, isOpen, literalReason, closingReason, clausesToken, step, clausesEnding, ending}
+use Rattle.formula.specs.Decimal.{decimal}
+use Rattle.formula.specs.Token.{isBlank, same, aText, eText, numberOf}
+use Rattle.formula.specs.Text.{read, State, betweenSets, clauses, openFrom, openClause, isOpen, literalReason, closingReason, clausesToken, step, clausesEnding, ending}
 use Rattle.formula.specs.Text.Clauses.Laws.{open-literal, open-closing, zeros-literal, zeros-closing}
-use Rattle.formula.specs.RoundTrip.Scan.{Takes, takes-none, takes-append, takes-token, number-begins, negative-begins}
-use Rattle.formula.specs.RoundTrip.Prefix.{zero-begins, space-blank, feed-blank}
+use Rattle.formula.specs.RoundTrip.Scan.{Takes, takes-none, takes-append, takes-token, IsRun, decimal-run, decimal-number, minus-number, decimal-unlike}
+use Rattle.formula.specs.RoundTrip.Prefix.{zero-run, space-blank, feed-blank}
 use Rattle.formula.specs.declared.refusal.Refusal.{Refusal}
-use Rattle.formula.specs.declared.token.Token.{Token}
-use Rattle.formula.specs.declared.token.Token.the-variants.{Natural, Negative}
+
+-- A minus and digits are a run.
+minus-run : (n : ℕ) → IsRun (45 ∷ decimal n)
+unfolding isBlank
+minus-run n = record { no-blank = (refl, decimal-run n .no-blank); full = omega arith }
 
 -- A refusal is not its absence.
 refused : {r : Refusal} {A : Type 0} → _≡_ {A = Option Refusal} (some r) none → A
@@ -91,9 +95,9 @@ module _ (prefixRoom clauseRoom v c : ℕ) (P : Prefix) where
   -- The reader is among the clauses, having read the words `done`: before the first of them it is still among the sets.
   pub record Among (s : State) (done : List ℤ) : Type 0 where
     pub steps :
-        (t : Token) (at : ℕ) → isWord eWord t ≡ false → isWord aWord t ≡ false
-        → step prefixRoom clauseRoom s (placed t at) ≡ clausesToken prefixRoom clauseRoom at v c P done t
-    pub ends : (at : ℕ) → ending at s ≡ clausesEnding at (isOpen (openClause done)) (ltb (zeros done) c) (read (prefixWords P) done c)
+        (bytes : List ℕ) (at : ℕ) → same bytes eText ≡ false → same bytes aText ≡ false
+        → step prefixRoom clauseRoom s (record { bytes = bytes; place = at }) ≡ clausesToken prefixRoom clauseRoom at v c P done (numberOf bytes)
+    pub ends : (text : List ℕ) → ending text s ≡ clausesEnding text (isOpen (openClause done)) (ltb (zeros done) c) (read (prefixWords P) done c)
 
   pub among-sets : Among (betweenSets v c P) []
   unfolding step ending openFrom zeros
@@ -112,30 +116,31 @@ module _ (prefixRoom clauseRoom v c : ℕ) (P : Prefix) where
   closes :
       (s : State) (done : List ℤ) → Among s done → Room done
       → Takes prefixRoom clauseRoom s (48 ∷ 10 ∷ []) (clauses v c P (done ++ (pos 0 ∷ [])))
-  unfolding closingReason
+  unfolding closingReason numberOf same
   closes s done a r =
       takes-token prefixRoom clauseRoom 10
       (clauses v c P (done ++ (pos 0 ∷ [])))
-      zero-begins
+      zero-run
       feed-blank
       (λ at.
-      a .steps (Natural 0) at refl refl
+      a .steps (48 ∷ []) at refl refl
       ∙ rw (lt-ltb (zeros done) c (r .count), lt-ltb (length done) matrixBound (r .words), lt-ltb (length done) clauseRoom (r .room)))
 
   puts :
       (s : State) (done : List ℤ) (w : ℤ) → Among s done → Room done → v ≤ variableBound
       → 1 ≤ natAbs w → natAbs w ≤ v → known (natAbs w) ≡ true → isIn (natAbs w) (openClause done) ≡ false
       → Takes prefixRoom clauseRoom s (wordText w) (clauses v c P (done ++ (w ∷ [])))
-  unfolding wordText literalReason
+  unfolding wordText literalReason same
   puts s done (pos zero) a r b l h e f = absurd (omega arith)
   puts s done (pos (suc n)) a r b l h e f =
       takes-token prefixRoom clauseRoom 32
       (clauses v c P (done ++ (pos (suc n) ∷ [])))
-      (number-begins (suc n) (omega arith))
+      (decimal-run (suc n))
       space-blank
       (λ at.
-      a .steps (Natural (suc n)) at refl refl
+      a .steps (decimal (suc n)) at (decimal-unlike (suc n) 101 (omega arith) (omega arith)) (decimal-unlike (suc n) 97 (omega arith) (omega arith))
       ∙ rw (
+        decimal-number (suc n),
         lt-ltb (zeros done) c (r .count),
         le-leb (suc n) v h,
         lt-ltb (length done) matrixBound (r .words),
@@ -146,11 +151,12 @@ module _ (prefixRoom clauseRoom v c : ℕ) (P : Prefix) where
   puts s done (negsuc n) a r b l h e f =
       takes-token prefixRoom clauseRoom 32
       (clauses v c P (done ++ (negsuc n ∷ [])))
-      (negative-begins (suc n) (omega arith) (omega arith))
+      (minus-run (suc n))
       space-blank
       (λ at.
-      a .steps (Negative (suc n)) at refl refl
+      a .steps (45 ∷ decimal (suc n)) at refl refl
       ∙ rw (
+        minus-number (suc n) (omega arith),
         lt-ltb (zeros done) c (r .count),
         le-leb (suc n) v h,
         lt-ltb (length done) matrixBound (r .words),

@@ -27,7 +27,7 @@ use Rattle.formula.specs.Write.{written, headerText, largest, ifRoom, wr
 use Rattle.formula.specs.Write.Stream.{clausesText}
 use Rattle.formula.specs.Write.Lines.{written-stream}
 use Rattle.formula.specs.Write.Length.{largest-bounded, written-fits}
-use Rattle.formula.specs.Token.{isBlank, leadFrom, between, tokensFrom, tokens}
+use Rattle.formula.specs.Token.{isBlank, leadFrom, tokensFrom, tokens}
 use Rattle.formula.specs.Text.{read, wantsP, betweenSets, openFrom, run, ending, reading, ReadPost}
 use Rattle.formula.specs.RoundTrip.{ReadBack}
 use Rattle.formula.specs.RoundTrip.Scan.{Takes, takes-append}
@@ -63,7 +63,7 @@ clauses-pass p c a = go (sized p c) (prefixRefusal 0 [] p) (a .passes)
     go false o h = let z : _≡_ {A = ℕ} 0 1 = cc in absurd (omega arith)
 
 -- A text that begins with `p` has no comment.
-tokens-p : (bytes : List ℕ) → tokens (112 ∷ bytes) ≡ tokensFrom 0 between (112 ∷ bytes)
+tokens-p : (bytes : List ℕ) → tokens (112 ∷ bytes) ≡ tokensFrom 0 [] (112 ∷ bytes)
 unfolding leadFrom isBlank
 tokens-p bytes = refl
 
@@ -107,23 +107,23 @@ module _ (p c : List ℤ) (prefixRoom clauseRoom : ℕ) (a : Admitted p c) (h : 
       (prefix-taken prefixRoom clauseRoom (largest (prefixOf p)) (zeros c) (prefixOf p) (largest-bounded p (admitted-entries p c a)) prefix-lists)
       (clauses-read .taken)))
 
-  tokens-written : tokens (written p c) ≡ tokensFrom 0 between (written p c)
+  tokens-written : tokens (written p c) ≡ tokensFrom 0 [] (written p c)
   unfolding written headerText
   tokens-written = tokens-p _
 
   run-written : run prefixRoom clauseRoom wantsP (tokens (written p c)) ≡ clauses-read .after
   unfolding run tokensFrom
   run-written =
-      ap (run prefixRoom clauseRoom wantsP) (tokens-written ∙ ap (tokensFrom 0 between) (sym (append-nil (written p c))))
+      ap (run prefixRoom clauseRoom wantsP) (tokens-written ∙ ap (tokensFrom 0 []) (sym (append-nil (written p c))))
       ∙ text-taken .takes 0 []
 
-  ending-written : (at : ℕ) → ending at (clauses-read .after) ≡ read p c (zeros c)
-  ending-written at = clauses-read .among .ends at ∙ rw (clauses-read .shut, le-ltb (zeros c) (zeros c) (omega arith), prefix-words p)
+  ending-written : (text : List ℕ) → ending text (clauses-read .after) ≡ read p c (zeros c)
+  ending-written text = clauses-read .among .ends text ∙ rw (clauses-read .shut, le-ltb (zeros c) (zeros c) (omega arith), prefix-words p)
 
   -- What is written is read as the tables that it was written from.
   pub written-read : reading (written p c) prefixRoom clauseRoom ≡ read p c (zeros c)
   unfolding reading
-  written-read = rw (le-leb (length (written p c)) textBound (written-fits p c a), run-written) (ending-written (length (written p c)))
+  written-read = rw (le-leb (length (written p c)) textBound (written-fits p c a), run-written) (ending-written (written p c))
 
 -- A text that was written: the tables are admitted, and its used part is the written text.
 record WasWritten (p c : List ℤ) (used : ℕ) (text : List ℕ) : Type 0 where

@@ -31,33 +31,30 @@ use Rattle.formula.specs.Tables.Laws.{is-in-absent}
 use Rattle.formula.specs.Decimal.{decimal}
 use Rattle.formula.specs.Write.{headerText, letterOf}
 use Rattle.formula.specs.Write.Stream.{lineEnd, lineTurn, entryText, prefixText}
-use Rattle.formula.specs.Token.{isBlank, isDigit, grow, numeral, spell, pWord, cnfWord, aWord, eWord}
+use Rattle.formula.specs.Token.{isBlank, same, numberOf}
 use Rattle.formula.specs.Text.{State, wantsP, wantsCnf, wantsV, wantsC, betweenSets, inSet, variableReason, step}
-use Rattle.formula.specs.RoundTrip.Scan.{Begins, begins-byte, grows-byte, begins-append, number-begins, Takes, takes-none, takes-append, takes-token}
-use Rattle.formula.specs.declared.token.Token.the-variants.{Natural, Word}
+use Rattle.formula.specs.RoundTrip.Scan.{IsRun, decimal-run, decimal-number, Takes, takes-none, takes-append, takes-token}
 
 -- `0`, `p`, `cnf`, `e`, `a`.
-pub zero-begins : Begins (48 ∷ []) (Natural 0)
-unfolding isBlank isDigit grow numeral
-zero-begins = begins-byte 48 (Natural 0) refl refl
+pub zero-run : IsRun (48 ∷ [])
+unfolding isBlank
+zero-run = record { no-blank = (refl, tt); full = omega arith }
 
-p-begins : Begins (112 ∷ []) (Word pWord)
-unfolding isBlank isDigit grow spell
-p-begins = begins-byte 112 (Word pWord) refl refl
+p-run : IsRun (112 ∷ [])
+unfolding isBlank
+p-run = record { no-blank = (refl, tt); full = omega arith }
 
-cnf-begins : Begins (99 ∷ 110 ∷ 102 ∷ []) (Word cnfWord)
-unfolding isBlank isDigit grow spell
-cnf-begins =
-    begins-append (begins-append (begins-byte 99 (Word 355) refl refl) (grows-byte (Word 355) 110 (Word 90990) refl refl))
-    (grows-byte (Word 90990) 102 (Word cnfWord) refl refl)
+cnf-run : IsRun (99 ∷ 110 ∷ 102 ∷ [])
+unfolding isBlank
+cnf-run = record { no-blank = (refl, (refl, (refl, tt))); full = omega arith }
 
-e-begins : Begins (101 ∷ []) (Word eWord)
-unfolding isBlank isDigit grow spell
-e-begins = begins-byte 101 (Word eWord) refl refl
+e-run : IsRun (101 ∷ [])
+unfolding isBlank
+e-run = record { no-blank = (refl, tt); full = omega arith }
 
-a-begins : Begins (97 ∷ []) (Word aWord)
-unfolding isBlank isDigit grow spell
-a-begins = begins-byte 97 (Word aWord) refl refl
+a-run : IsRun (97 ∷ [])
+unfolding isBlank
+a-run = record { no-blank = (refl, tt); full = omega arith }
 
 -- Space and LF part tokens.
 pub space-blank : isBlank 32 ≡ true
@@ -71,14 +68,14 @@ feed-blank = refl
 module _ (prefixRoom clauseRoom : ℕ) where
   pub header-takes :
       (top count : ℕ) → top ≤ variableBound → count ≤ countBound → Takes prefixRoom clauseRoom wantsP (headerText top count) (betweenSets top count [])
-  unfolding headerText step
+  unfolding headerText step same
   header-takes top count h k =
       rw (sym (append-assoc (decimal top) (32 ∷ []) (decimal count ++ (10 ∷ []))))
-      (takes-append prefixRoom clauseRoom (takes-token prefixRoom clauseRoom 32 wantsCnf p-begins space-blank (λ at. refl))
-      (takes-append prefixRoom clauseRoom (takes-token prefixRoom clauseRoom 32 wantsV cnf-begins space-blank (λ at. refl))
+      (takes-append prefixRoom clauseRoom (takes-token prefixRoom clauseRoom 32 wantsCnf p-run space-blank (λ at. refl))
+      (takes-append prefixRoom clauseRoom (takes-token prefixRoom clauseRoom 32 wantsV cnf-run space-blank (λ at. refl))
       (takes-append prefixRoom clauseRoom
-      (takes-token prefixRoom clauseRoom 32 (wantsC top) (number-begins top (omega arith)) space-blank (λ at. rw (le-leb top variableBound h)))
-      (takes-token prefixRoom clauseRoom 10 (betweenSets top count []) (number-begins count k) feed-blank (λ at. rw (le-leb count countBound k))))))
+      (takes-token prefixRoom clauseRoom 32 (wantsC top) (decimal-run top) space-blank (λ at. rw (decimal-number top, le-leb top variableBound h)))
+      (takes-token prefixRoom clauseRoom 10 (betweenSets top count []) (decimal-run count) feed-blank (λ at. rw (decimal-number count, le-leb count countBound k))))))
 
 -- Entries still to list after `done`: in range, each once, none of those done, and room for the words of all.
 pub record Lists (v room : ℕ) (done P : Prefix) : Type 0 where
@@ -108,13 +105,13 @@ module _ (prefixRoom clauseRoom v c : ℕ) where
 
   -- A line ends; a line begins; a variable is listed.
   ends : (q : Quantifier) (done : Prefix) → Takes prefixRoom clauseRoom (inSet v c q true done) (48 ∷ 10 ∷ []) (betweenSets v c done)
-  unfolding step
-  ends q done = takes-token prefixRoom clauseRoom 10 (betweenSets v c done) zero-begins feed-blank (λ at. refl)
+  unfolding step numberOf same
+  ends q done = takes-token prefixRoom clauseRoom 10 (betweenSets v c done) zero-run feed-blank (λ at. refl)
 
   begins : (q : Quantifier) (done : Prefix) → Takes prefixRoom clauseRoom (betweenSets v c done) (letterOf q ∷ 32 ∷ []) (inSet v c q false done)
-  unfolding step letterOf
-  begins existential done = takes-token prefixRoom clauseRoom 32 (inSet v c existential false done) e-begins space-blank (λ at. refl)
-  begins universal done = takes-token prefixRoom clauseRoom 32 (inSet v c universal false done) a-begins space-blank (λ at. refl)
+  unfolding step letterOf same
+  begins existential done = takes-token prefixRoom clauseRoom 32 (inSet v c existential false done) e-run space-blank (λ at. refl)
+  begins universal done = takes-token prefixRoom clauseRoom 32 (inSet v c universal false done) a-run space-blank (λ at. refl)
 
   lists-variable :
       (q : Quantifier) (filled : Bool) (done : Prefix) (n : ℕ)
@@ -125,9 +122,9 @@ module _ (prefixRoom clauseRoom v c : ℕ) where
   lists-variable q filled done (suc n) p h b e r =
       takes-token prefixRoom clauseRoom 32
       (inSet v c q true (done ++ (entry (suc n) q ∷ [])))
-      (number-begins (suc n) (omega arith))
+      (decimal-run (suc n))
       space-blank
-      (λ at. rw (le-leb (suc n) v h, e, r))
+      (λ at. rw (decimal-number (suc n), le-leb (suc n) v h, e, r))
 
   -- What stands before a variable opens the line of its quantifier.
   turns :

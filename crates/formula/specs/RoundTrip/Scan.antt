@@ -1,58 +1,58 @@
--- Pieces of text under the reader: bytes that begin or go on with a token, numbers among them, and a piece that takes one
--- state of the reader to another. Each is said at any place and before any rest, so places are never computed.
-use Prim.Native.Nat.{ℕ, _+_, _*_, _/_, _%_, _<_, _≤_}
-use mathlib.Core.Path.{_≡_, refl, ap, _∙_}
-use mathlib.Core.Bool.{true, false}
-use mathlib.Core.List.{List, [], _∷_, _++_, append-assoc}
+-- Pieces of text under the reader: bytes that are one token, numbers among them, and a piece that takes one state of the reader to
+-- another. Each is said at any place and before any rest, so places are never computed.
+use Prim.Native.Nat.{ℕ, suc, _+_, _*_, _-_, _/_, _%_, _<_, _≤_}
+use mathlib.Core.Path.{_≡_, refl, ap, sym, _∙_}
+use mathlib.Core.Bool.{Bool, true, false, _&&_, cond, false≢true}
+use mathlib.Core.List.{List, [], _∷_, _++_, append-assoc, append-nil}
 use native.Mathlib.Nat.{add-zero}
 use native.Mathlib.Omega.{arith}
-use borrow.Author.Tests.{lt-ltb, le-leb, ne-eqb}
+use native.Mathlib.Decide.{ℕ-discrete}
+use borrow.Author.Tests.{ltb-true, leb-true, lt-ltb, le-leb, ne-eqb}
+use lib.Dec.{ltb, leb}
 use lib.ListN.{length, length-append}
-use Rattle.formula.specs.Bounds.{countBound}
+use Rattle.qbf.specs.Connectives.{and-both, both-and}
 use Rattle.formula.specs.Decimal.{decimal}
 use Rattle.formula.specs.Decimal.Laws.{decimal-induction}
-use Rattle.formula.specs.Token.{lineFeed, isDigit, isBlank, numeral, spell, grow, emptyWord, minusWord, between, within, Placed, placed, tokensFrom}
+use Rattle.formula.specs.Position.{lineFeed}
+use Rattle.formula.specs.Token.{isDigit, isBlank, Token, emit, tokensFrom, same, natural, negative, allDigits, valueFrom, isNumeral, numberOf}
+use Rattle.formula.specs.Token.Numbers.{all-snoc, value-snoc}
 use Rattle.formula.specs.Text.{State, step, run}
-use Rattle.formula.specs.declared.token.Token.{Token}
-use Rattle.formula.specs.declared.token.Token.the-variants.{Natural, Negative, Word}
 
--- The bytes begin a token, which they make t.
-pub record Begins (bytes : List ℕ) (t : Token) : Type 0 where
-  pub begins : (at : ℕ) (rest : List ℕ) → tokensFrom at between (bytes ++ rest) ≡ tokensFrom (at + length bytes) (within at t) rest
+-- Bytes that no blank parts, at least one: a token, wherever blanks stand around it.
+abbrev pub AllSolid : List ℕ → Type 0
+AllSolid [] = Unit {0}
+AllSolid (b ∷ bs) = (isBlank b ≡ false) × AllSolid bs
 
--- The bytes go on with the token t, which they make t′.
-pub record Grows (t : Token) (bytes : List ℕ) (t′ : Token) : Type 0 where
-  pub grows :
-      (start at : ℕ) (rest : List ℕ)
-      → tokensFrom at (within start t) (bytes ++ rest) ≡ tokensFrom (at + length bytes) (within start t′) rest
+pub record IsRun (bytes : List ℕ) : Type 0 where
+  pub no-blank : AllSolid bytes
+  pub full : 1 ≤ length bytes
 
-pub begins-byte : (b : ℕ) (t : Token) → isBlank b ≡ false → grow (Word emptyWord) b ≡ t → Begins (b ∷ []) t
-unfolding tokensFrom
-begins-byte b t e g = record { begins = λ at rest. rw (e, g) }
+solid-append : (xs ys : List ℕ) → AllSolid xs → AllSolid ys → AllSolid (xs ++ ys)
+solid-append [] ys a b = b
+solid-append (x ∷ xs) ys a b = (a .0, solid-append xs ys (a .1) b)
 
-pub grows-byte : (t : Token) (b : ℕ) (t′ : Token) → isBlank b ≡ false → grow t b ≡ t′ → Grows t (b ∷ []) t′
-unfolding tokensFrom
-grows-byte t b t′ e g = record { grows = λ start at rest. rw (e, g) }
+pub run-append : {xs : List ℕ} (ys : List ℕ) → IsRun xs → AllSolid ys → IsRun (xs ++ ys)
+run-append {xs} ys r a = record { no-blank = solid-append xs ys (r .no-blank) a; full = omega (arith, length-append xs ys, r .full) }
 
 -- Places add up over two pieces.
 place-append : (at : ℕ) (xs ys : List ℕ) → at + length xs + length ys ≡ at + length (xs ++ ys)
 place-append at xs ys = rw length-append (omega arith)
 
-pub begins-append : {xs ys : List ℕ} {t t′ : Token} → Begins xs t → Grows t ys t′ → Begins (xs ++ ys) t′
-begins-append {xs} {ys} {t} {t′} f g =
-    record {
-      begins = λ at rest.
-          rw append-assoc
-          (f .begins at (ys ++ rest) ∙ g .grows at (at + length xs) rest ∙ ap (λ k. tokensFrom k (within at t′) rest) (place-append at xs ys));
-    }
+-- A run goes on.
+goes-on : (at : ℕ) (run bytes rest : List ℕ) → AllSolid bytes → tokensFrom at run (bytes ++ rest) ≡ tokensFrom (at + length bytes) (run ++ bytes) rest
+unfolding tokensFrom
+goes-on at run [] rest a = rw (append-nil run, add-zero at)
+goes-on at run (b ∷ bytes) rest a =
+    let k : at + 1 + length bytes ≡ at + suc (length bytes) = omega arith in
+    rw (a .0) (goes-on (at + 1) (run ++ (b ∷ [])) bytes rest (a .1) ∙ rw (append-assoc run (b ∷ []) bytes, k))
 
-pub grows-append : {t t′ t″ : Token} {xs ys : List ℕ} → Grows t xs t′ → Grows t′ ys t″ → Grows t (xs ++ ys) t″
-grows-append {t} {t′} {t″} {xs} {ys} f g =
-    record {
-      grows = λ start at rest.
-          rw append-assoc
-          (f .grows start at (ys ++ rest) ∙ g .grows start (at + length xs) rest ∙ ap (λ k. tokensFrom k (within start t″) rest) (place-append at xs ys));
-    }
+-- A blank ends a token.
+blank-ends :
+    (at : ℕ) (bytes : List ℕ) (b : ℕ) (rest : List ℕ) → 1 ≤ length bytes → isBlank b ≡ true
+    → tokensFrom (at + length bytes) bytes (b ∷ rest) ≡ record { bytes = bytes; place = at } ∷ tokensFrom (at + length bytes + 1) [] rest
+unfolding tokensFrom
+blank-ends at [] b rest h e = absurd (omega arith)
+blank-ends at (c ∷ bytes) b rest h e = let k : at + suc (length bytes) - suc (length bytes) ≡ at = omega arith in rw (e, k)
 
 -- A digit is a digit, and no blank.
 digit-is : (d : ℕ) → d < 10 → isDigit (48 + d) ≡ true
@@ -69,70 +69,84 @@ digit-solid d h =
       ne-eqb (48 + d) lineFeed (λ e. omega arith),
     )
 
--- One more digit makes ten times the number, and the digit.
-numeral-digit : (n d m : ℕ) → d < 10 → m ≡ 10 * n + d → m ≤ countBound → numeral n (48 + d) ≡ m
-unfolding numeral
-numeral-digit n d m h e l = omega arith
+-- The digits of a number: a run, digits alone, of its value; from 1 on the first is no 0.
+record Digits (m : ℕ) (bytes : List ℕ) : Type 0 where
+  one-run : IsRun bytes
+  digits : allDigits bytes ≡ true
+  value : valueFrom 0 bytes ≡ m
+  lead : 1 ≤ m → isNumeral bytes ≡ true
+  nought : m ≡ 0 → same bytes (48 ∷ []) ≡ true
 
-module _ (n : ℕ) (h : n < 10) (l : n ≤ countBound) where
-  first-natural : grow (Word emptyWord) (48 + n) ≡ Natural n
-  unfolding grow
-  first-natural = rw (digit-is n h, numeral-digit 0 n n h (omega arith) l)
+numeral-snoc : (bytes : List ℕ) (b : ℕ) → isNumeral bytes ≡ true → isDigit b ≡ true → isNumeral (bytes ++ (b ∷ [])) ≡ true
+numeral-snoc [] b h d = absurd (false≢true h)
+numeral-snoc (a ∷ bytes) b h d =
+    let k = and-both (ltb 48 a) (allDigits (a ∷ bytes)) h in
+    both-and (ltb 48 a) (allDigits ((a ∷ bytes) ++ (b ∷ []))) (k .0) (all-snoc (a ∷ bytes) b ∙ both-and (allDigits (a ∷ bytes)) (isDigit b) (k .1) d)
 
-  first-negative : 1 ≤ n → grow (Word minusWord) (48 + n) ≡ Negative n
-  unfolding grow
-  first-negative p = rw (digit-is n h, lt-ltb 48 (48 + n) (omega arith), numeral-digit 0 n n h (omega arith) l)
-
-module _ (n : ℕ) (h : 10 ≤ n) (l : n ≤ countBound) where
-  next-natural : grow (Natural (n / 10)) (48 + n % 10) ≡ Natural n
-  unfolding grow
-  next-natural =
-      rw (lt-ltb 0 (n / 10) (omega arith), digit-is (n % 10) (omega arith), numeral-digit (n / 10) (n % 10) n (omega arith) (omega arith) l)
-
-  next-negative : grow (Negative (n / 10)) (48 + n % 10) ≡ Negative n
-  unfolding grow
-  next-negative = rw (digit-is (n % 10) (omega arith), numeral-digit (n / 10) (n % 10) n (omega arith) (omega arith) l)
-
--- The digits of a number are read as that number.
-pub number-begins : (n : ℕ) → n ≤ countBound → Begins (decimal n) (Natural n)
-number-begins n =
-    decimal-induction (λ m bytes. m ≤ countBound → Begins bytes (Natural m))
-    (λ m h l. begins-byte (48 + m) (Natural m) (digit-solid m h) (first-natural m h l))
-    (λ m bytes h tenth l.
-    begins-append (tenth (omega arith))
-    (grows-byte (Natural (m / 10)) (48 + m % 10) (Natural m) (digit-solid (m % 10) (omega arith)) (next-natural m h l)))
-    n
-
--- After a minus they are read as the number with that sign.
-pub number-grows : (n : ℕ) → 1 ≤ n → n ≤ countBound → Grows (Word minusWord) (decimal n) (Negative n)
-number-grows n =
-    decimal-induction (λ m bytes. 1 ≤ m → m ≤ countBound → Grows (Word minusWord) bytes (Negative m))
-    (λ m h p l. grows-byte (Word minusWord) (48 + m) (Negative m) (digit-solid m h) (first-negative m h l p))
-    (λ m bytes h tenth p l.
-    grows-append (tenth (omega arith) (omega arith))
-    (grows-byte (Negative (m / 10)) (48 + m % 10) (Negative m) (digit-solid (m % 10) (omega arith)) (next-negative m h l)))
-    n
-
-pub negative-begins : (n : ℕ) → 1 ≤ n → n ≤ countBound → Begins (45 ∷ decimal n) (Negative n)
-negative-begins n p l = begins-append minus (number-grows n p l)
+decimal-digits : (n : ℕ) → Digits n (decimal n)
+unfolding allDigits valueFrom same
+decimal-digits n = decimal-induction Digits small large n
   where
-    minus : Begins (45 ∷ []) (Word minusWord)
-    minus = begins-byte 45 (Word minusWord) (unfold isBlank in refl) (unfold grow isDigit spell in refl)
+    small : (m : ℕ) → m < 10 → Digits m ((48 + m) ∷ [])
+    small m h =
+        let d = digit-is m h in
+        record {
+          one-run = record { no-blank = (digit-solid m h, tt); full = omega arith };
+          digits = rw d;
+          value = omega arith;
+          lead = λ l. rw (d, lt-ltb 48 (48 + m) (omega arith));
+          nought = λ z. rw z;
+        }
 
--- A blank ends a token.
-blank-ends :
-    (start at : ℕ) (t : Token) (b : ℕ) (rest : List ℕ) → isBlank b ≡ true
-    → tokensFrom at (within start t) (b ∷ rest) ≡ placed t start ∷ tokensFrom (at + 1) between rest
-unfolding tokensFrom
-blank-ends start at t b rest e = rw e
+    large : (m : ℕ) (bytes : List ℕ) → 10 ≤ m → Digits (m / 10) bytes → Digits m (bytes ++ ((48 + m % 10) ∷ []))
+    large m bytes h t =
+        let d = digit-is (m % 10) (omega arith) in
+        record {
+          one-run = run-append ((48 + m % 10) ∷ []) (t .one-run) (digit-solid (m % 10) (omega arith), tt);
+          digits = all-snoc bytes (48 + m % 10) ∙ both-and (allDigits bytes) (isDigit (48 + m % 10)) (t .digits) d;
+          value = value-snoc 0 bytes (48 + m % 10) ∙ omega (arith, t .value);
+          lead = λ l. numeral-snoc bytes (48 + m % 10) (t .lead (omega arith)) d;
+          nought = λ z. absurd (omega arith);
+        }
+
+pub decimal-run : (n : ℕ) → IsRun (decimal n)
+decimal-run n = decimal-digits n .one-run
+
+-- A word whose first byte is no digit from 1 to 9 is no numeral.
+pub numeral-unlike : (bytes : List ℕ) (w : ℕ) → isNumeral bytes ≡ true → ((b : ℕ) → 48 < b → isDigit b ≡ true → b ≡ w → ⊥) → same bytes (w ∷ []) ≡ false
+unfolding same allDigits
+numeral-unlike [] w h n = refl
+numeral-unlike (b ∷ bytes) w h n =
+    let k = and-both (ltb 48 b) (allDigits (b ∷ bytes)) h in
+    rw (ne-eqb b w (n b (ltb-true 48 b (k .0)) (and-both (isDigit b) (allDigits bytes) (k .1) .0)))
+
+-- The digits of a number are read as that number, after a minus as its opposite.
+pub decimal-number : (n : ℕ) → numberOf (decimal n) ≡ natural n
+unfolding numberOf
+decimal-number n = go (ℕ-discrete n 0) (decimal-digits n)
+  where
+    go : Dec (n ≡ 0) → Digits n (decimal n) → numberOf (decimal n) ≡ natural n
+    go (yes z) d = rw (d .nought z, z)
+    go (no z) d =
+        let l = d .lead (omega arith) in
+        rw (numeral-unlike (decimal n) 48 l (λ b h e q. omega arith), l, d .value)
+
+pub minus-number : (n : ℕ) → 1 ≤ n → numberOf (45 ∷ decimal n) ≡ negative n
+unfolding numberOf same
+minus-number n h = let d = decimal-digits n in rw (d .lead h, d .value)
+
+-- A number is neither letter of a quantifier.
+pub decimal-unlike : (n w : ℕ) → 1 ≤ n → 57 < w → same (decimal n) (w ∷ []) ≡ false
+unfolding isDigit
+decimal-unlike n w h k = numeral-unlike (decimal n) w (decimal-digits n .lead h) (λ b l d e. omega (arith, leb-true b 57 (and-both (leb 48 b) (leb b 57) d .1)))
 
 -- The reader's state s becomes s′ over the piece, which ends outside a token.
 module _ (prefixRoom clauseRoom : ℕ) where
   pub record Takes (s : State) (piece : List ℕ) (s′ : State) : Type 0 where
     pub takes :
         (at : ℕ) (rest : List ℕ)
-        → run prefixRoom clauseRoom s (tokensFrom at between (piece ++ rest))
-        ≡ run prefixRoom clauseRoom s′ (tokensFrom (at + length piece) between rest)
+        → run prefixRoom clauseRoom s (tokensFrom at [] (piece ++ rest))
+        ≡ run prefixRoom clauseRoom s′ (tokensFrom (at + length piece) [] rest)
 
   pub takes-none : (s : State) → Takes s [] s
   takes-none s = record { takes = λ at rest. rw (add-zero at) }
@@ -144,25 +158,25 @@ module _ (prefixRoom clauseRoom : ℕ) where
             rw append-assoc
             (f .takes at (ys ++ rest)
             ∙ g .takes (at + length xs) rest
-            ∙ ap (λ k. run prefixRoom clauseRoom s″ (tokensFrom k between rest)) (place-append at xs ys));
+            ∙ ap (λ k. run prefixRoom clauseRoom s″ (tokensFrom k [] rest)) (place-append at xs ys));
       }
 
   run-first :
-      (s : State) (p : Placed) (ps : List Placed)
-      → run prefixRoom clauseRoom s (p ∷ ps) ≡ run prefixRoom clauseRoom (step prefixRoom clauseRoom s p) ps
+      (s : State) (t : Token) (ts : List Token)
+      → run prefixRoom clauseRoom s (t ∷ ts) ≡ run prefixRoom clauseRoom (step prefixRoom clauseRoom s t) ts
   unfolding run
-  run-first s p ps = refl
+  run-first s t ts = refl
 
   -- A token and the blank behind it.
   pub takes-token :
-      {s : State} {bytes : List ℕ} {t : Token} (b : ℕ) (s′ : State)
-      → Begins bytes t → isBlank b ≡ true → ((at : ℕ) → step prefixRoom clauseRoom s (placed t at) ≡ s′) → Takes s (bytes ++ (b ∷ [])) s′
-  takes-token {s} {bytes} {t} b s′ f e g =
+      {s : State} {bytes : List ℕ} (b : ℕ) (s′ : State)
+      → IsRun bytes → isBlank b ≡ true → ((at : ℕ) → step prefixRoom clauseRoom s (record { bytes = bytes; place = at }) ≡ s′) → Takes s (bytes ++ (b ∷ [])) s′
+  takes-token {s} {bytes} b s′ r e g =
       record {
         takes = λ at rest.
             rw append-assoc
-            (ap (run prefixRoom clauseRoom s) (f .begins at (b ∷ rest) ∙ blank-ends at (at + length bytes) t b rest e)
-            ∙ run-first s (placed t at) (tokensFrom (at + length bytes + 1) between rest)
-            ∙ ap (λ q. run prefixRoom clauseRoom q (tokensFrom (at + length bytes + 1) between rest)) (g at)
-            ∙ ap (λ k. run prefixRoom clauseRoom s′ (tokensFrom k between rest)) (place-append at bytes (b ∷ [])));
+            (ap (run prefixRoom clauseRoom s) (goes-on at [] bytes (b ∷ rest) (r .no-blank) ∙ blank-ends at bytes b rest (r .full) e)
+            ∙ run-first s (record { bytes = bytes; place = at }) (tokensFrom (at + length bytes + 1) [] rest)
+            ∙ ap (λ q. run prefixRoom clauseRoom q (tokensFrom (at + length bytes + 1) [] rest)) (g at)
+            ∙ ap (λ k. run prefixRoom clauseRoom s′ (tokensFrom k [] rest)) (place-append at bytes (b ∷ [])));
       }

@@ -27,8 +27,8 @@ use Rattle.formula.specs.Tables.{
   tablesRefusal,
   Admitted,
 }
-use Rattle.formula.specs.Token.{pWord, cnfWord, aWord, eWord, Placed, tokens}
-use Rattle.formula.specs.Text.{read, refused, State, wantsP, wantsCnf, wantsV, wantsC, betweenSets, inSet, clauses, stopped, stoppedAt, isWord, openClause, openFrom, isOpen, headerNumber, opens, setToken, putLiteral, clauseToken, clausesToken, clausesEnding, step, run, ending, reading}
+use Rattle.formula.specs.Token.{Token, same, pText, cnfText, aText, eText, Number, natural, negative, noNumber, numberOf, tokens}
+use Rattle.formula.specs.Text.{read, refused, State, wantsP, wantsCnf, wantsV, wantsC, betweenSets, inSet, clauses, stopped, openClause, openFrom, isOpen, headerNumber, opens, setToken, putLiteral, clauseToken, clausesToken, clausesEnding, step, run, ending, reading}
 use Rattle.formula.specs.Text.Laws.{variable-fine, literal-fine, closing-fine}
 use Rattle.formula.specs.Text.Distinct.{Apart, Ranged, ranged-in, apart-few}
 use Rattle.formula.specs.Text.Sets.Laws.{listed-snoc}
@@ -36,8 +36,6 @@ use Rattle.formula.specs.Text.Clauses.Laws.{open-literal, open-closing, 
 use Rattle.formula.specs.declared.refusal.Reason.the-variants.{Headless, Oversized, BadToken, Miscount}
 use Rattle.formula.specs.declared.refusal.Reason.{Reason}
 use Rattle.formula.specs.declared.refusal.Refusal.{Refusal}
-use Rattle.formula.specs.declared.token.Token.{Token}
-use Rattle.formula.specs.declared.token.Token.the-variants.{Natural, Negative, Word}
 
 -- A variable within the range that was not seen: as an entry of the prefix, and with a sign as a word of a clause.
 prefix-entry :
@@ -122,31 +120,31 @@ Sound (betweenSets v c P) = (v ≤ variableBound) × (c ≤ countBound) × Prefi
 Sound (inSet v c q filled P) = (v ≤ variableBound) × (c ≤ countBound) × PrefixPasses v P
 Sound (clauses v c P words) =
     (v ≤ variableBound) × (c ≤ countBound) × PrefixPasses v P × ClausesPass c P words
-Sound (stopped r) = Unit {0}
+Sound (stopped p r) = Unit {0}
 
-unless-sound : (at : ℕ) (x : Option Reason) (s : State) → (x ≡ none → Sound s) → Sound (unless (stoppedAt at) x s)
+unless-sound : (at : ℕ) (x : Option Reason) (s : State) → (x ≡ none → Sound s) → Sound (unless (stopped at) x s)
 unless-sound at (some r) s h = tt
 unless-sound at none s h = h refl
 
-require-sound : (b : Bool) (r : Refusal) (s : State) → (b ≡ true → Sound s) → Sound (require b (stopped r) s)
-require-sound true r s h = h refl
-require-sound false r s h = tt
+require-sound : (b : Bool) (at : ℕ) (r : Reason) (s : State) → (b ≡ true → Sound s) → Sound (require b (stopped at r) s)
+require-sound true at r s h = h refl
+require-sound false at r s h = tt
 
-number-sound : (bound at : ℕ) (t : Token) (next : ℕ → State) → ((n : ℕ) → n ≤ bound → Sound (next n)) → Sound (headerNumber bound at t next)
-number-sound bound at (Natural n) next h = require-sound (leb n bound) (refusal Oversized 0) (next n) (λ e. h n (leb-true n bound e))
-number-sound bound at (Negative n) next h = tt
-number-sound bound at (Word w) next h = tt
+number-sound : (bound at : ℕ) (m : Number) (next : ℕ → State) → ((n : ℕ) → n ≤ bound → Sound (next n)) → Sound (headerNumber bound at m next)
+number-sound bound at (natural n) next h = require-sound (leb n bound) at Oversized (next n) (λ e. h n (leb-true n bound e))
+number-sound bound at (negative n) next h = tt
+number-sound bound at noNumber next h = tt
 
 module _ (prefixRoom clauseRoom : ℕ) where
-  set-sound : (at v c : ℕ) (q : Quantifier) (filled : Bool) (P : Prefix) (t : Token) → (v ≤ variableBound) × (c ≤ countBound) × PrefixPasses v P → Sound (setToken prefixRoom clauseRoom at v c q filled P t)
-  set-sound at v c q filled P (Natural zero) h =
-      require-sound filled (refusal BadToken at) (betweenSets v c P) (λ e. h)
-  set-sound at v c q filled P (Natural (suc n)) h =
+  set-sound : (at v c : ℕ) (q : Quantifier) (filled : Bool) (P : Prefix) (m : Number) → (v ≤ variableBound) × (c ≤ countBound) × PrefixPasses v P → Sound (setToken prefixRoom clauseRoom at v c q filled P m)
+  set-sound at v c q filled P (natural zero) h =
+      require-sound filled at BadToken (betweenSets v c P) (λ e. h)
+  set-sound at v c q filled P (natural (suc n)) h =
       unless-sound at _ (inSet v c q true (P ++ (entry (suc n) q ∷ []))) λ e.
       let f = variable-fine v (suc n) (isIn (suc n) (listed P)) (entryFits prefixRoom (length (prefixWords P))) e in
       (h .0, h .1, prefix-more v P q (suc n) (h .0) (h .2) (λ z. omega arith) (f .inRange) (f .fresh))
-  set-sound at v c q filled P (Negative n) h = tt
-  set-sound at v c q filled P (Word w) h = tt
+  set-sound at v c q filled P (negative n) h = tt
+  set-sound at v c q filled P noNumber h = tt
 
   literal-sound : (at v c : ℕ) (P : Prefix) (words : List ℤ) (positive : Bool) (n : ℕ) → Sound (clauses v c P words) → Sound (putLiteral prefixRoom clauseRoom at v c P words positive n)
   literal-sound at v c P words positive n h =
@@ -155,39 +153,39 @@ module _ (prefixRoom clauseRoom : ℕ) where
       let r = ranged-in v n (h .2 .seen) (h .2 .ranged) (h .2 .agrees n ∙ f .isBound) in
       (h .0, h .1, h .2, clauses-literal c P words positive n (h .3) (λ z. omega (arith, r .0)) (omega (arith, h .0, r .1)) (f .isBound) (f .apart) (f .short))
 
-  clause-sound : (at v c : ℕ) (P : Prefix) (words : List ℤ) (t : Token) → zeros words < c → Sound (clauses v c P words) → Sound (clauseToken prefixRoom clauseRoom at v c P words t)
-  clause-sound at v c P words (Natural zero) k h =
+  clause-sound : (at v c : ℕ) (P : Prefix) (words : List ℤ) (m : Number) → zeros words < c → Sound (clauses v c P words) → Sound (clauseToken prefixRoom clauseRoom at v c P words m)
+  clause-sound at v c P words (natural zero) k h =
       unless-sound at _ (clauses v c P (words ++ (pos 0 ∷ []))) λ e.
       let f = closing-fine (length words) clauseRoom e in
       (h .0, h .1, h .2, clauses-closing c P words (h .3) k (f .short))
-  clause-sound at v c P words (Natural (suc n)) k h = literal-sound at v c P words true (suc n) h
-  clause-sound at v c P words (Negative n) k h = literal-sound at v c P words false n h
-  clause-sound at v c P words (Word w) k h = tt
+  clause-sound at v c P words (natural (suc n)) k h = literal-sound at v c P words true (suc n) h
+  clause-sound at v c P words (negative n) k h = literal-sound at v c P words false n h
+  clause-sound at v c P words noNumber k h = tt
 
-  clauses-sound : (at v c : ℕ) (P : Prefix) (words : List ℤ) (t : Token) → Sound (clauses v c P words) → Sound (clausesToken prefixRoom clauseRoom at v c P words t)
-  clauses-sound at v c P words t h =
-      require-sound (ltb (zeros words) c) (refusal Miscount at) (clauseToken prefixRoom clauseRoom at v c P words t)
-      (λ e. clause-sound at v c P words t (ltb-true (zeros words) c e) h)
+  clauses-sound : (at v c : ℕ) (P : Prefix) (words : List ℤ) (m : Number) → Sound (clauses v c P words) → Sound (clausesToken prefixRoom clauseRoom at v c P words m)
+  clauses-sound at v c P words m h =
+      require-sound (ltb (zeros words) c) at Miscount (clauseToken prefixRoom clauseRoom at v c P words m)
+      (λ e. clause-sound at v c P words m (ltb-true (zeros words) c e) h)
 
   opens-sound : (e a : Bool) (v c : ℕ) (P : Prefix) (later : State) → (v ≤ variableBound) × (c ≤ countBound) × PrefixPasses v P → Sound later → Sound (opens e a v c P later)
   opens-sound true a v c P later h k = h
   opens-sound false true v c P later h k = h
   opens-sound false false v c P later h k = k
 
-  step-sound : (s : State) (t : Placed) → Sound s → Sound (step prefixRoom clauseRoom s t)
+  step-sound : (s : State) (t : Token) → Sound s → Sound (step prefixRoom clauseRoom s t)
   unfolding step
-  step-sound wantsP t h = require-sound (isWord pWord (t .token)) (refusal Headless (t .place)) wantsCnf (λ e. tt)
-  step-sound wantsCnf t h = require-sound (isWord cnfWord (t .token)) (refusal Headless (t .place)) wantsV (λ e. tt)
-  step-sound wantsV t h = number-sound variableBound (t .place) (t .token) wantsC (λ n k. k)
+  step-sound wantsP t h = require-sound (same (t .bytes) pText) (t .place) Headless wantsCnf (λ e. tt)
+  step-sound wantsCnf t h = require-sound (same (t .bytes) cnfText) (t .place) Headless wantsV (λ e. tt)
+  step-sound wantsV t h = number-sound variableBound (t .place) (numberOf (t .bytes)) wantsC (λ n k. k)
   step-sound (wantsC v) t h =
-      number-sound countBound (t .place) (t .token) (λ c. betweenSets v c []) (λ n k. (h, k, prefix-empty v))
+      number-sound countBound (t .place) (numberOf (t .bytes)) (λ c. betweenSets v c []) (λ n k. (h, k, prefix-empty v))
   step-sound (betweenSets v c P) t h =
-      opens-sound (isWord eWord (t .token)) (isWord aWord (t .token)) v c P (clausesToken prefixRoom clauseRoom (t .place) v c P [] (t .token)) h (clauses-sound (t .place) v c P [] (t .token) (h .0, h .1, h .2, clauses-empty c P))
-  step-sound (inSet v c q filled P) t h = set-sound (t .place) v c q filled P (t .token) h
-  step-sound (clauses v c P words) t h = clauses-sound (t .place) v c P words (t .token) h
-  step-sound (stopped r) t h = tt
+      opens-sound (same (t .bytes) eText) (same (t .bytes) aText) v c P (clausesToken prefixRoom clauseRoom (t .place) v c P [] (numberOf (t .bytes))) h (clauses-sound (t .place) v c P [] (numberOf (t .bytes)) (h .0, h .1, h .2, clauses-empty c P))
+  step-sound (inSet v c q filled P) t h = set-sound (t .place) v c q filled P (numberOf (t .bytes)) h
+  step-sound (clauses v c P words) t h = clauses-sound (t .place) v c P words (numberOf (t .bytes)) h
+  step-sound (stopped p r) t h = tt
 
-  run-sound : (s : State) (ts : List Placed) → Sound s → Sound (run prefixRoom clauseRoom s ts)
+  run-sound : (s : State) (ts : List Token) → Sound s → Sound (run prefixRoom clauseRoom s ts)
   unfolding run
   run-sound s [] h = h
   run-sound s (t ∷ ts) h = run-sound (step prefixRoom clauseRoom s t) ts (step-sound s t h)
@@ -221,33 +219,33 @@ same-read prefix words p w c n e h =
 not-refused : (r : Refusal) (p w : List ℤ) (n : ℕ) → refused r ≡ read p w n → ReadAdmitted p w n
 not-refused r p w n e = let z : _≡_ {A = ℕ} 0 1 = cc in absurd (omega arith)
 
-clauses-admitted : (at v c : ℕ) (P : Prefix) (words p w : List ℤ) (n : ℕ) → Sound (clauses v c P words) → clausesEnding at (isOpen (openClause words)) (ltb (zeros words) c) (read (prefixWords P) words c) ≡ read p w n → ReadAdmitted p w n
-clauses-admitted at v c P words p w n h e = go (openClause words) (ltb (zeros words) c) refl refl e
+clauses-admitted : (text : List ℕ) (v c : ℕ) (P : Prefix) (words p w : List ℤ) (n : ℕ) → Sound (clauses v c P words) → clausesEnding text (isOpen (openClause words)) (ltb (zeros words) c) (read (prefixWords P) words c) ≡ read p w n → ReadAdmitted p w n
+clauses-admitted text v c P words p w n h e = go (openClause words) (ltb (zeros words) c) refl refl e
   where
-    go : (o : List ℕ) (m : Bool) → openClause words ≡ o → ltb (zeros words) c ≡ m → clausesEnding at (isOpen o) m (read (prefixWords P) words c) ≡ read p w n → ReadAdmitted p w n
+    go : (o : List ℕ) (m : Bool) → openClause words ≡ o → ltb (zeros words) c ≡ m → clausesEnding text (isOpen o) m (read (prefixWords P) words c) ≡ read p w n → ReadAdmitted p w n
     go (x ∷ xs) m f g k = not-refused _ p w n k
     go [] true f g k = not-refused _ p w n k
     go [] false f g k =
         let q : c ≤ zeros words = ltb-false (zeros words) c g in
         same-read (prefixWords P) words p w c n k (record { admitted = admits v c P words h f; counted = omega (arith, h .3 .few) })
 
-ending-admitted : (at : ℕ) (s : State) (p w : List ℤ) (n : ℕ) → Sound s → ending at s ≡ read p w n → ReadAdmitted p w n
+ending-admitted : (text : List ℕ) (s : State) (p w : List ℤ) (n : ℕ) → Sound s → ending text s ≡ read p w n → ReadAdmitted p w n
 unfolding ending openFrom zeros
-ending-admitted at wantsP p w n h e = not-refused _ p w n e
-ending-admitted at wantsCnf p w n h e = not-refused _ p w n e
-ending-admitted at wantsV p w n h e = not-refused _ p w n e
-ending-admitted at (wantsC v) p w n h e = not-refused _ p w n e
-ending-admitted at (betweenSets v c P) p w n h e =
-    clauses-admitted at v c P [] p w n (h .0, h .1, h .2, clauses-empty c P) e
-ending-admitted at (inSet v c q filled P) p w n h e = not-refused _ p w n e
-ending-admitted at (clauses v c P words) p w n h e = clauses-admitted at v c P words p w n h e
-ending-admitted at (stopped r) p w n h e = not-refused r p w n e
+ending-admitted text wantsP p w n h e = not-refused _ p w n e
+ending-admitted text wantsCnf p w n h e = not-refused _ p w n e
+ending-admitted text wantsV p w n h e = not-refused _ p w n e
+ending-admitted text (wantsC v) p w n h e = not-refused _ p w n e
+ending-admitted text (betweenSets v c P) p w n h e =
+    clauses-admitted text v c P [] p w n (h .0, h .1, h .2, clauses-empty c P) e
+ending-admitted text (inSet v c q filled P) p w n h e = not-refused _ p w n e
+ending-admitted text (clauses v c P words) p w n h e = clauses-admitted text v c P words p w n h e
+ending-admitted text (stopped q r) p w n h e = not-refused _ p w n e
 
 -- What is read passes the check of tables, and C is the number of its clauses.
 pub read-admitted : (text : List ℕ) (prefixRoom clauseRoom : ℕ) (prefix words : List ℤ) (count : ℕ) → reading text prefixRoom clauseRoom ≡ read prefix words count → ReadAdmitted prefix words count
 unfolding reading
 read-admitted text prefixRoom clauseRoom prefix words count e = go (leb (length text) textBound) e
   where
-    go : (b : Bool) → require b (refused (refusal Oversized 0)) (ending (length text) (run prefixRoom clauseRoom wantsP (tokens text))) ≡ read prefix words count → ReadAdmitted prefix words count
-    go true f = ending-admitted (length text) _ prefix words count (run-sound prefixRoom clauseRoom wantsP (tokens text) tt) f
+    go : (b : Bool) → require b (refused (refusal Oversized 0)) (ending text (run prefixRoom clauseRoom wantsP (tokens text))) ≡ read prefix words count → ReadAdmitted prefix words count
+    go true f = ending-admitted text _ prefix words count (run-sound prefixRoom clauseRoom wantsP (tokens text) tt) f
     go false f = not-refused _ prefix words count f

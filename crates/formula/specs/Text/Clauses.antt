@@ -11,14 +11,15 @@ use lib.ListN.{length, getD, set, take}
 use lib.Dec.{ltb, eqb}
 use Rattle.qbf.specs.Formula.{Prefix, listed}
 use Rattle.formula.specs.Bounds.{variableBound}
-use Rattle.formula.specs.Refusal.{inText, require, unless}
+use Rattle.formula.specs.Refusal.{refusedAt, require, unless}
 use Rattle.formula.specs.Prefix.{prefixWords}
 use Rattle.formula.specs.Tables.{isIn, zeros}
 use Rattle.formula.specs.Word.{signed}
-use Rattle.formula.specs.Text.{read, refused, clauses, stoppedAt, openClause, isOpen, literalReason, closingReason, clauseToken, readingFrom}
+use Rattle.formula.specs.Text.{read, refused, clauses, stopped, openClause, isOpen, literalReason, closingReason, clauseToken, readingFrom}
 use Rattle.formula.specs.declared.refusal.Reason.the-variants.{Unfinished, Miscount}
 use Rattle.formula.specs.declared.refusal.Reason.{Reason}
-use Rattle.formula.specs.declared.token.Token.{Token}
+use Rattle.formula.specs.Token.{Number}
+use Rattle.formula.specs.declared.position.Position.{Position}
 use Rattle.formula.specs.declared.clauses.ClauseStep.{ClauseStep}
 use Rattle.formula.specs.declared.clauses.ClauseStep.the-variants.{Literal, Closed, Refused as NoStep}
 use Rattle.formula.specs.declared.clauses.ClausesAnswer.{ClausesAnswer}
@@ -65,27 +66,27 @@ pub record ClosingPost (used : ℕ) (table table′ : List ℤ) (answer : Clause
   pub stores : ClosingStores used table table′ answer
 
 -- A token of a clause, wherever it stands: where the state goes, and what the marks then say; a word was left, or it is refused.
-abbrev pub TokenStates : (token : Token) (place v used closed : ℕ) (table table′ : List ℤ) (marks′ : List ℕ) (prefixRoom c : ℕ) (P : Prefix) → ClauseStep → Type 0
-TokenStates token place v used closed table table′ marks′ prefixRoom c P Literal =
-    (clauseToken prefixRoom (length table) place v c P (take used table) token ≡ clauses v c P (take (used + 1) table′)) × Marked marks′ P (take (used + 1) table′) closed × (isOpen (openClause (take (used + 1) table′)) ≡ true)
-TokenStates token place v used closed table table′ marks′ prefixRoom c P Closed =
-    (clauseToken prefixRoom (length table) place v c P (take used table) token ≡ clauses v c P (take (used + 1) table′)) × Marked marks′ P (take (used + 1) table′) (closed + 1) × (isOpen (openClause (take (used + 1) table′)) ≡ false)
-TokenStates token place v used closed table table′ marks′ prefixRoom c P (NoStep r) =
-    clauseToken prefixRoom (length table) place v c P (take used table) token ≡ stoppedAt place r
+abbrev pub TokenStates : (m : Number) (place v used closed : ℕ) (table table′ : List ℤ) (marks′ : List ℕ) (prefixRoom c : ℕ) (P : Prefix) → ClauseStep → Type 0
+TokenStates m place v used closed table table′ marks′ prefixRoom c P Literal =
+    (clauseToken prefixRoom (length table) place v c P (take used table) m ≡ clauses v c P (take (used + 1) table′)) × Marked marks′ P (take (used + 1) table′) closed × (isOpen (openClause (take (used + 1) table′)) ≡ true)
+TokenStates m place v used closed table table′ marks′ prefixRoom c P Closed =
+    (clauseToken prefixRoom (length table) place v c P (take used table) m ≡ clauses v c P (take (used + 1) table′)) × Marked marks′ P (take (used + 1) table′) (closed + 1) × (isOpen (openClause (take (used + 1) table′)) ≡ false)
+TokenStates m place v used closed table table′ marks′ prefixRoom c P (NoStep r) =
+    clauseToken prefixRoom (length table) place v c P (take used table) m ≡ stopped place r
 
 abbrev pub TokenStores : (used : ℕ) (table : List ℤ) (marks′ : List ℕ) → ClauseStep → Type 0
 TokenStores used table marks′ Literal = (used < length table) × (length marks′ ≡ variableBound + 1)
 TokenStores used table marks′ Closed = (used < length table) × (length marks′ ≡ variableBound + 1)
 TokenStores used table marks′ (NoStep r) = Unit {0}
 
-pub record ClauseTokenPost (token : Token) (v used closed : ℕ) (table : List ℤ) (marks : List ℕ) (table′ : List ℤ) (marks′ : List ℕ) (answer : ClauseStep) : Type 0 where
-  pub states : (place prefixRoom c : ℕ) (P : Prefix) → Marked marks P (take used table) closed → TokenStates token place v used closed table table′ marks′ prefixRoom c P answer
+pub record ClauseTokenPost (m : Number) (v used closed : ℕ) (table : List ℤ) (marks : List ℕ) (table′ : List ℤ) (marks′ : List ℕ) (answer : ClauseStep) : Type 0 where
+  pub states : (place prefixRoom c : ℕ) (P : Prefix) → Marked marks P (take used table) closed → TokenStates m place v used closed table table′ marks′ prefixRoom c P answer
   pub stores : TokenStores used table marks′ answer
 
--- The text ends, after `size` bytes.
-abbrev pub clausesEnd : (size : ℕ) (clauseOpen missing : Bool) (used : ℕ) → ClausesAnswer
-clausesEnd size clauseOpen missing used =
-    require (not clauseOpen) (NoClauses (inText size Unfinished)) (require (not missing) (NoClauses (inText size Miscount)) (Clauses used))
+-- The text ends.
+abbrev pub clausesEnd : (end : Position) (clauseOpen missing : Bool) (used : ℕ) → ClausesAnswer
+clausesEnd end clauseOpen missing used =
+    require (not clauseOpen) (NoClauses (refusedAt end Unfinished)) (require (not missing) (NoClauses (refusedAt end Miscount)) (Clauses used))
 
 -- The clauses, from the byte after the sets on.
 abbrev pub ClausesPost : (text : List ℕ) (at v c prefixRoom : ℕ) (P : Prefix) (table table′ : List ℤ) → ClausesAnswer → Type 0

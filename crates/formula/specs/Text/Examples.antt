@@ -6,9 +6,12 @@ use mathlib.Core.Path.{_≡_, refl}
 use mathlib.Core.List.{List, [], _∷_}
 use lib.IntN.{pos, negsuc}
 use Rattle.formula.specs.Refusal.{refusal}
+use Rattle.formula.specs.declared.refusal.Reason.{Reason}
+use Rattle.formula.specs.declared.refusal.Refusal.{Refusal}
 use Rattle.formula.specs.Prefix.{entryWord, prefixWords, entryFits}
 use Rattle.formula.specs.Tables.{isIn, zeros}
-use Rattle.formula.specs.Token.{isDigit, isBlank, leadFrom, numeral, spell, grow, tokensFrom}
+use Rattle.formula.specs.Position.{feeds, sinceFeed}
+use Rattle.formula.specs.Token.{isDigit, isBlank, leadFrom, tokensFrom, same, allDigits, valueFrom, numberOf}
 use Rattle.formula.specs.Text.{
   Reading,
   read,
@@ -28,13 +31,17 @@ unfoldable pub bytes : String → List ℕ
 bytes end = []
 bytes (c then s) = code c ∷ bytes s
 
+-- A reason with its place, its line and its column.
+abbrev pub at : Reason → (place line column : ℕ) → Refusal
+at r place line column = record { reason = r; place = place; line = line; column = column }
+
 -- With room for eight words in each table.
 unfoldable pub reads : String → Reading
-unfolding bytes entryWord prefixWords entryFits isIn zeros isDigit isBlank leadFrom numeral spell grow tokensFrom openFrom variableReason literalReason closingReason step run ending reading
+unfolding bytes entryWord prefixWords entryFits isIn zeros isDigit isBlank leadFrom tokensFrom same allDigits valueFrom numberOf feeds sinceFeed openFrom variableReason literalReason closingReason step run ending reading
 reads s = reading (bytes s) 8 8
 
 -- 01's two texts: bytes that part nothing glue into one token; a line end closes nothing.
-pub comma-glues : reads "p cnf 2 1\ne 1 2 0\n1,2 0\n" ≡ refused (refusal BadToken 18)
+pub comma-glues : reads "p cnf 2 1\ne 1 2 0\n1,2 0\n" ≡ refused (at BadToken 18 3 1)
 unfolding reads
 comma-glues = refl
 
@@ -48,11 +55,11 @@ unfolding reads
 one-line = refl
 
 -- Headless: an empty text, and a `c` that does not start its line.
-pub empty-text : reads "" ≡ refused (refusal Headless 0)
+pub empty-text : reads "" ≡ refused (at Headless 0 1 1)
 unfolding reads
 empty-text = refl
 
-pub comment-not-first-in-line : reads "\n c\np cnf 0 0\n" ≡ refused (refusal Headless 2)
+pub comment-not-first-in-line : reads "\n c\np cnf 0 0\n" ≡ refused (at Headless 2 2 2)
 unfolding reads
 comment-not-first-in-line = refl
 
@@ -61,31 +68,40 @@ pub too-many-variables : reads "p cnf 1025 x" ≡ refused (refusal Oversized 0)
 unfolding reads
 too-many-variables = refl
 
-pub number-not-wrapped : reads "p cnf 2 1 e 4294967297 0" ≡ refused (refusal OutOfRange 12)
+pub number-not-wrapped : reads "p cnf 2 1 e 4294967297 0" ≡ refused (at OutOfRange 12 1 13)
 unfolding reads
 number-not-wrapped = refl
 
 -- From the header on there are no comments.
-pub comment-after-header : reads "p cnf 1 1\nc\n" ≡ refused (refusal BadToken 10)
+pub comment-after-header : reads "p cnf 1 1\nc\n" ≡ refused (at BadToken 10 2 1)
 unfolding reads
 comment-after-header = refl
 
 -- The first literal that repeats or opposes an earlier one.
-pub clash-at-the-third : reads "p cnf 2 1 e 1 2 0 1 2 -2 -1 0" ≡ refused (refusal Clash 22)
+pub clash-at-the-third : reads "p cnf 2 1 e 1 2 0 1 2 -2 -1 0" ≡ refused (at Clash 22 1 23)
 unfolding reads
 clash-at-the-third = refl
 
 -- Nine clause words, the last a closing 0.
-pub no-room : reads "p cnf 2 9 e 1 0 1 0 0 0 0 0 0 0 0 0" ≡ refused (refusal NoRoom 32)
+pub no-room : reads "p cnf 2 9 e 1 0 1 0 0 0 0 0 0 0 0 0" ≡ refused (at NoRoom 32 1 33)
 unfolding reads
 no-room = refl
 
 -- A set that is cut off, ahead of clauses that are missing.
-pub set-cut-off : reads "p cnf 2 1 e 1" ≡ refused (refusal Unfinished 13)
+pub set-cut-off : reads "p cnf 2 1 e 1" ≡ refused (at Unfinished 13 1 14)
 unfolding reads
 set-cut-off = refl
 
 -- With C 0, a token outside the sets.
-pub token-with-no-clauses : reads "p cnf 1 0 a 1 0 x" ≡ refused (refusal Miscount 16)
+pub token-with-no-clauses : reads "p cnf 1 0 a 1 0 x" ≡ refused (at Miscount 16 1 17)
 unfolding reads
 token-with-no-clauses = refl
+
+-- The end of a text behind a last LF is on the next line; CR and tab are a column each.
+pub end-behind-a-line : reads "p cnf 1 1\ne 1 0\n" ≡ refused (at Miscount 16 3 1)
+unfolding reads
+end-behind-a-line = refl
+
+pub columns-of-cr-and-tab : reads "p cnf 1 1\r\ne 1 0\r\n\tx 0" ≡ refused (at BadToken 19 3 2)
+unfolding reads
+columns-of-cr-and-tab = refl

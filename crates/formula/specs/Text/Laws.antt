@@ -1,6 +1,6 @@
 -- Laws of reading: what is known where a token is not refused, and how a token takes the state on. Assumes nothing.
 use Prim.Native.Nat.{ℕ, _≤_, _<_}
-use mathlib.Core.Path.{_≡_, refl}
+use mathlib.Core.Path.{_≡_, refl, ap, sym, _∙_}
 use mathlib.Core.Bool.{Bool, true, false, not}
 use mathlib.Core.Option.{Option, none, some}
 use mathlib.Core.List.{List, [], _∷_}
@@ -10,13 +10,14 @@ use lib.Dec.{ltb, leb}
 use lib.ListN.{length}
 use Rattle.formula.specs.Refusal.Laws.{require-none}
 use Rattle.formula.specs.Bounds.{matrixBound}
-use Rattle.formula.specs.Refusal.{require}
-use Rattle.formula.specs.Token.{Placed, placed, nextToken}
-use Rattle.formula.specs.Token.Laws.{FoundAt, no-token}
+use Rattle.formula.specs.Position.{PositionIn}
+use Rattle.formula.specs.Refusal.{inText, refusedAt}
+use Rattle.formula.specs.Token.{Token, tokensAt}
+use Rattle.formula.specs.Token.Laws.{Finds}
 use Rattle.formula.specs.Text.{refused, State, stopped, variableReason, literalReason, closingReason, step, run, ending, readingFrom}
-use Rattle.formula.specs.declared.refusal.Refusal.{Refusal}
-use Rattle.formula.specs.declared.token.Token.{Token}
-use Rattle.formula.specs.declared.token.Next.the-variants.{End}
+use Rattle.formula.specs.declared.position.Position.{Position}
+use Rattle.formula.specs.declared.refusal.Reason.{Reason}
+use Rattle.formula.specs.declared.token.Token.{Token as Shown}
 
 -- A variable that is listed.
 pub record VariableFine (v n : ℕ) (known fits : Bool) : Type 0 where
@@ -70,19 +71,24 @@ closing-fine used room e =
 
 -- The text ends; a token; a refusal stays.
 module _ (prefixRoom clauseRoom : ℕ) (text : List ℕ) where
-  pub from-end : (s : State) (at : ℕ) → nextToken text at ≡ End → readingFrom prefixRoom clauseRoom text s at ≡ ending (length text) s
+  pub from-end : (s : State) (at : ℕ) → tokensAt text at ≡ [] → readingFrom prefixRoom clauseRoom text s at ≡ ending text s
   unfolding run
-  from-end s at e = rw (no-token text at e)
+  from-end s at e = rw e
 
-  pub from-token : (s : State) {at : ℕ} {t : Token} {p n : ℕ} → FoundAt text at t p n → readingFrom prefixRoom clauseRoom text s at ≡ readingFrom prefixRoom clauseRoom text (step prefixRoom clauseRoom s (placed t p)) n
+  pub from-token :
+      (s : State) {at : ℕ} {shows : Shown} {p n : Position} (f : Finds text at shows p n)
+      → readingFrom prefixRoom clauseRoom text s at ≡ readingFrom prefixRoom clauseRoom text (step prefixRoom clauseRoom s (record { bytes = f .bytes; place = p .place })) (n .place)
   unfolding run
-  from-token s f = rw (f .tokens)
+  from-token s f = rw (f .first)
 
-  run-stopped : (r : Refusal) (ts : List Placed) → run prefixRoom clauseRoom (stopped r) ts ≡ stopped r
+  run-stopped : (p : ℕ) (r : Reason) (ts : List Token) → run prefixRoom clauseRoom (stopped p r) ts ≡ stopped p r
   unfolding run step
-  run-stopped r [] = refl
-  run-stopped r (t ∷ ts) = run-stopped r ts
+  run-stopped p r [] = refl
+  run-stopped p r (t ∷ ts) = run-stopped p r ts
 
-  pub from-stopped : (r : Refusal) (at : ℕ) → readingFrom prefixRoom clauseRoom text (stopped r) at ≡ refused r
+  pub from-stopped : (p : ℕ) (r : Reason) (at : ℕ) → readingFrom prefixRoom clauseRoom text (stopped p r) at ≡ refused (inText text p r)
   unfolding ending
-  from-stopped r at = rw run-stopped
+  from-stopped p r at = rw run-stopped
+
+  pub from-refused : {p : Position} → PositionIn text p → (r : Reason) (at : ℕ) → readingFrom prefixRoom clauseRoom text (stopped (p .place) r) at ≡ refused (refusedAt p r)
+  from-refused {p} i r at = from-stopped (p .place) r at ∙ ap (λ (q : Position). refused (refusedAt q r)) (sym (i .stands))

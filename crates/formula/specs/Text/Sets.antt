@@ -14,10 +14,11 @@ use Rattle.formula.specs.Bounds.{variableBound}
 use Rattle.formula.specs.Refusal.{require, unless}
 use Rattle.formula.specs.Prefix.{prefixOf, entryFits, putEntry, usedAfter}
 use Rattle.formula.specs.Tables.{isIn}
-use Rattle.formula.specs.Text.{refused, betweenSets, inSet, clauses, stoppedAt, variableReason, setToken, readingFrom}
+use Rattle.formula.specs.Text.{refused, betweenSets, inSet, clauses, stopped, variableReason, setToken, readingFrom}
 use Rattle.formula.specs.declared.refusal.Reason.the-variants.{BadToken}
 use Rattle.formula.specs.declared.refusal.Reason.{Reason}
-use Rattle.formula.specs.declared.token.Token.{Token}
+use Rattle.formula.specs.Token.{Number}
+use Rattle.formula.specs.Position.{PositionIn}
 use Rattle.formula.specs.declared.sets.SetStep.{SetStep}
 use Rattle.formula.specs.declared.sets.SetStep.the-variants.{Listed as Lists, Closed as Closes, Refused as NoListing}
 use Rattle.formula.specs.declared.sets.SetsAnswer.{SetsAnswer}
@@ -48,38 +49,40 @@ abbrev pub setClosing : (filled : Bool) → SetStep
 setClosing filled = require filled (NoListing BadToken) Closes
 
 -- A token of a set, wherever it stands: where the state goes, and what stands in the prefix table and in the marks.
-abbrev pub SetStates : (token : Token) (place v : ℕ) (q : Quantifier) (filled : Bool) (used : ℕ) (prefix prefix′ : List ℤ) (c clauseRoom : ℕ) → SetStep → Type 0
-SetStates token place v q filled used prefix prefix′ c clauseRoom (Lists more) =
-    setToken (length prefix) clauseRoom place v c q filled (prefixOf (take used prefix)) token ≡ inSet v c q true (prefixOf (take more prefix′))
-SetStates token place v q filled used prefix prefix′ c clauseRoom Closes =
-    setToken (length prefix) clauseRoom place v c q filled (prefixOf (take used prefix)) token ≡ betweenSets v c (prefixOf (take used prefix))
-SetStates token place v q filled used prefix prefix′ c clauseRoom (NoListing r) =
-    setToken (length prefix) clauseRoom place v c q filled (prefixOf (take used prefix)) token ≡ stoppedAt place r
+abbrev pub SetStates : (m : Number) (place v : ℕ) (q : Quantifier) (filled : Bool) (used : ℕ) (prefix prefix′ : List ℤ) (c clauseRoom : ℕ) → SetStep → Type 0
+SetStates m place v q filled used prefix prefix′ c clauseRoom (Lists more) =
+    setToken (length prefix) clauseRoom place v c q filled (prefixOf (take used prefix)) m ≡ inSet v c q true (prefixOf (take more prefix′))
+SetStates m place v q filled used prefix prefix′ c clauseRoom Closes =
+    setToken (length prefix) clauseRoom place v c q filled (prefixOf (take used prefix)) m ≡ betweenSets v c (prefixOf (take used prefix))
+SetStates m place v q filled used prefix prefix′ c clauseRoom (NoListing r) =
+    setToken (length prefix) clauseRoom place v c q filled (prefixOf (take used prefix)) m ≡ stopped place r
 
 abbrev pub SetStores : (used : ℕ) (prefix : List ℤ) (marks : List ℕ) (prefix′ : List ℤ) (marks′ : List ℕ) → SetStep → Type 0
 SetStores used prefix marks prefix′ marks′ (Lists more) = (used < more) × (more ≤ length prefix) × Listed marks′ (prefixOf (take more prefix′))
 SetStores used prefix marks prefix′ marks′ Closes = (prefix′ ≡ prefix) × (marks′ ≡ marks)
 SetStores used prefix marks prefix′ marks′ (NoListing r) = Unit {0}
 
-pub record SetTokenPost (token : Token) (v : ℕ) (q : Quantifier) (filled : Bool) (used : ℕ) (prefix : List ℤ) (marks : List ℕ) (prefix′ : List ℤ) (marks′ : List ℕ) (answer : SetStep) : Type 0 where
-  pub states : (place c clauseRoom : ℕ) → SetStates token place v q filled used prefix prefix′ c clauseRoom answer
+pub record SetTokenPost (m : Number) (v : ℕ) (q : Quantifier) (filled : Bool) (used : ℕ) (prefix : List ℤ) (marks : List ℕ) (prefix′ : List ℤ) (marks′ : List ℕ) (answer : SetStep) : Type 0 where
+  pub states : (place c clauseRoom : ℕ) → SetStates m place v q filled used prefix prefix′ c clauseRoom answer
   pub stores : SetStores used prefix marks prefix′ marks′ answer
 
 -- A set, from the byte after its letter on.
 abbrev pub SetPost : (text : List ℕ) (at v : ℕ) (q : Quantifier) (used : ℕ) (prefix prefix′ : List ℤ) (marks′ : List ℕ) → SetsAnswer → Type 0
 SetPost text at v q used prefix prefix′ marks′ (Sets n next) =
-    ((c clauseRoom : ℕ) → readingFrom (length prefix) clauseRoom text (inSet v c q false (prefixOf (take used prefix))) at ≡ readingFrom (length prefix) clauseRoom text (betweenSets v c (prefixOf (take n prefix′))) next)
+    ((c clauseRoom : ℕ) → readingFrom (length prefix) clauseRoom text (inSet v c q false (prefixOf (take used prefix))) at ≡ readingFrom (length prefix) clauseRoom text (betweenSets v c (prefixOf (take n prefix′))) (next .place))
     × Listed marks′ (prefixOf (take n prefix′))
     × (n ≤ length prefix′)
-    × (at ≤ next)
+    × (at ≤ next .place)
+    × PositionIn text next
 SetPost text at v q used prefix prefix′ marks′ (NoSets r) =
     (c clauseRoom : ℕ) → readingFrom (length prefix) clauseRoom text (inSet v c q false (prefixOf (take used prefix))) at ≡ refused r
 
 -- The sets, from the byte after the header on: what follows them is read as clauses.
 abbrev pub SetsPost : (text : List ℕ) (at v : ℕ) (prefix prefix′ : List ℤ) (marks′ : List ℕ) → SetsAnswer → Type 0
 SetsPost text at v prefix prefix′ marks′ (Sets n next) =
-    ((c clauseRoom : ℕ) → readingFrom (length prefix) clauseRoom text (betweenSets v c []) at ≡ readingFrom (length prefix) clauseRoom text (clauses v c (prefixOf (take n prefix′)) []) next)
+    ((c clauseRoom : ℕ) → readingFrom (length prefix) clauseRoom text (betweenSets v c []) at ≡ readingFrom (length prefix) clauseRoom text (clauses v c (prefixOf (take n prefix′)) []) (next .place))
     × Listed marks′ (prefixOf (take n prefix′))
     × (n ≤ length prefix′)
+    × PositionIn text next
 SetsPost text at v prefix prefix′ marks′ (NoSets r) =
     (c clauseRoom : ℕ) → readingFrom (length prefix) clauseRoom text (betweenSets v c []) at ≡ refused r

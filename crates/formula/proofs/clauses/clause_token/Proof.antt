@@ -1,7 +1,6 @@
 -- `clause_token` answers by the token: each need is one law of Text.Clauses. Assumes nothing.
-use mathlib.Core.Path.{refl}
-use Rattle.formula.specs.Text.Clauses.Laws.{literal-post, closing-post, natural-literal}
-use Rattle.formula.specs.declared.token.Token.the-variants.{Natural, Negative}
+use mathlib.Core.Path.{_∙_}
+use Rattle.formula.specs.Text.Clauses.Laws.{natural-post, negative-post, word-post, closing-post}
 use borrow.Author.Needs.{needs}
 use Rattle.formula.proofs.clauses.clause_token.Statement.{statement}
 use Rattle.formula.proofs.clauses.clause_token.Tie as tie
@@ -9,24 +8,20 @@ use Rattle.formula.proofs.clauses.clause_token.Tie as tie
 returns : tie.Need-returns
 returns c =
     let pre = c .before .before .before .before .before .before .before .pre in
-    rw (c .before .before .before .before .before .token .given .1, c .before .before .before .if1 .taken) (closing-post (pre .3) (pre .2) (c .before .close-clause .ensures))
+    λ m sh. closing-post (pre .3) (pre .2) (c .before .close-clause .ensures) (c .before .before .before .if1 .taken) m (sh ∙ c .before .before .before .before .before .token .given .1)
 
 returns-2 : tie.Need-returns-2
 returns-2 c =
-    let args = c .before .before .before .before .before .before .before .before .args in
     let pre = c .before .before .before .before .before .before .before .before .pre in
-    let n = c .before .before .before .before .before .before .token .given in
-    let isLiteral = natural-literal (args .variables) (args .used) (args .clauses .now) (n .0 .0) (c .before .before .before .before .if1 .left) in
-    rw (n .1) (literal-post (pre .0) (pre .3) (pre .2) (Natural (n .0 .0)) isLiteral (c .before .put-literal .ensures))
+    λ m sh. natural-post (pre .0) (pre .3) (pre .2) (c .before .before .before .before .if1 .left) (c .before .put-literal .ensures) m (sh ∙ c .before .before .before .before .before .before .token .given .1)
 
 returns-3 : tie.Need-returns-3
 returns-3 c =
     let pre = c .before .before .before .before .before .before .before .pre in
-    let n = c .before .before .before .before .before .token2 .given in
-    rw (n .1) (literal-post (pre .0) (pre .3) (pre .2) (Negative (n .0 .0)) (λ p rp count P. refl) (c .before .put-literal2 .ensures))
+    λ m sh. negative-post (pre .0) (pre .3) (pre .2) (c .before .put-literal2 .ensures) m (sh ∙ c .before .before .before .before .before .token2 .given .1)
 
 returns-4 : tie.Need-returns-4
-returns-4 c = rw (c .enum-told .given .1) (record { states = λ p rp count P M. refl; stores = tt })
+returns-4 c = λ m sh. word-post _ _ _ _ _ _ _ m (sh ∙ c .enum-told .given .1)
 
 pub clause-token-spec : {M : Type 1} → statement M
 clause-token-spec =

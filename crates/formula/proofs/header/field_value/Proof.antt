@@ -1,23 +1,18 @@
--- `field_value` answers by the token and by what is wanted. Assumes nothing.
+-- `field_value` answers by what is wanted. Assumes nothing.
+use mathlib.Core.Path.{_∙_, ap}
+use Rattle.formula.specs.Text.Header.{wordValue}
 use borrow.Author.Needs.{needs}
-use borrow.Author.Tests.{eq-eqb, ne-eqb}
 use Rattle.formula.proofs.header.field_value.Statement.{statement}
 use Rattle.formula.proofs.header.field_value.Tie as tie
 
 returns : tie.Need-returns
-returns c = rw (c .before .before .before .token .given .1, c .enum-told .given .1)
+returns c = rw (c .before .before .before .enum-told .given .1) (c .word-value .ensures ∙ ap wordValue (c .before .is-word .ensures))
 
-returns-5 : tie.Need-returns-5
-returns-5 c =
-    let t = c .before .before .before .before .before .token2 .given in
-    let w = c .before .before .wanted .given in
-    rw (t .1, w .1, eq-eqb (t .0 .0) (w .0 .0) (c .if1 .taken))
+returns-2 : tie.Need-returns-2
+returns-2 c = rw (c .before .before .before .enum-told2 .given .1) (c .word-value2 .ensures ∙ ap wordValue (c .before .is-word2 .ensures))
 
-returns-6 : tie.Need-returns-6
-returns-6 c =
-    let t = c .before .before .before .before .before .token2 .given in
-    let w = c .before .before .wanted .given in
-    rw (t .1, w .1, ne-eqb (t .0 .0) (w .0 .0) (c .if1 .left))
+returns-3 : tie.Need-returns-3
+returns-3 c = rw (c .before .enum-told3 .given .1) (c .number-value .ensures)
 
 pub field-value-spec : {M : Type 1} → statement M
 field-value-spec =
@@ -25,14 +20,14 @@ field-value-spec =
     (tie.spec
     (λ c. search needs)
     (λ c. search needs)
+    (λ c κs. (search needs, search needs))
+    (λ c κs. search needs)
     (λ c. search needs)
     (λ c. search needs)
+    (λ c κs. (search needs, search needs))
+    (λ c κs. search needs)
     (λ c. search needs)
-    (λ c. search needs)
-    (λ c. search needs)
+    (λ c κs. search needs)
     returns
-    (λ c. search needs)
-    (λ c. search needs)
-    (λ c. search needs)
-    returns-5
-    returns-6)
+    returns-2
+    returns-3)

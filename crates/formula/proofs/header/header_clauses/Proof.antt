@@ -14,39 +14,40 @@ use Rattle.formula.proofs.header.header_clauses.Tie as tie
 
 returns : tie.Need-returns
 returns c =
-    let args = c .before .before .before .before .before .args in
-    λ rp rc. c-read rp rc (args .text .now) (args .variables .0) (args .at) _ (sym (c .before .r .given .1) ∙ c .before .before .before .header-field .ensures)
+    let start = c .before .before .before .before .before in
+    λ rp rc. c-read rp rc (start .args .text .now) (start .args .at .place) (start .pre .0 .inside) _ (start .args .variables .0) (sym (c .before .r .given .1) ∙ c .before .before .before .header-field .ensures)
 
 returns-2 : tie.Need-returns-2
 returns-2 c =
-    let args = c .before .before .before .before .before .before .before .before .before .args in
+    let start = c .before .before .before .before .before .before .before .before .before in
+    let text = start .args .text .now in
     let n = c .before .before .before .before .before .value .given in
     let large = fit-refused _ _ _ _ (sym (c .before .before .before .new .ensures) ∙ c .before .enum-told .given .1) (ap (tagOf the-type)) in
     λ rp rc.
-    rw (c .new2 .ensures)
-    (c-read rp rc (args .text .now) (args .variables .0) (args .at) _ (sym (n .1) ∙ c .before .before .before .before .before .before .before .header-field .ensures)
-    ∙ above-read rp rc (args .text .now) countBound (n .0 .0) (n .0 .1 .0) (λ k. betweenSets (args .variables .0) k []) large)
+    let r = c-read rp rc text (start .args .at .place) (start .pre .0 .inside) _ (start .args .variables .0) (sym (n .1) ∙ c .before .before .before .before .before .before .before .header-field .ensures) in
+    rw (c .new2 .ensures) (r .0 .1 ∙ above-read rp rc text countBound (n .0 .0) (r .0 .0) (n .0 .1 .0 .place) (λ k. betweenSets (start .args .variables .0) k []) large)
 
 returns-3 : tie.Need-returns-3
 returns-3 c =
     let start = c .before .before .before .before .before .before .before .before .before in
-    let args = start .args in
+    let text = start .args .text .now in
     let n = c .before .before .before .before .before .value .given in
     let k = c .before .clauses .given in
-    let made = clauses-made (n .0 .0) (k .0 .0) (sym (c .before .before .before .new .ensures) ∙ k .1) in (
+    let made = clauses-made (n .0 .0) (k .0 .0) (sym (c .before .before .before .new .ensures) ∙ k .1) in
+    let e = sym (n .1) ∙ c .before .before .before .before .before .before .before .header-field .ensures in (
       (λ rp rc.
-          rw (← made .1)
-          (c-read rp rc (args .text .now) (args .variables .0) (args .at) _ (sym (n .1) ∙ c .before .before .before .before .before .before .before .header-field .ensures)
-          ∙ within-read rp rc (args .text .now) countBound (n .0 .0) (n .0 .1 .0) (λ k. betweenSets (args .variables .0) k []) (made .0))),
-      start .pre,
+          let r = c-read rp rc text (start .args .at .place) (start .pre .0 .inside) _ (start .args .variables .0) e in
+          rw (← made .1) (r .0 .1 ∙ within-read rp rc text countBound (n .0 .0) (r .0 .0) (n .0 .1 .0 .place) (λ k. betweenSets (start .args .variables .0) k []) (made .0))),
+      start .pre .2,
       rw (← made .1) (leb-true (n .0 .0) countBound (made .0)),
+      c-read 0 0 text (start .args .at .place) (start .pre .0 .inside) _ (start .args .variables .0) e .1,
     )
 
 pub header-clauses-spec : {M : Type 1} → statement M
 header-clauses-spec =
     tie.close
     (tie.spec
-    (λ c κs. search needs)
+    (λ c κs. (c .before .pre .0, c .before .pre .1))
     (λ c. search needs)
     (λ c. search needs)
     (λ c κs. search needs)

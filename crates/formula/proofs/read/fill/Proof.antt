@@ -1,6 +1,9 @@
 -- `fill` asks for the length, then reads the header and the rest. Assumes nothing.
 use mathlib.Core.Path.{ap, sym, _∙_}
+use Prim.Native.Nat.{_≤_}
+use borrow.Author.Tests.{leb-true}
 use lib.ListN.{length}
+use Rattle.formula.specs.Bounds.{textBound}
 use Rattle.formula.specs.Text.Fill.Laws.{reading-from, reading-long}
 use Rattle.formula.specs.Bounds.Laws.{fit-made, fit-refused}
 use denote.Enum.Declared.{tagOf}
@@ -9,10 +12,14 @@ use borrow.Author.Needs.{needs}
 use Rattle.formula.proofs.read.fill.Statement.{statement}
 use Rattle.formula.proofs.read.fill.Tie as tie
 
+-- the text is within its bound
+short-at : (c : tie.After-enum-told2) → length (c .before .before .before .before .args .text .now) ≤ textBound
+short-at c = leb-true _ textBound (fit-made _ _ _ _ (sym (c .before .before .new .ensures) ∙ c .enum-told2 .given .1) (λ z. ap (tagOf the-type) (sym z)) .0)
+
 fill-tables-requires : tie.Need-fill-tables-requires
 fill-tables-requires c κs =
     let post = rw (c .before .before .before .variables .given .1) at (c .before .before .before .before .before .read-header .ensures) in
-    (post .1, post .2)
+    ((post .3, short-at (c .before .before .before .before .before .before)), (post .1, post .2))
 
 returns : tie.Need-returns
 returns c =
@@ -41,7 +48,7 @@ fill-spec =
     (λ c. search needs)
     (λ c κs. search needs)
     (λ c. search needs)
-    (λ c κs. search needs)
+    (λ c κs. short-at c)
     (λ c. search needs)
     (λ c. search needs)
     fill-tables-requires

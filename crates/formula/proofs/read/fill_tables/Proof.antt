@@ -8,12 +8,12 @@ use Rattle.formula.proofs.read.fill_tables.Statement.{statement}
 use Rattle.formula.proofs.read.fill_tables.Tie as tie
 
 read-sets-requires : tie.Need-read-sets-requires
-read-sets-requires c κs = (search needs, listed-none)
+read-sets-requires c κs = let k = c .before .before .before in ((k .pre .0 .0, k .pre .0 .1), (search needs, listed-none))
 
 read-clauses-requires : tie.Need-read-clauses-requires
 read-clauses-requires c κs =
     let post = rw (c .before .before .before .used .given .1) at (c .before .before .before .before .before .before .read-sets .ensures) in
-    (search needs, search needs, post .1 .size)
+    ((post .3, c .before .before .before .before .before .before .before .before .before .before .pre .0 .1), (search needs, search needs, post .1 .size))
 
 returns : tie.Need-returns
 returns c =

@@ -1,23 +1,25 @@
 -- `next_token` passes blanks, then takes the token that begins there. Assumes nothing.
-use mathlib.Core.Path.{sym, _∙_}
-use Rattle.formula.specs.Token.{between}
-use Rattle.formula.specs.Token.Laws.{next-begins, next-end}
+use mathlib.Core.Path.{_≡_, sym, _∙_, ap}
+use native.Mathlib.Omega.{arith}
+use Rattle.formula.specs.Token.Laws.{nothing-behind}
 use borrow.Author.Needs.{needs}
 use Rattle.formula.proofs.token.next_token.Statement.{statement}
 use Rattle.formula.proofs.token.next_token.Tie as tie
 
 returns : tie.Need-returns
-returns c =
-    let start = c .before .before .skip-blanks .result in
-    let skipped = c .before .before .skip-blanks .ensures in
-    let text = c .before .before .before .before .args .text .now in
-    c .grow-token .ensures ∙ sym (skipped .same ∙ next-begins text start (c .before .if1 .taken) (skipped .solid (c .before .if1 .taken)))
+returns c = rw (c .before .before .before .skip-blanks .ensures .same-tokens) (c .token-at .ensures)
 
 returns-2 : tie.Need-returns-2
 returns-2 c =
-    let start = c .before .skip-blanks .result in
-    let text = c .before .before .before .args .text .now in
-    sym (c .before .skip-blanks .ensures .same ∙ next-end text start between (c .if1 .left))
+    let s = c .before .before .skip-blanks in
+    let text = c .before .before .before .before .args .text .now in
+    rw (s .ensures .same-tokens) (nothing-behind text (s .result) (s .ensures .stands) (c .if1 .left))
 
 pub next-token-spec : {M : Type 1} → statement M
-next-token-spec = tie.close (tie.spec (λ c κs. search needs) (λ c κs. search needs) returns returns-2)
+next-token-spec =
+    tie.close
+    (tie.spec
+    (λ c κs. (c .before .pre .0, c .before .pre .1))
+    (λ c κs. let s = c .before .before .skip-blanks .ensures in (s .stands, c .before .before .before .before .pre .1, c .if1 .taken, s .no-blank (c .if1 .taken)))
+    returns
+    returns-2)

@@ -1,6 +1,6 @@
 -- `numeral` saturates above every bound. Assumes nothing.
 use native.Mathlib.Omega.{arith}
-use Rattle.formula.specs.Token.{numeral}
+use Rattle.formula.specs.Token.Scan.{numeral}
 use borrow.Author.Needs.{needs}
 use Rattle.formula.proofs.token.numeral.Statement.{statement}
 use Rattle.formula.proofs.token.numeral.Tie as tie

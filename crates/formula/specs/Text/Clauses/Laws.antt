@@ -1,6 +1,6 @@
 -- Laws of reading the clauses: the marks of the open clause's variables, and one law for each outcome of a token.
 -- Assumes nothing.
-use Prim.Native.Nat.{ℕ, zero, suc, _+_, _≤_, _<_}
+use Prim.Native.Nat.{ℕ, zero, suc, _+_, _≤_, _<_, min}
 use mathlib.Core.Path.{_≡_, refl, ap, sym, _∙_}
 use mathlib.Core.Bool.{Bool, true, false}
 use mathlib.Core.Option.{Option, none, some}
@@ -8,7 +8,7 @@ use mathlib.Core.List.{List, [], _∷_, _++_}
 use native.Mathlib.Decide.{ℕ-discrete}
 use native.Mathlib.Numerals.{add-one}
 use native.Mathlib.Omega.{arith}
-use borrow.Author.Tests.{ltb-true, leb-true, lt-ltb, le-ltb, eq-eqb, ne-eqb}
+use borrow.Author.Tests.{ltb-true, leb-true, leb-false, lt-leb, lt-ltb, le-ltb, eq-eqb, ne-eqb}
 use lib.ListN.{length, getD, set, take, length-set}
 use lib.Seq.{getD-set-same, getD-set-other, take-suc-set, length-take-le}
 use lib.Dec.{ltb, leb, eqb}
@@ -18,8 +18,8 @@ use Rattle.qbf.specs.Formula.{Prefix, listed}
 use Rattle.formula.specs.Prefix.{prefixWords}
 use Rattle.formula.specs.Tables.{isIn, zeros}
 use Rattle.formula.specs.Word.{signed}
-use Rattle.formula.specs.Text.{readingFrom, read, clauses, stoppedAt, openFrom, openClause, isOpen, literalReason, closingReason, putLiteral, clauseToken, clausesEnding, step, ending}
-use Rattle.formula.specs.Refusal.{unless, inText, require}
+use Rattle.formula.specs.Text.{readingFrom, read, clauses, stopped, atEnd, openFrom, openClause, isOpen, literalReason, closingReason, putLiteral, clauseToken, clausesEnding, step, ending}
+use Rattle.formula.specs.Refusal.{unless, refusedAt, require}
 use Rattle.formula.specs.Text.Sets.{Listed}
 use Rattle.formula.specs.Text.Clauses.{
   Marked,
@@ -33,16 +33,19 @@ use Rattle.formula.specs.Text.Clauses.{
   clausesEnd,
   ClausesPost,
 }
-use Rattle.formula.specs.Text.Laws.{literal-fine, closing-fine, from-end, from-token, from-stopped}
-use Rattle.formula.specs.Token.{nextToken}
-use Rattle.formula.specs.Token.Laws.{FoundAt}
-use Rattle.formula.specs.declared.refusal.Reason.the-variants.{Miscount}
+use Rattle.formula.specs.Text.Laws.{literal-fine, closing-fine, from-end, from-token, from-refused}
+use Rattle.formula.specs.Position.{positionAt}
+use Rattle.formula.specs.Token.{tokensAt, Number, natural, negative, numberOf}
+use Rattle.formula.specs.Token.Scan.{tooLarge, shown}
+use Rattle.formula.specs.Token.Laws.{Finds}
+use Rattle.formula.specs.Token.Numbers.{shown-natural, shown-negative, shown-word}
+use Rattle.formula.specs.declared.refusal.Reason.the-variants.{BadToken, Miscount}
 use Rattle.formula.specs.declared.refusal.Reason.{Reason}
-use Rattle.formula.specs.declared.token.Token.{Token}
-use Rattle.formula.specs.declared.token.Token.the-variants.{Natural}
+use Rattle.formula.specs.declared.position.Position.{Position}
+use Rattle.formula.specs.declared.token.Token.{Token as Shown}
+use Rattle.formula.specs.declared.token.Token.the-variants.{Natural, Negative, Word}
 use Rattle.formula.specs.declared.clauses.ClauseStep.{ClauseStep}
 use Rattle.formula.specs.declared.clauses.ClauseStep.the-variants.{Literal, Closed, Refused as NoStep}
-use Rattle.formula.specs.declared.token.Next.the-variants.{End}
 use Rattle.formula.specs.declared.clauses.ClausesAnswer.the-variants.{Refused as NoClauses}
 
 -- One more word of a table.
@@ -143,39 +146,38 @@ module _ (marks : List ℕ) (P : Prefix) (words : List ℤ) (closed : ℕ) (M : 
         count = zeros-closing words ∙ ap suc (M .count) ∙ sym (add-one closed);
       }
 
--- Above V the marks are not asked.
-literal-reason-marks : (v n : ℕ) (bound bound′ clash clash′ : Bool) (used room : ℕ) → (n ≤ v → bound ≡ bound′) → (n ≤ v → clash ≡ clash′) → literalReason v n bound clash used room ≡ literalReason v n bound′ clash′ used room
-unfolding literalReason
-literal-reason-marks v n bound bound′ clash clash′ used room e f = go (leb n v) refl
-  where
-    go : (b : Bool) → leb n v ≡ b → literalReason v n bound clash used room ≡ literalReason v n bound′ clash′ used room
-    go true g = rw (e (leb-true n v g), f (leb-true n v g))
-    go false g = rw g
-
 pub literal-none : (x : Option Reason) → Literal ≡ literalStep x → x ≡ none
 literal-none none e = refl
 literal-none (some r) e = let z : _≡_ {A = ℕ} 0 1 = cc in absurd (omega arith)
 
--- What a literal does to the state and to the tables, by its answer; `token` is read as the literal.
-module _ {n v : ℕ} {positive : Bool} {used closed : ℕ} {table : List ℤ} {marks : List ℕ} {table′ : List ℤ} {marks′ : List ℕ} {answer : ClauseStep} (small : v ≤ variableBound) (room : used ≤ length table) (size : length marks ≡ variableBound + 1) (token : Token) (isLiteral : (place prefixRoom c : ℕ) (P : Prefix) → clauseToken prefixRoom (length table) place v c P (take used table) token ≡ putLiteral prefixRoom (length table) place v c P (take used table) positive n) (post : LiteralPost n v positive used closed table marks table′ marks′ answer) where
+-- What a literal does to the state and to the tables, by its answer: m is read as the literal of k, which the code has as n.
+module _ {n v : ℕ} {positive : Bool} {used closed : ℕ} {table : List ℤ} {marks : List ℕ} {table′ : List ℤ} {marks′ : List ℕ} {answer : ClauseStep} (small : v ≤ variableBound) (room : used ≤ length table) (size : length marks ≡ variableBound + 1) (m : Number) (k : ℕ) (isLiteral : (place prefixRoom c : ℕ) (P : Prefix) → clauseToken prefixRoom (length table) place v c P (take used table) m ≡ putLiteral prefixRoom (length table) place v c P (take used table) positive k) (s : min k tooLarge ≡ n) (post : LiteralPost n v positive used closed table marks table′ marks′ answer) where
   abbrev judged : Option Reason
   judged = markedReason v n marks closed used (length table)
 
-  literal-judged : (place prefixRoom c : ℕ) (P : Prefix) → Marked marks P (take used table) closed → clauseToken prefixRoom (length table) place v c P (take used table) token ≡ unless (stoppedAt place) judged (clauses v c P (take used table ++ (signed positive n ∷ [])))
-  literal-judged place prefixRoom c P M =
-      isLiteral place prefixRoom c P ∙ rw (length-take-le used table room, literal-reason-marks v n (isIn n (listed P)) (ltb 0 (getD marks n 0)) (isIn n (openClause (take used table))) (eqb (getD marks n 0) (closed + 2)) used (length table) (λ h. M .says n (omega (arith, small))) (λ h. M .holds n (omega (arith, small))))
+  literal-judged : (place prefixRoom c : ℕ) (P : Prefix) → Marked marks P (take used table) closed → clauseToken prefixRoom (length table) place v c P (take used table) m ≡ unless (stopped place) judged (clauses v c P (take used table ++ (signed positive k ∷ [])))
+  unfolding literalReason
+  literal-judged place prefixRoom c P M = isLiteral place prefixRoom c P ∙ go (leb k v) refl
+    where
+      go : (b : Bool) → leb k v ≡ b → putLiteral prefixRoom (length table) place v c P (take used table) positive k ≡ unless (stopped place) judged (clauses v c P (take used table ++ (signed positive k ∷ [])))
+      go true f =
+          let h = leb-true k v f in
+          let is : n ≡ k = omega (arith, s, small) in
+          rw (length-take-le used table room, is, M .says k (omega (arith, small)), M .holds k (omega (arith, small)))
+      go false f = rw (f, lt-leb n v (omega (arith, s, leb-false k v f, small)))
 
-  pub literal-post : ClauseTokenPost token v used closed table marks table′ marks′ answer
+  pub literal-post : ClauseTokenPost m v used closed table marks table′ marks′ answer
   literal-post = go judged refl (post .answers)
     where
-      go : (o : Option Reason) → judged ≡ o → answer ≡ literalStep o → ClauseTokenPost token v used closed table marks table′ marks′ answer
+      go : (o : Option Reason) → judged ≡ o → answer ≡ literalStep o → ClauseTokenPost m v used closed table marks table′ marks′ answer
       go none e a =
           let f = literal-fine v n (ltb 0 (getD marks n 0)) (eqb (getD marks n 0) (closed + 2)) used (length table) e in
+          let is : k ≡ n = omega (arith, s, f .inRange, small) in
           let stored = rw a at (post .stores) in
           let pushed : take (used + 1) table′ ≡ take used table ++ (signed positive n ∷ []) = rw (stored .0) (take-push table used (signed positive n) (f .fits)) in
           rw a (record {
             states = λ p rp c P M. (
-              rw pushed (literal-judged p rp c P M ∙ rw e),
+              rw pushed (literal-judged p rp c P M ∙ rw (e, is)),
               rw (pushed, stored .1) (marked-literal marks P (take used table) closed M positive n (omega (arith, f .inRange, small)) (f .isBound)),
               rw (pushed, open-literal [] (take used table) positive n (marked-proper marks P (take used table) closed M n (f .isBound))),
             );
@@ -183,16 +185,31 @@ module _ {n v : ℕ} {positive : Bool} {used closed : ℕ} {table : List ℤ} {m
           })
       go (some r) e a = rw a (record { states = λ p rp c P M. literal-judged p rp c P M ∙ rw e; stores = tt })
 
--- A number that is not 0 is a literal.
-pub natural-literal : (v used : ℕ) (table : List ℤ) (n : ℕ) → (n ≡ 0 → ⊥) → (place prefixRoom c : ℕ) (P : Prefix) → clauseToken prefixRoom (length table) place v c P (take used table) (Natural n) ≡ putLiteral prefixRoom (length table) place v c P (take used table) true n
+-- A number that is not 0 is a literal; so is one with a minus.
+natural-literal : (v used : ℕ) (table : List ℤ) (k : ℕ) → (k ≡ 0 → ⊥) → (place prefixRoom c : ℕ) (P : Prefix) → clauseToken prefixRoom (length table) place v c P (take used table) (natural k) ≡ putLiteral prefixRoom (length table) place v c P (take used table) true k
 natural-literal v used table zero z place prefixRoom c P = absurd (z refl)
-natural-literal v used table (suc n) z place prefixRoom c P = refl
+natural-literal v used table (suc k) z place prefixRoom c P = refl
+
+module _ {n v used closed : ℕ} {table : List ℤ} {marks : List ℕ} {table′ : List ℤ} {marks′ : List ℕ} {answer : ClauseStep} (small : v ≤ variableBound) (room : used ≤ length table) (size : length marks ≡ variableBound + 1) where
+  pub natural-post : (n ≡ 0 → ⊥) → LiteralPost n v true used closed table marks table′ marks′ answer → (m : Number) → shown m ≡ Natural n → ClauseTokenPost m v used closed table marks table′ marks′ answer
+  natural-post z post m sh =
+      let k = shown-natural m n sh in
+      rw (k .1) (literal-post small room size (natural (k .0)) (k .0) (natural-literal v used table (k .0) (λ e. z (omega (arith, k .2)))) (k .2) post)
+
+  pub negative-post : LiteralPost n v false used closed table marks table′ marks′ answer → (m : Number) → shown m ≡ Negative n → ClauseTokenPost m v used closed table marks table′ marks′ answer
+  negative-post post m sh = let k = shown-negative m n sh in rw (k .1) (literal-post small room size (negative (k .0)) (k .0) (λ p rp c P. refl) (k .2) post)
+
+pub word-post : (v used closed : ℕ) (table : List ℤ) (marks : List ℕ) (table′ : List ℤ) (marks′ : List ℕ) (m : Number) → shown m ≡ Word → ClauseTokenPost m v used closed table marks table′ marks′ (NoStep BadToken)
+word-post v used closed table marks table′ marks′ m sh = rw (shown-word m sh) (record { states = λ p rp c P M. refl; stores = tt })
 
 -- The same of a closing 0.
-pub closing-post : {v used closed : ℕ} {table table′ : List ℤ} {marks : List ℕ} {answer : ClauseStep} → used ≤ length table → length marks ≡ variableBound + 1 → ClosingPost used table table′ answer → ClauseTokenPost (Natural 0) v used closed table marks table′ marks answer
-closing-post {v} {used} {closed} {table} {table′} {marks} {answer} room size post = go (closingReason used (length table)) refl (post .answers)
+pub closing-post : {n v used closed : ℕ} {table table′ : List ℤ} {marks : List ℕ} {answer : ClauseStep} → used ≤ length table → length marks ≡ variableBound + 1 → ClosingPost used table table′ answer → n ≡ 0 → (m : Number) → shown m ≡ Natural n → ClauseTokenPost m v used closed table marks table′ marks answer
+closing-post {n} {v} {used} {closed} {table} {table′} {marks} {answer} room size post z m sh =
+    let k = shown-natural m n sh in
+    let none-left : k .0 ≡ 0 = omega (arith, k .2) in
+    rw (k .1, none-left) (go (closingReason used (length table)) refl (post .answers))
   where
-    go : (o : Option Reason) → closingReason used (length table) ≡ o → answer ≡ closingStep o → ClauseTokenPost (Natural 0) v used closed table marks table′ marks answer
+    go : (o : Option Reason) → closingReason used (length table) ≡ o → answer ≡ closingStep o → ClauseTokenPost (natural 0) v used closed table marks table′ marks answer
     go none e a =
         let f = closing-fine used (length table) e in
         let stored = rw a at (post .stores) in
@@ -234,35 +251,35 @@ clauses-begin text from v c table marks h =
     }
 
 module _ {text : List ℕ} {from v c : ℕ} {table₀ table : List ℤ} {marks₀ marks : List ℕ} {at used closed start : ℕ} (I : ClausesSoFar text from v c table₀ table marks₀ marks at used closed start) where
-  pub clauses-end : nextToken text at ≡ End → (prefixRoom : ℕ) (P : Prefix) → Listed marks₀ P → ClausesPost text from v c prefixRoom P table₀ table (clausesEnd (length text) (ltb start used) (ltb closed c) used)
+  pub clauses-end : tokensAt text at ≡ [] → (prefixRoom : ℕ) (P : Prefix) → Listed marks₀ P → ClausesPost text from v c prefixRoom P table₀ table (clausesEnd (positionAt text (length text)) (ltb start used) (ltb closed c) used)
   unfolding ending
   clauses-end e rp P L =
       let R = I .sofar rp P L in
       go (ltb start used) (ltb closed c) (R .reads ∙ from-end rp (length table₀) text (clauses v c P (take used table)) at e ∙ rw (R .opened, R .marked .count))
     where
-      go : (o m : Bool) → readingFrom rp (length table₀) text (clauses v c P []) from ≡ clausesEnding (length text) o m (read (prefixWords P) (take used table) c) → ClausesPost text from v c rp P table₀ table (clausesEnd (length text) o m used)
+      go : (o m : Bool) → readingFrom rp (length table₀) text (clauses v c P []) from ≡ clausesEnding text o m (read (prefixWords P) (take used table) c) → ClausesPost text from v c rp P table₀ table (clausesEnd (positionAt text (length text)) o m used)
       go true m e = e
       go false true e = e
       go false false e = (e, I .room)
 
-  module _ {t : Token} {p k : ℕ} (f : FoundAt text at t p k) where
+  module _ {shows : Shown} {p k : Position} (f : Finds text at shows p k) where
     -- The token at hand goes to a clause, or is one too many.
-    clauses-step : (b : Bool) → ltb closed c ≡ b → (prefixRoom : ℕ) (P : Prefix) → Listed marks₀ P → readingFrom prefixRoom (length table₀) text (clauses v c P []) from ≡ readingFrom prefixRoom (length table₀) text (require b (stoppedAt p Miscount) (clauseToken prefixRoom (length table₀) p v c P (take used table) t)) k
+    clauses-step : (b : Bool) → ltb closed c ≡ b → (prefixRoom : ℕ) (P : Prefix) → Listed marks₀ P → readingFrom prefixRoom (length table₀) text (clauses v c P []) from ≡ readingFrom prefixRoom (length table₀) text (require b (stopped (p .place) Miscount) (clauseToken prefixRoom (length table₀) (p .place) v c P (take used table) (numberOf (f .bytes)))) (k .place)
     unfolding step
     clauses-step b e rp P L =
         let R = I .sofar rp P L in
         R .reads ∙ from-token rp (length table₀) text (clauses v c P (take used table)) f ∙ rw (R .marked .count, e)
 
-    pub clauses-over : c ≤ closed → (table′ : List ℤ) (prefixRoom : ℕ) (P : Prefix) → Listed marks₀ P → ClausesPost text from v c prefixRoom P table₀ table′ (NoClauses (inText p Miscount))
+    pub clauses-over : c ≤ closed → (table′ : List ℤ) (prefixRoom : ℕ) (P : Prefix) → Listed marks₀ P → ClausesPost text from v c prefixRoom P table₀ table′ (NoClauses (refusedAt p Miscount))
     clauses-over h table′ rp P L =
-        clauses-step false (le-ltb closed c h) rp P L ∙ from-stopped rp (length table₀) text (inText p Miscount) k
+        clauses-step false (le-ltb closed c h) rp P L ∙ from-refused rp (length table₀) text (f .place-in) Miscount (k .place)
 
     module _ (h : closed < c) where
-      pub clauses-refuse : {r : Reason} {table′ : List ℤ} {marks′ : List ℕ} → ClauseTokenPost t v used closed table marks table′ marks′ (NoStep r) → (prefixRoom : ℕ) (P : Prefix) → Listed marks₀ P → ClausesPost text from v c prefixRoom P table₀ table′ (NoClauses (inText p r))
+      pub clauses-refuse : {r : Reason} {table′ : List ℤ} {marks′ : List ℕ} → ClauseTokenPost (numberOf (f .bytes)) v used closed table marks table′ marks′ (NoStep r) → (prefixRoom : ℕ) (P : Prefix) → Listed marks₀ P → ClausesPost text from v c prefixRoom P table₀ table′ (NoClauses (refusedAt p r))
       clauses-refuse {r} post rp P L =
-          clauses-step true (lt-ltb closed c h) rp P L ∙ rw (← I .same, post .states p rp c P (I .sofar rp P L .marked)) (from-stopped rp (length table) text (inText p r) k)
+          clauses-step true (lt-ltb closed c h) rp P L ∙ rw (← I .same, post .states (p .place) rp c P (I .sofar rp P L .marked)) (from-refused rp (length table) text (f .place-in) r (k .place))
 
-      pub clauses-literal : {table′ : List ℤ} {marks′ : List ℕ} → length table′ ≡ length table → ClauseTokenPost t v used closed table marks table′ marks′ Literal → ClausesSoFar text from v c table₀ table′ marks₀ marks′ k (used + 1) closed start
+      pub clauses-literal : {table′ : List ℤ} {marks′ : List ℕ} → length table′ ≡ length table → ClauseTokenPost (numberOf (f .bytes)) v used closed table marks table′ marks′ Literal → ClausesSoFar text from v c table₀ table′ marks₀ marks′ (k .place) (used + 1) closed start
       clauses-literal {table′} {marks′} l post =
           record {
             room = omega (arith, l, post .stores .0);
@@ -270,10 +287,10 @@ module _ {text : List ℕ} {from v c : ℕ} {table₀ table : List ℤ} {marks�
             size = post .stores .1;
             begun = omega (arith, I .begun);
             few = I .few;
-            sofar = λ rp P L. more rp P L (post .states p rp c P (I .sofar rp P L .marked));
+            sofar = λ rp P L. more rp P L (post .states (p .place) rp c P (I .sofar rp P L .marked));
           }
         where
-          more : (rp : ℕ) (P : Prefix) → Listed marks₀ P → TokenStates t p v used closed table table′ marks′ rp c P Literal → ClausesRead text from v c (length table₀) table′ marks′ k (used + 1) closed start rp P
+          more : (rp : ℕ) (P : Prefix) → Listed marks₀ P → TokenStates (numberOf (f .bytes)) (p .place) v used closed table table′ marks′ rp c P Literal → ClausesRead text from v c (length table₀) table′ marks′ (k .place) (used + 1) closed start rp P
           more rp P L s =
               record {
                 marked = s .1;
@@ -281,7 +298,7 @@ module _ {text : List ℕ} {from v c : ℕ} {table₀ table : List ℤ} {marks�
                 reads = clauses-step true (lt-ltb closed c h) rp P L ∙ rw (← I .same, s .0);
               }
 
-      pub clauses-closed : {table′ : List ℤ} {marks′ : List ℕ} → length table′ ≡ length table → ClauseTokenPost t v used closed table marks table′ marks′ Closed → ClausesSoFar text from v c table₀ table′ marks₀ marks′ k (used + 1) (closed + 1) (used + 1)
+      pub clauses-closed : {table′ : List ℤ} {marks′ : List ℕ} → length table′ ≡ length table → ClauseTokenPost (numberOf (f .bytes)) v used closed table marks table′ marks′ Closed → ClausesSoFar text from v c table₀ table′ marks₀ marks′ (k .place) (used + 1) (closed + 1) (used + 1)
       clauses-closed {table′} {marks′} l post =
           record {
             room = omega (arith, l, post .stores .0);
@@ -289,10 +306,10 @@ module _ {text : List ℕ} {from v c : ℕ} {table₀ table : List ℤ} {marks�
             size = post .stores .1;
             begun = omega arith;
             few = omega arith;
-            sofar = λ rp P L. more rp P L (post .states p rp c P (I .sofar rp P L .marked));
+            sofar = λ rp P L. more rp P L (post .states (p .place) rp c P (I .sofar rp P L .marked));
           }
         where
-          more : (rp : ℕ) (P : Prefix) → Listed marks₀ P → TokenStates t p v used closed table table′ marks′ rp c P Closed → ClausesRead text from v c (length table₀) table′ marks′ k (used + 1) (closed + 1) (used + 1) rp P
+          more : (rp : ℕ) (P : Prefix) → Listed marks₀ P → TokenStates (numberOf (f .bytes)) (p .place) v used closed table table′ marks′ rp c P Closed → ClausesRead text from v c (length table₀) table′ marks′ (k .place) (used + 1) (closed + 1) (used + 1) rp P
           more rp P L s =
               record {
                 marked = s .1;

@@ -1,35 +1,38 @@
 -- Laws of reading the sets: the marks of the variables listed, and one law for each outcome of a token in a set.
 -- Assumes nothing.
-use Prim.Native.Nat.{ℕ, zero, suc, _≤_, _<_}
+use Prim.Native.Nat.{ℕ, zero, suc, _≤_, _<_, min}
 use mathlib.Core.Path.{_≡_, refl, sym, _∙_}
 use mathlib.Core.Bool.{Bool, true, false, _||_, or-true, or-false}
 use mathlib.Core.Option.{Option, none, some}
 use mathlib.Core.List.{List, [], _∷_, _++_}
 use native.Mathlib.Decide.{ℕ-discrete}
 use native.Mathlib.Omega.{arith}
-use borrow.Author.Tests.{leb-true, lt-ltb, le-ltb, eq-eqb, ne-eqb}
+use borrow.Author.Tests.{leb-true, leb-false, lt-leb, lt-ltb, le-ltb, eq-eqb, ne-eqb}
 use lib.ListN.{length, getD, set, take, length-set}
 use lib.Seq.{getD-set-same, getD-set-other, length-take-le}
 use lib.Dec.{ltb, leb, eqb}
 use lib.IntN.{ℤ}
 use Rattle.qbf.specs.Formula.{Quantifier, entry, Prefix, listed}
 use Rattle.formula.specs.Bounds.{variableBound}
-use Rattle.formula.specs.Refusal.{inText, unless}
+use Rattle.formula.specs.Refusal.{refusedAt, unless}
 use Rattle.formula.specs.Prefix.{prefixOf, entryFits, usedAfter, quantifierOf}
 use Rattle.formula.specs.Prefix.Laws.{prefix-none, prefix-words, put-entries, put-more, put-within}
 use Rattle.formula.specs.Tables.{isIn, zeros}
-use Rattle.formula.specs.Token.{aWord, eWord, nextToken}
-use Rattle.formula.specs.Token.Laws.{FoundAt}
-use Rattle.formula.specs.Text.{betweenSets, inSet, clauses, stoppedAt, isWord, opens, openFrom, variableReason, setToken, clausesToken, step, ending, readingFrom}
+use Rattle.formula.specs.Position.{PositionIn}
+use Rattle.formula.specs.Token.{tokensAt, same, aText, eText, Number, natural, negative, noNumber, numberOf}
+use Rattle.formula.specs.Token.Scan.{tooLarge, shown}
+use Rattle.formula.specs.Token.Laws.{Finds}
+use Rattle.formula.specs.Token.Numbers.{shown-natural, shown-negative, shown-word}
+use Rattle.formula.specs.Text.{betweenSets, inSet, clauses, stopped, atEnd, opens, openFrom, variableReason, setToken, clausesToken, step, ending, readingFrom}
 use Rattle.formula.specs.Text.Distinct.{or-no}
-use Rattle.formula.specs.Text.Laws.{variable-fine, from-end, from-token, from-stopped}
+use Rattle.formula.specs.Text.Laws.{variable-fine, from-end, from-token, from-refused}
 use Rattle.formula.specs.Text.Sets.{Listed, listing, ListingPost, setClosing, SetTokenPost, SetPost, SetsPost}
-use Rattle.formula.specs.declared.refusal.Reason.the-variants.{Unfinished}
+use Rattle.formula.specs.declared.refusal.Reason.the-variants.{BadToken, Unfinished}
 use Rattle.formula.specs.declared.refusal.Reason.{Reason}
 use Rattle.formula.specs.declared.refusal.Refusal.{Refusal}
-use Rattle.formula.specs.declared.token.Token.{Token}
-use Rattle.formula.specs.declared.token.Token.the-variants.{Natural, Word}
-use Rattle.formula.specs.declared.token.Next.the-variants.{End}
+use Rattle.formula.specs.declared.position.Position.{Position}
+use Rattle.formula.specs.declared.token.Token.{Token as Shown}
+use Rattle.formula.specs.declared.token.Token.the-variants.{Natural, Negative, Word}
 use Rattle.formula.specs.declared.sets.SetStep.{SetStep}
 use Rattle.formula.specs.declared.sets.SetStep.the-variants.{Listed as Lists, Closed as Closes, Refused as NoListing}
 use Rattle.formula.specs.declared.sets.SetsAnswer.the-variants.{Sets, Refused as NoSets}
@@ -62,49 +65,57 @@ listed-more marks P q n h z L =
     small v (yes e) = rw (e, getD-set-same marks n 1 0 inside) (omega arith)
     small v (no e) = rw (getD-set-other marks n v 1 0 e) (L .small v)
 
--- Above V the marks are not asked.
-variable-reason-marks : (v n : ℕ) (known marked fits : Bool) → (n ≤ v → known ≡ marked) → variableReason v n known fits ≡ variableReason v n marked fits
-unfolding variableReason
-variable-reason-marks v n known marked fits e = go (leb n v) refl
-  where
-    go : (b : Bool) → leb n v ≡ b → variableReason v n known fits ≡ variableReason v n marked fits
-    go true f = rw (e (leb-true n v f))
-    go false f = rw f
-
 -- What a number other than 0 does to the state and to the tables, by its answer.
 module _ {n v : ℕ} {q : Quantifier} {used : ℕ} {prefix : List ℤ} {marks : List ℕ} {prefix′ : List ℤ} {marks′ : List ℕ} {answer : SetStep} (filled : Bool) (small : v ≤ variableBound) (room : used ≤ length prefix) (L : Listed marks (prefixOf (take used prefix))) (z : 0 < n) (post : ListingPost n v q used prefix marks prefix′ marks′ answer) where
   -- It is judged by its mark.
   abbrev judged : Option Reason
   judged = variableReason v n (ltb 0 (getD marks n 0)) (entryFits (length prefix) used)
 
-  set-judged : (m place c clauseRoom : ℕ) → m ≡ n → setToken (length prefix) clauseRoom place v c q filled (prefixOf (take used prefix)) (Natural m) ≡ unless (stoppedAt place) judged (inSet v c q true (prefixOf (take used prefix) ++ (entry m q ∷ [])))
+  -- The number k as the code has it, at most one more than the largest word; above V both are refused so.
+  set-judged : (k place c clauseRoom : ℕ) → min k tooLarge ≡ n → setToken (length prefix) clauseRoom place v c q filled (prefixOf (take used prefix)) (natural k) ≡ unless (stopped place) judged (inSet v c q true (prefixOf (take used prefix) ++ (entry k q ∷ [])))
+  unfolding variableReason
   set-judged zero place c clauseRoom e = absurd (omega arith)
-  set-judged (suc m) place c clauseRoom e =
-      rw (prefix-words (take used prefix), length-take-le used prefix room, ← e, variable-reason-marks v (suc m) (isIn (suc m) (listed (prefixOf (take used prefix)))) (ltb 0 (getD marks (suc m) 0)) (entryFits (length prefix) used) (λ h. L .says (suc m) (omega (arith, small))))
-
-  pub variable-post : SetTokenPost (Natural n) v q filled used prefix marks prefix′ marks′ answer
-  variable-post = go judged refl (post .answers)
+  set-judged (suc k) place c clauseRoom e = go (leb (suc k) v) refl
     where
-      go : (o : Option Reason) → judged ≡ o → answer ≡ listing (usedAfter used) o → SetTokenPost (Natural n) v q filled used prefix marks prefix′ marks′ answer
-      go none e a =
+      go : (b : Bool) → leb (suc k) v ≡ b → setToken (length prefix) clauseRoom place v c q filled (prefixOf (take used prefix)) (natural (suc k)) ≡ unless (stopped place) judged (inSet v c q true (prefixOf (take used prefix) ++ (entry (suc k) q ∷ [])))
+      go true f =
+          let s : suc k ≡ n = omega (arith, leb-true (suc k) v f, small) in
+          rw (prefix-words (take used prefix), length-take-le used prefix room, ← s, L .says (suc k) (omega (arith, leb-true (suc k) v f, small)))
+      go false f = rw (f, lt-leb n v (omega (arith, leb-false (suc k) v f, small)))
+
+  pub variable-post : (m : Number) → shown m ≡ Natural n → SetTokenPost m v q filled used prefix marks prefix′ marks′ answer
+  variable-post m sh = let k = shown-natural m n sh in rw (k .1) (go (k .0) (k .2) judged refl (post .answers))
+    where
+      go : (k : ℕ) → min k tooLarge ≡ n → (o : Option Reason) → judged ≡ o → answer ≡ listing (usedAfter used) o → SetTokenPost (natural k) v q filled used prefix marks prefix′ marks′ answer
+      go k s none e a =
           let f = variable-fine v n (ltb 0 (getD marks n 0)) (entryFits (length prefix) used) e in
+          let is : k ≡ n = omega (arith, f .inRange, small) in
           let stored = rw a at (post .stores) in
           let pushed : prefixOf (take (usedAfter used) prefix′) ≡ prefixOf (take used prefix) ++ (entry n q ∷ []) = rw (stored .0) (put-entries prefix used n q (f .room) z) in
           rw a (record {
-            states = λ p c rc. rw pushed (set-judged n p c rc refl ∙ rw e);
+            states = λ p c rc. rw pushed (set-judged k p c rc s ∙ rw (e, is));
             stores = (
               put-more used,
               put-within (length prefix) used (f .room),
               rw (pushed, stored .1) (listed-more marks (prefixOf (take used prefix)) q n (omega (arith, f .inRange, small)) z L),
             );
           })
-      go (some r) e a = rw a (record { states = λ p c rc. set-judged n p c rc refl ∙ rw e; stores = tt })
+      go k s (some r) e a = rw a (record { states = λ p c rc. set-judged k p c rc s ∙ rw e; stores = tt })
 
--- A set's closing 0.
-pub closing-post : (n v : ℕ) (q : Quantifier) (filled : Bool) (used : ℕ) (prefix : List ℤ) (marks : List ℕ) → n ≤ 0 → SetTokenPost (Natural n) v q filled used prefix marks prefix marks (setClosing filled)
-closing-post zero v q true used prefix marks z = record { states = λ p c rc. refl; stores = (refl, refl) }
-closing-post zero v q false used prefix marks z = record { states = λ p c rc. refl; stores = tt }
-closing-post (suc n) v q filled used prefix marks z = absurd (omega arith)
+-- A set's closing 0, and what is no number without minus.
+pub closing-post : (n v : ℕ) (q : Quantifier) (filled : Bool) (used : ℕ) (prefix : List ℤ) (marks : List ℕ) → n ≤ 0 → (m : Number) → shown m ≡ Natural n → SetTokenPost m v q filled used prefix marks prefix marks (setClosing filled)
+closing-post n v q filled used prefix marks z m sh = let k = shown-natural m n sh in rw (k .1) (go (k .0) filled (k .2))
+  where
+    go : (k : ℕ) (filled : Bool) → min k tooLarge ≡ n → SetTokenPost (natural k) v q filled used prefix marks prefix marks (setClosing filled)
+    go zero true e = record { states = λ p c rc. refl; stores = (refl, refl) }
+    go zero false e = record { states = λ p c rc. refl; stores = tt }
+    go (suc k) filled e = absurd (omega arith)
+
+pub negative-post : (n v : ℕ) (q : Quantifier) (filled : Bool) (used : ℕ) (prefix : List ℤ) (marks : List ℕ) (prefix′ : List ℤ) (marks′ : List ℕ) (m : Number) → shown m ≡ Negative n → SetTokenPost m v q filled used prefix marks prefix′ marks′ (NoListing BadToken)
+negative-post n v q filled used prefix marks prefix′ marks′ m sh = rw (shown-negative m n sh .1) (record { states = λ p c rc. refl; stores = tt })
+
+pub word-post : (v : ℕ) (q : Quantifier) (filled : Bool) (used : ℕ) (prefix : List ℤ) (marks : List ℕ) (prefix′ : List ℤ) (marks′ : List ℕ) (m : Number) → shown m ≡ Word → SetTokenPost m v q filled used prefix marks prefix′ marks′ (NoListing BadToken)
+word-post v q filled used prefix marks prefix′ marks′ m sh = rw (shown-word m sh) (record { states = λ p c rc. refl; stores = tt })
 
 -- In a set, at the place `at`: `used` words were used as it began, n are now.
 pub record SetSoFar (text : List ℕ) (start v : ℕ) (q : Quantifier) (used : ℕ) (prefix₀ prefix : List ℤ) (marks : List ℕ) (at n : ℕ) : Type 0 where
@@ -120,24 +131,24 @@ set-begins text start v q used prefix marks h L =
     record { room = h; more = omega arith; same = refl; listed = L; on = omega arith; reads = λ c rc. rw (le-ltb used used (omega arith)) }
 
 module _ {text : List ℕ} {start v : ℕ} {q : Quantifier} {used : ℕ} {prefix₀ prefix : List ℤ} {marks : List ℕ} {at n : ℕ} (I : SetSoFar text start v q used prefix₀ prefix marks at n) where
-  pub set-ends : nextToken text at ≡ End → (prefix′ : List ℤ) (marks′ : List ℕ) → SetPost text start v q used prefix₀ prefix′ marks′ (NoSets (inText (length text) Unfinished))
+  pub set-ends : tokensAt text at ≡ [] → (prefix′ : List ℤ) (marks′ : List ℕ) → SetPost text start v q used prefix₀ prefix′ marks′ (NoSets (atEnd text Unfinished))
   unfolding ending
   set-ends e prefix′ marks′ = λ c rc. I .reads c rc ∙ from-end (length prefix₀) rc text _ at e
 
-  module _ {t : Token} {p k : ℕ} (f : FoundAt text at t p k) where
+  module _ {shows : Shown} {p k : Position} (f : Finds text at shows p k) where
     -- The token at hand goes to the set.
-    set-step : (c rc : ℕ) → readingFrom (length prefix₀) rc text (inSet v c q false (prefixOf (take used prefix₀))) start ≡ readingFrom (length prefix₀) rc text (setToken (length prefix₀) rc p v c q (ltb used n) (prefixOf (take n prefix)) t) k
+    set-step : (c rc : ℕ) → readingFrom (length prefix₀) rc text (inSet v c q false (prefixOf (take used prefix₀))) start ≡ readingFrom (length prefix₀) rc text (setToken (length prefix₀) rc (p .place) v c q (ltb used n) (prefixOf (take n prefix)) (numberOf (f .bytes))) (k .place)
     unfolding step
     set-step c rc = I .reads c rc ∙ from-token (length prefix₀) rc text _ f
 
-    pub set-closes : {prefix′ : List ℤ} {marks′ : List ℕ} → SetTokenPost t v q (ltb used n) n prefix marks prefix′ marks′ Closes → SetPost text start v q used prefix₀ prefix′ marks′ (Sets n k)
+    pub set-closes : {prefix′ : List ℤ} {marks′ : List ℕ} → SetTokenPost (numberOf (f .bytes)) v q (ltb used n) n prefix marks prefix′ marks′ Closes → SetPost text start v q used prefix₀ prefix′ marks′ (Sets n k)
     set-closes post =
-        rw (post .stores .0, post .stores .1) (λ c rc. set-step c rc ∙ rw (← I .same, post .states p c rc), I .listed, I .room, omega (arith, f .after, I .on))
+        rw (post .stores .0, post .stores .1) (λ c rc. set-step c rc ∙ rw (← I .same, post .states (p .place) c rc), I .listed, I .room, omega (arith, f .after, I .on), f .next-in)
 
-    pub set-refuses : {r : Reason} {prefix′ : List ℤ} {marks′ : List ℕ} → SetTokenPost t v q (ltb used n) n prefix marks prefix′ marks′ (NoListing r) → SetPost text start v q used prefix₀ prefix′ marks′ (NoSets (inText p r))
-    set-refuses {r} post = λ c rc. set-step c rc ∙ rw (← I .same, post .states p c rc) (from-stopped (length prefix) rc text (inText p r) k)
+    pub set-refuses : {r : Reason} {prefix′ : List ℤ} {marks′ : List ℕ} → SetTokenPost (numberOf (f .bytes)) v q (ltb used n) n prefix marks prefix′ marks′ (NoListing r) → SetPost text start v q used prefix₀ prefix′ marks′ (NoSets (refusedAt p r))
+    set-refuses {r} post = λ c rc. set-step c rc ∙ rw (← I .same, post .states (p .place) c rc) (from-refused (length prefix) rc text (f .place-in) r (k .place))
 
-    pub set-lists : {more : ℕ} {prefix′ : List ℤ} {marks′ : List ℕ} → length prefix′ ≡ length prefix → SetTokenPost t v q (ltb used n) n prefix marks prefix′ marks′ (Lists more) → SetSoFar text start v q used prefix₀ prefix′ marks′ k more
+    pub set-lists : {more : ℕ} {prefix′ : List ℤ} {marks′ : List ℕ} → length prefix′ ≡ length prefix → SetTokenPost (numberOf (f .bytes)) v q (ltb used n) n prefix marks prefix′ marks′ (Lists more) → SetSoFar text start v q used prefix₀ prefix′ marks′ (k .place) more
     set-lists {more} l post =
         record {
           room = omega (arith, l, post .stores .1);
@@ -145,7 +156,7 @@ module _ {text : List ℕ} {start v : ℕ} {q : Quantifier} {used : ℕ} {prefix
           same = l ∙ I .same;
           listed = post .stores .2;
           on = omega (arith, f .after, I .on);
-          reads = λ c rc. set-step c rc ∙ rw (← I .same, post .states p c rc, lt-ltb used more (omega (arith, I .more, post .stores .0)));
+          reads = λ c rc. set-step c rc ∙ rw (← I .same, post .states (p .place) c rc, lt-ltb used more (omega (arith, I .more, post .stores .0)));
         }
 
 -- Between sets, at the place `at`: `used` words are used.
@@ -159,37 +170,37 @@ pub sets-begin : (text : List ℕ) (start v : ℕ) (prefix : List ℤ) (marks : 
 sets-begin text start v prefix marks L =
     record { room = omega arith; same = refl; listed = rw prefix-none L; reads = λ c rc. rw prefix-none }
 
-module _ {text : List ℕ} {start v : ℕ} {prefix₀ prefix : List ℤ} {marks : List ℕ} {at used : ℕ} (I : SetsSoFar text start v prefix₀ prefix marks at used) where
+module _ {text : List ℕ} {start v : ℕ} {prefix₀ prefix : List ℤ} {marks : List ℕ} {at : Position} {used : ℕ} (within : PositionIn text at) (I : SetsSoFar text start v prefix₀ prefix marks (at .place) used) where
   -- The sets are over where the same is read from the clauses on.
-  over : ((c rc : ℕ) → readingFrom (length prefix₀) rc text (betweenSets v c (prefixOf (take used prefix))) at ≡ readingFrom (length prefix₀) rc text (clauses v c (prefixOf (take used prefix)) []) at) → SetsPost text start v prefix₀ prefix marks (Sets used at)
-  over e = (λ c rc. I .reads c rc ∙ e c rc, I .listed, I .room)
+  over : ((c rc : ℕ) → readingFrom (length prefix₀) rc text (betweenSets v c (prefixOf (take used prefix))) (at .place) ≡ readingFrom (length prefix₀) rc text (clauses v c (prefixOf (take used prefix)) []) (at .place)) → SetsPost text start v prefix₀ prefix marks (Sets used at)
+  over e = (λ c rc. I .reads c rc ∙ e c rc, I .listed, I .room, within)
 
-  pub sets-end : nextToken text at ≡ End → SetsPost text start v prefix₀ prefix marks (Sets used at)
+  pub sets-end : tokensAt text (at .place) ≡ [] → SetsPost text start v prefix₀ prefix marks (Sets used at)
   unfolding ending openFrom zeros
-  sets-end e = over (λ c rc. from-end (length prefix₀) rc text (betweenSets v c (prefixOf (take used prefix))) at e ∙ sym (from-end (length prefix₀) rc text (clauses v c (prefixOf (take used prefix)) []) at e))
+  sets-end e = over (λ c rc. from-end (length prefix₀) rc text (betweenSets v c (prefixOf (take used prefix))) (at .place) e ∙ sym (from-end (length prefix₀) rc text (clauses v c (prefixOf (take used prefix)) []) (at .place) e))
 
-  -- A token that is no quantifier's letter.
-  pub sets-over : {t : Token} {p k : ℕ} → FoundAt text at t p k → isWord eWord t ≡ false → isWord aWord t ≡ false → SetsPost text start v prefix₀ prefix marks (Sets used at)
-  unfolding step
-  sets-over f e a = over (λ c rc. from-token (length prefix₀) rc text (betweenSets v c (prefixOf (take used prefix))) f ∙ rw (e, a) (sym (from-token (length prefix₀) rc text (clauses v c (prefixOf (take used prefix)) []) f)))
-
-  pub sets-word : {w p k : ℕ} → FoundAt text at (Word w) p k → (eqb w eWord || eqb w aWord) ≡ false → SetsPost text start v prefix₀ prefix marks (Sets used at)
-  sets-word {w} f h = let both = or-no (eqb w eWord) (eqb w aWord) h in sets-over f (both .0) (both .1)
-
-  module _ {w p k : ℕ} (f : FoundAt text at (Word w) p k) (h : (eqb w eWord || eqb w aWord) ≡ true) where
-    -- The letter opens a set.
-    opens-set : (c rc : ℕ) → readingFrom (length prefix₀) rc text (betweenSets v c []) start ≡ readingFrom (length prefix₀) rc text (inSet v c (quantifierOf (eqb w eWord)) false (prefixOf (take used prefix))) k
+  module _ {shows : Shown} {p k : Position} (f : Finds text (at .place) shows p k) where
+    -- A token that is no quantifier's letter.
+    pub sets-over : (same (f .bytes) eText || same (f .bytes) aText) ≡ false → SetsPost text start v prefix₀ prefix marks (Sets used at)
     unfolding step
-    opens-set c rc = I .reads c rc ∙ from-token (length prefix₀) rc text (betweenSets v c (prefixOf (take used prefix))) f ∙ rw (go (eqb w eWord) (eqb w aWord) h)
-      where
-        go : (e a : Bool) → (e || a) ≡ true → opens e a v c (prefixOf (take used prefix)) (clausesToken (length prefix₀) rc p v c (prefixOf (take used prefix)) [] (Word w)) ≡ inSet v c (quantifierOf e) false (prefixOf (take used prefix))
-        go true a h = refl
-        go false true h = refl
-        go false false h = let z : _≡_ {A = ℕ} 0 1 = cc in absurd (omega arith)
+    sets-over h =
+        let both = or-no (same (f .bytes) eText) (same (f .bytes) aText) h in
+        over (λ c rc. from-token (length prefix₀) rc text (betweenSets v c (prefixOf (take used prefix))) f ∙ rw (both .0, both .1) (sym (from-token (length prefix₀) rc text (clauses v c (prefixOf (take used prefix)) []) f)))
 
-    pub sets-refuse : {r : Refusal} → SetPost text k v (quantifierOf (eqb w eWord)) used prefix prefix marks (NoSets r) → (prefix′ : List ℤ) (marks′ : List ℕ) → SetsPost text start v prefix₀ prefix′ marks′ (NoSets r)
-    sets-refuse post prefix′ marks′ = λ c rc. opens-set c rc ∙ rw (← I .same) (post c rc)
+    module _ (h : (same (f .bytes) eText || same (f .bytes) aText) ≡ true) where
+      -- The letter opens a set.
+      opens-set : (c rc : ℕ) → readingFrom (length prefix₀) rc text (betweenSets v c []) start ≡ readingFrom (length prefix₀) rc text (inSet v c (quantifierOf (same (f .bytes) eText)) false (prefixOf (take used prefix))) (k .place)
+      unfolding step
+      opens-set c rc = I .reads c rc ∙ from-token (length prefix₀) rc text (betweenSets v c (prefixOf (take used prefix))) f ∙ rw (go (same (f .bytes) eText) (same (f .bytes) aText) h)
+        where
+          go : (e a : Bool) → (e || a) ≡ true → opens e a v c (prefixOf (take used prefix)) (clausesToken (length prefix₀) rc (p .place) v c (prefixOf (take used prefix)) [] (numberOf (f .bytes))) ≡ inSet v c (quantifierOf e) false (prefixOf (take used prefix))
+          go true a h = refl
+          go false true h = refl
+          go false false h = let z : _≡_ {A = ℕ} 0 1 = cc in absurd (omega arith)
 
-    pub sets-on : (n after : ℕ) (prefix′ : List ℤ) (marks′ : List ℕ) → length prefix′ ≡ length prefix → SetPost text k v (quantifierOf (eqb w eWord)) used prefix prefix′ marks′ (Sets n after) → SetsSoFar text start v prefix₀ prefix′ marks′ after n
-    sets-on n after prefix′ marks′ l post =
-        record { room = post .2; same = l ∙ I .same; listed = post .1; reads = λ c rc. opens-set c rc ∙ rw (← I .same) (post .0 c rc) }
+      pub sets-refuse : {r : Refusal} → SetPost text (k .place) v (quantifierOf (same (f .bytes) eText)) used prefix prefix marks (NoSets r) → (prefix′ : List ℤ) (marks′ : List ℕ) → SetsPost text start v prefix₀ prefix′ marks′ (NoSets r)
+      sets-refuse post prefix′ marks′ = λ c rc. opens-set c rc ∙ rw (← I .same) (post c rc)
+
+      pub sets-on : (n : ℕ) (after : Position) (prefix′ : List ℤ) (marks′ : List ℕ) → length prefix′ ≡ length prefix → SetPost text (k .place) v (quantifierOf (same (f .bytes) eText)) used prefix prefix′ marks′ (Sets n after) → SetsSoFar text start v prefix₀ prefix′ marks′ (after .place) n
+      sets-on n after prefix′ marks′ l post =
+          record { room = post .2; same = l ∙ I .same; listed = post .1; reads = λ c rc. opens-set c rc ∙ rw (← I .same) (post .0 c rc) }

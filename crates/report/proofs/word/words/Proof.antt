@@ -1,6 +1,7 @@
 -- `words` lists the words of the table: by computing. Assumes nothing.
 use mathlib.Core.Path.{refl}
-use Rattle.report.specs.Word.{wordIn, same, filled}
+use Rattle.formula.specs.Token.{same}
+use Rattle.report.specs.Word.{wordIn, filled}
 use Rattle.report.proofs.word.words.Statement.{statement}
 use Rattle.report.proofs.word.words.Tie as tie
 
