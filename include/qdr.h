@@ -2,8 +2,10 @@
  * that the two programs print. Link with libcapi.a, which `rt staticlib capi` makes for x86-64 Linux.
  *
  * The first seven functions return 0, or the number of a refusal (enum qdr_refusal), and fill all five words of `out`. After 0
- * these are the numbers that the function names below, and zeros; after a refusal they are its place, line, column, variable and
- * block, of which the last four are 0 in this version. The last two functions return the bytes that they printed.
+ * these are the numbers that the function names below, and zeros; after a refusal they are its place, line and column, and two
+ * words that are 0 in this version. Line and column, both from 1, are those of a place in a text; they are 0 where the refusal is
+ * QDR_OVERSIZED or not about text. LF alone ends a line, every byte is one column, and the place at a text's end is the one
+ * just behind its last byte. The last two functions return the bytes that they printed.
  *
  * A table or buffer is a pointer and a length. Lengths count elements, not bytes. Where the length is 0 the pointer may be null,
  * and nothing is read or written through it; otherwise it points to that many elements and is aligned for them. `out` is never
@@ -140,8 +142,8 @@ uint32_t qdr_evaluate(const int32_t *prefix, size_t prefix_length,
                       uint64_t out[QDR_OUT_LENGTH]);
 
 /* The line that the first program prints for the bytes of its two files: `accepted V C steps empty`, which says that the formula
- * is false, or `refused number word place`, ended by a line feed. A file of more than file_bound bytes is refused as 2, ahead of
- * all else in it (the program passes 65536). The formula is settled before the proof is looked at.
+ * is false, or `refused number word place line column`, ended by a line feed. A file of more than file_bound bytes is refused
+ * as 2, ahead of all else in it (the program passes 65536). The formula is settled before the proof is looked at.
  * Returns the bytes of the line, or 0 where it does not fit; QDR_LINE_LENGTH bytes always do.
  * The line's buffer holds the line and then zeros, or zeros alone. Every other buffer is room to work in, ends as zeros, and where
  * it is short the line is that of refusal 3. */

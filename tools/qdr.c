@@ -1,6 +1,6 @@
 /* qdr: the two programs on files of any name and with all the room that the bounds of the specification ask for.
  *
- *     qdr check FORMULA PROOF     prints `accepted V C steps empty` or `refused number word place`
+ *     qdr check FORMULA PROOF     prints `accepted V C steps empty` or `refused number word place line column`
  *     qdr deps FORMULA            prints each universal and its dependents, or the refused line
  *
  * Here files are read and room is lent; every byte on standard output was put there by a proved function (qdr.h).

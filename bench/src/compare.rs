@@ -228,10 +228,10 @@ mod tests {
     }
 
     /// What the specification says where every table is empty and no buffer has room, by the reference: what is
-    /// returned, and the words of `out`, which are a refusal's place first.
+    /// returned, and the words of `out`, which are a refusal's place, line and column first.
     const EMPTY: [(u64, [u64; 5]); 9] = [
         (0, [0; 5]),
-        (1, [0; 5]),
+        (1, [0, 1, 1, 0, 0]),
         (3, [0; 5]),
         (20, [0; 5]),
         (11, [0; 5]),
@@ -278,7 +278,7 @@ mod tests {
     /// A library with one fault is found out, whichever part of the answer the fault is in.
     #[test]
     fn faults_are_found() {
-        let faults: [fn(&Case, &mut Answer); 7] = [
+        let faults: [fn(&Case, &mut Answer); 8] = [
             |_, answer| {
                 if answer.returned == 18 {
                     answer.returned = 15;
@@ -302,6 +302,7 @@ mod tests {
                 }
             },
             |_, answer| answer.out[4] += u64::from(answer.returned == 7),
+            |_, answer| answer.out[2] += u64::from(answer.returned == 9),
             |case, answer| {
                 // A line cut off where it does not fit.
                 if let (7, Some(Buffer::Bytes(line))) = (entry(case), answer.buffers.last_mut()) {

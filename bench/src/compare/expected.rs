@@ -132,7 +132,10 @@ fn numbered<T>(
 ) -> (usize, Answer) {
     let (number, [a, b, c]) = match answer {
         Ok(value) => (0, out(value)),
-        Err(refusal) => (refusal.reason.number(), [refusal.place as u64, 0, 0]),
+        Err(refusal) => (
+            refusal.reason.number(),
+            [refusal.place, refusal.line, refusal.column].map(|n| n as u64),
+        ),
     };
     let answer = Answer {
         returned: number.into(),

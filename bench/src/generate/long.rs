@@ -179,7 +179,7 @@ mod tests {
             assert_eq!((clauses, clauses + count), (tables.count(), empty));
             let refused = super::damaged(steps);
             let place = empty - 9;
-            let expected = format!("refused 18 misstated {place}\n");
+            let expected = format!("refused 18 misstated {place} 0 0\n");
             assert_eq!(self::line(&tables, &refused), expected);
         }
     }

@@ -83,14 +83,36 @@ impl Reason {
         Refusal {
             reason: self,
             place,
+            line: 0,
+            column: 0,
         }
     }
 }
 
+/// Line and column are those of a place in a text, else 0.
 #[derive(Clone, Copy, Debug, PartialEq, Eq)]
 pub struct Refusal {
     pub reason: Reason,
     pub place: usize,
+    pub line: usize,
+    pub column: usize,
+}
+
+impl Refusal {
+    /// With the line and the column of its place in a text, both from 1; a bound that is passed has no place.
+    pub fn in_text(self, text: &[u8]) -> Refusal {
+        if self.reason == Reason::Oversized {
+            return self;
+        }
+        let mut lines = text[..self.place].split(|&byte| byte == b'\n');
+        let column = lines.next_back().map_or(0, <[u8]>::len) + 1;
+        let line = lines.count() + 1;
+        Refusal {
+            line,
+            column,
+            ..self
+        }
+    }
 }
 
 /// How many literal indices there are: two for each variable number from 0.

@@ -92,6 +92,7 @@ fn l_one_path_is_not_enough() {
 fn texts() {
     let refusal = read(b"p cnf 2 1\ne 1 2 0\n1,2 0\n", 1024, 1024).unwrap_err();
     assert_eq!((refusal.reason.number(), refusal.place), (4, 18));
+    assert_eq!((refusal.line, refusal.column), (3, 1));
     let reading = read(b"p cnf 2 1\ne 1 2 0\n1\n2 0\n", 1024, 1024).unwrap();
     assert_eq!(reading.prefix, vec![1, 2]);
     assert_eq!(reading.clauses, vec![1, 2, 0]);
@@ -123,21 +124,21 @@ fn programs_on_the_example() {
 #[test]
 fn programs_refuse() {
     let unasked = || -> Vec<u8> { panic!("the proof is looked at") };
-    assert_eq!(check_line(b"", unasked), "refused 1 headless 0\n");
+    assert_eq!(check_line(b"", unasked), "refused 1 headless 0 1 1\n");
     let long = vec![b' '; 65_537];
-    assert_eq!(check_line(&long, unasked), "refused 2 oversized 0\n");
+    assert_eq!(check_line(&long, unasked), "refused 2 oversized 0 0 0\n");
     assert_eq!(
         check_line(&long[1..], unasked),
-        "refused 1 headless 65536\n"
+        "refused 1 headless 65536 1 65537\n"
     );
-    assert_eq!(dependency_lines(&long), "refused 2 oversized 0\n");
+    assert_eq!(dependency_lines(&long), "refused 2 oversized 0 0 0\n");
     let formula = b"p cnf 0 0";
-    assert_eq!(check_line(formula, Vec::new), "refused 11 no trailer 0\n");
-    assert_eq!(check_line(formula, || long), "refused 2 oversized 0\n");
+    assert_eq!(check_line(formula, Vec::new), "refused 11 no trailer 0 0 0\n");
+    assert_eq!(check_line(formula, || long), "refused 2 oversized 0 0 0\n");
     assert_eq!(dependency_lines(formula), "");
     let formula = b"p cnf 3 2 a 1 2 0 e 3 0 1 2 -3 0 -1 -2 3 0";
     let file = write_proof(b"note", &[2, 1, 1, 2, -3, 0], 2);
-    assert_eq!(check_line(formula, || file), "refused 17 blocked 3\n");
+    assert_eq!(check_line(formula, || file), "refused 17 blocked 3 0 0\n");
     assert_eq!(dependency_lines(formula), "1: 3\n2: 3\n");
 }
 

@@ -48,8 +48,10 @@ pub const LINES_BYTES: usize = 6 * MAX_VARIABLE + 5 * (MAX_VARIABLE / 2) * (MAX_
 
 /// What a program prints for an answer.
 pub fn printed(answer: Result<String, Refusal>) -> String {
-    answer.unwrap_or_else(|Refusal { reason, place }| {
-        format!("refused {} {} {place}\n", reason.number(), reason.word())
+    answer.unwrap_or_else(|refusal| {
+        let (number, word) = (refusal.reason.number(), refusal.reason.word());
+        let (place, line, column) = (refusal.place, refusal.line, refusal.column);
+        format!("refused {number} {word} {place} {line} {column}\n")
     })
 }
 

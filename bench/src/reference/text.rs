@@ -11,8 +11,12 @@ pub struct Reading {
     pub count: usize,
 }
 
-/// Reads the text into tables that have room for so many words each.
+/// Reads the text into tables that have room for so many words each. A refusal has its place's line and column.
 pub fn read(text: &[u8], prefix_room: usize, clause_room: usize) -> Result<Reading, Refusal> {
+    read_tokens(text, prefix_room, clause_room).map_err(|refusal| refusal.in_text(text))
+}
+
+fn read_tokens(text: &[u8], prefix_room: usize, clause_room: usize) -> Result<Reading, Refusal> {
     if text.len() > MAX_TEXT {
         return Err(Reason::Oversized.at(0));
     }
@@ -319,6 +323,17 @@ mod tests {
         assert_eq!(refused("p cnf 2 2\ne 1 2 0\n1 2 0"), (10, 23));
         assert_eq!(refused("p cnf 2 1\ne 1 2 0\n-0"), (4, 18));
         assert_eq!(tables("p cnf 0 2 0 0"), (vec![], vec![0, 0], 2));
+    }
+
+    #[test]
+    fn lines_and_columns() {
+        let told = |text: &[u8]| read(text, 1024, 65_536).map_err(|r| (r.line, r.column));
+        assert_eq!(told(b""), Err((1, 1)));
+        assert_eq!(told(b"p cnf 2 1\ne 1 2 0\n1,2 0\n"), Err((3, 1)));
+        assert_eq!(told(b"c \xff\r\n\rp cnf 1 1\r\n\tx 0"), Err((3, 2)));
+        assert_eq!(told(b"p cnf 1 1\ne 1 0\n"), Err((3, 1)));
+        assert_eq!(told(b"p cnf 1 1\ne 1 0"), Err((2, 6)));
+        assert_eq!(told(b"\np cnf 1025 x"), Err((0, 0)));
     }
 
     #[test]

@@ -1,5 +1,5 @@
 -- What a C function tells of an answer: a code, 0 or the refusal's number of 01, and the five numbers put into `out`. An answer
--- tells up to three numbers; a refusal tells its place, and has words for a line, a column, a variable and a block, which are 0.
+-- tells up to three numbers; a refusal tells its place, line and column, and has words for a variable and a block, which are 0.
 -- A number that is not used is 0. What a function promises is `Tells`: what the entry promises of its answer, and the answer told.
 use Prim.Native.Nat.{ℕ}
 use mathlib.Core.Path.{_≡_}
@@ -29,7 +29,7 @@ abbrev pub accepted : ℕ → ℕ → ℕ → Code
 accepted a b c = record { code = 0; numbers = a ∷ b ∷ c ∷ 0 ∷ 0 ∷ [] }
 
 abbrev pub refused : Refusal → Code
-refused r = record { code = number (r .reason); numbers = r .place ∷ 0 ∷ 0 ∷ 0 ∷ 0 ∷ [] }
+refused r = record { code = number (r .reason); numbers = r .place ∷ r .line ∷ r .column ∷ 0 ∷ 0 ∷ [] }
 
 -- A code is told: it is returned, and its numbers are left in `out`.
 pub record Told (told : Code) (returned : ℕ) (out : List ℕ) : Type 0 where

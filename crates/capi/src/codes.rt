@@ -10,11 +10,17 @@ pub fn accept(out: &mut [u64; 5], a: usize, b: usize, c: usize) -> u32
     0
 }
 
-// A refusal: its place in `out`, its number as the code.
+// A refusal: its place, line and column in `out`, its number as the code.
 pub fn refuse(out: &mut [u64; 5], refusal: Refusal) -> u32
     ensures { λ r. ⌜ Told (refused refusal) r (now (out .exit)) ⌝ }
 {
-    *out = [refusal.place as u64, 0, 0, 0, 0];
+    *out = [
+        refusal.place as u64,
+        refusal.line as u64,
+        refusal.column as u64,
+        0,
+        0,
+    ];
     let reason = refusal.reason;
     reason.number()
 }

@@ -76,13 +76,17 @@ pub fn dependents(row: &[u8]) {
     }
 }
 
-// A refusal: its number and its place.
+// A refusal: its number, its place, its line and its column.
 pub fn refused(r: Refusal) {
     let reason = r.reason;
     say(b"refused ");
     io::print_decimal(1, reason.number() as u64);
     say(b" ");
     number(r.place);
+    say(b" ");
+    number(r.line);
+    say(b" ");
+    number(r.column);
 }
 
 // Is the table wholly 0?

@@ -249,6 +249,27 @@ fn room() {
     );
 }
 
+// Each refusal of a text on a later line, with a tab, a CR LF, a comment line and bytes over 127 before it: lines and columns count
+// bytes, and only LF ends a line.
+fn later_lines() {
+    run_list(
+        Kind::Text,
+        b"later, headless|c \xc3\xa4\r\n\r\n\tp cnf 1\tx\r\n|\
+          later, headless at the end|c \xc3\xa4\tx\r\np\tcnf\r\n1\r\n|\
+          later, oversized|c \xc3\xa4\r\np cnf\r\n\t1025 1\n|\
+          later, no room|c \xc3\xa4\r\np cnf 5 0\r\ne\t1 2 3 4\t5 0\r\n|\
+          later, bad token|c \xc3\xa4\r\np cnf 2 1\r\ne\t1 2 0\r\n\t1,2 0\r\n|\
+          later, bad token over 127|c \xc3\xa4\r\np cnf 2 1\r\ne\t1 2 0\r\n1 \xc3\xa4 0\r\n|\
+          later, out of range|c \xc3\xa4\r\np cnf 2 1\r\ne\t1 2 0\r\n1\t-3 0\r\n|\
+          later, bound twice|c \xc3\xa4\r\np cnf 2 1\r\ne\t1 2 0\r\na\t1 0\r\n|\
+          later, unbound|c \xc3\xa4\r\np cnf 2 1\r\ne\t1 0\r\n1\t2 0\r\n|\
+          later, clash|c \xc3\xa4\r\np cnf 2 1\r\ne\t1 2 0\r\n1\t2\r\n\t-1 0\r\n|\
+          later, unfinished|c \xc3\xa4\r\np cnf 2 1\r\ne\t1 2 0\r\n1\t2\r\n|\
+          later, miscount|c \xc3\xa4\r\np cnf 2 1\r\ne\t1 2 0\r\n1\t0 2 0\r\n|\
+          later, miscount at the end|c \xc3\xa4\r\np cnf 2 2\r\ne\t1 2 0\r\n1\t0 |",
+    );
+}
+
 // Tables of no words at all, and tables that are just long enough.
 fn tables() {
     let text = b"p cnf 1 1\ne 1 0\n1 0\n";
@@ -317,6 +338,7 @@ pub fn run() {
     clauses();
     ends();
     room();
+    later_lines();
     tables();
     refused_tables();
     longest();

@@ -10,7 +10,6 @@ pub mod Clauses
 pub mod Fill
 pub mod Distinct
 pub mod Admits
-pub mod Placed
 use Prim.Native.Nat.{ℕ, zero, suc, _-_}
 use mathlib.Core.Path.{_≡_}
 use mathlib.Core.Bool.{Bool, true, false, not}

@@ -22,15 +22,15 @@ isBlank b = eqb b 32 || eqb b 9 || eqb b 13 || eqb b lineFeed
 
 -- Bytes before the first token: at a line's start, further in a line, in a comment; or they are over. A byte that parts
 -- tokens goes on, so does a `c` at a line's start; any other is the first of a token. A comment ends at LF.
-abbrev pub leadBlank : Bool → Bool → Bool → Lead
-leadBlank true blank c = LineStart
-leadBlank false true c = InLine
-leadBlank false false true = Comment
-leadBlank false false false = Over
+abbrev pub lineStep : Bool → Bool → Bool → Lead
+lineStep true blank c = LineStart
+lineStep false true c = InLine
+lineStep false false true = Comment
+lineStep false false false = Over
 
 abbrev pub leadStep : Lead → ℕ → Lead
-leadStep LineStart b = leadBlank (eqb b lineFeed) (isBlank b) (eqb b 99)
-leadStep InLine b = leadBlank (eqb b lineFeed) (isBlank b) false
+leadStep LineStart b = lineStep (eqb b lineFeed) (isBlank b) (eqb b 99)
+leadStep InLine b = lineStep (eqb b lineFeed) (isBlank b) false
 leadStep Comment b = cond (eqb b lineFeed) LineStart Comment
 leadStep Over b = Over
 
@@ -119,9 +119,9 @@ isNumeral [] = false
 isNumeral (b ∷ bs) = ltb 48 b && allDigits (b ∷ bs)
 
 -- A number is 0, or an optional minus and digits that start with 1 to 9.
-abbrev pub afterMinus : List ℕ → Number
-afterMinus [] = noNumber
-afterMinus (b ∷ bs) = cond (eqb b 45 && isNumeral bs) (negative (valueFrom 0 bs)) noNumber
+abbrev pub negativeOf : List ℕ → Number
+negativeOf [] = noNumber
+negativeOf (b ∷ bs) = cond (eqb b 45 && isNumeral bs) (negative (valueFrom 0 bs)) noNumber
 
 unfoldable pub numberOf : List ℕ → Number
-numberOf bytes = cond (same bytes (48 ∷ [])) (natural 0) (cond (isNumeral bytes) (natural (valueFrom 0 bytes)) (afterMinus bytes))
+numberOf bytes = cond (same bytes (48 ∷ [])) (natural 0) (cond (isNumeral bytes) (natural (valueFrom 0 bytes)) (negativeOf bytes))

@@ -14,7 +14,7 @@ ghost use lib.ListN.{length, getD};
 ghost use lib.Dec.{ltb};
 ghost use Rattle.qbf.specs.Formula.{Prefix};
 ghost use Rattle.formula.specs.Bounds.{variableBound, countBound, textBound};
-ghost use Rattle.formula.specs.Position.{PositionIn};
+ghost use Rattle.formula.specs.Position.Cursor.{PositionIn};
 ghost use Rattle.formula.specs.Token.{Number};
 ghost use Rattle.formula.specs.Token.Scan.{shown};
 ghost use Rattle.formula.specs.Text.{literalReason};
@@ -130,7 +130,7 @@ fn clause_token(
             put_literal(n, variables, true, clauses, used, closed, marks)
         },
         Token::Negative(n) => put_literal(n, variables, false, clauses, used, closed, marks),
-        Token::Word => ClauseStep::Refused(Reason::BadToken),
+        Token::NoNumber => ClauseStep::Refused(Reason::BadToken),
     }
 }
 
@@ -171,7 +171,7 @@ pub fn read_clauses(
     let mut closed = 0;
     let mut start = 0;
     loop {
-        match next_token(text, at) {
+        match next_token(text, at.place, at.line, at.column) {
             Next::End(end) => return clauses_end(end, start, used, closed, count),
             Next::Found { token, place, next } => {
                 if count <= closed {

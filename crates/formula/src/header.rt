@@ -15,7 +15,7 @@ ghost use mathlib.Core.Path.{_≡_};
 ghost use Prim.Native.Nat.{_-_, _≤_};
 ghost use lib.ListN.{length, take, drop};
 ghost use Rattle.formula.specs.Bounds.{variableBound, textBound};
-ghost use Rattle.formula.specs.Position.{PositionIn};
+ghost use Rattle.formula.specs.Position.Cursor.{PositionIn};
 ghost use Rattle.formula.specs.Token.{firstToken, tokensAt};
 ghost use Rattle.formula.specs.Text.{wantsP, wantsV, wantsC};
 ghost use Rattle.formula.specs.Text.Header.{wordValue, numberValue, valueOf, fieldFound, HeaderPost};
@@ -67,7 +67,7 @@ fn number_value(token: Token) -> FieldValue
     match token {
         Token::Natural(n) => FieldValue::Value(n),
         Token::Negative(_) => FieldValue::Other,
-        Token::Word => FieldValue::Other,
+        Token::NoNumber => FieldValue::Other,
     }
 }
 
@@ -88,7 +88,7 @@ fn header_field(text: &[u8], at: Position, wanted: Wanted) -> FieldAnswer
     requires { ⌜ PositionIn (now text) at × (length (now text) ≤ textBound) ⌝ }
     ensures { λ r. ⌜ r ≡ fieldFound (now (text .entry)) wanted (tokensAt (now (text .entry)) (at .place)) ⌝ }
 {
-    match next_token(text, at) {
+    match next_token(text, at.place, at.line, at.column) {
         Next::End(end) => FieldAnswer::Refused(Refusal::in_text(Reason::Headless, end)),
         Next::Found { token, place, next } => {
             match field_value(text, token, place.place, next.place, wanted) {

@@ -2,7 +2,8 @@
 ghost use mathlib.Core.Path.{_≡_};
 ghost use Prim.Native.Nat.{_+_, _^_, _<_};
 ghost use mathlib.Core.List.{[]};
-ghost use Rattle.formula.specs.Position.{positionAt, past, along};
+ghost use Rattle.formula.specs.Position.{positionAt};
+ghost use Rattle.formula.specs.Position.Cursor.{past, along};
 
 // Bytes count from 0, lines and columns from 1.
 pub struct Position {

@@ -15,7 +15,7 @@ ghost use Prim.Native.Nat.{_≤_};
 ghost use mathlib.Core.List.{[]};
 ghost use lib.ListN.{length};
 ghost use Rattle.formula.specs.Bounds.{variableBound, countBound, textBound};
-ghost use Rattle.formula.specs.Position.{PositionIn};
+ghost use Rattle.formula.specs.Position.Cursor.{PositionIn};
 ghost use Rattle.formula.specs.Text.{betweenSets, reading, readingFrom, ReadPost};
 ghost use Rattle.formula.specs.Text.Fill.{FillPost};
 

@@ -15,7 +15,7 @@ ghost use Prim.Native.Nat.{_≤_, _<_};
 ghost use mathlib.Core.List.{[]};
 ghost use lib.ListN.{length, take};
 ghost use Rattle.formula.specs.Bounds.{variableBound, textBound};
-ghost use Rattle.formula.specs.Position.{PositionIn};
+ghost use Rattle.formula.specs.Position.Cursor.{PositionIn};
 ghost use Rattle.formula.specs.Token.{Number};
 ghost use Rattle.formula.specs.Token.Scan.{shown};
 ghost use Rattle.formula.specs.Prefix.{prefixOf, quantifierOf};
@@ -95,7 +95,7 @@ fn set_token(
             close_set(filled)
         },
         Token::Negative(_) => SetStep::Refused(Reason::BadToken),
-        Token::Word => SetStep::Refused(Reason::BadToken),
+        Token::NoNumber => SetStep::Refused(Reason::BadToken),
     }
 }
 
@@ -116,7 +116,7 @@ fn read_set(
     let mut at = from;
     let mut n = used;
     loop {
-        match next_token(text, at) {
+        match next_token(text, at.place, at.line, at.column) {
             Next::End(end) => return SetsAnswer::Refused(Refusal::in_text(Reason::Unfinished, end)),
             Next::Found { token, place, next } => {
                 match set_token(token, variables, existential, used < n, prefix, n, marks) {
@@ -149,7 +149,7 @@ pub fn read_sets(
     let mut at = from;
     let mut used = 0;
     loop {
-        match next_token(text, at) {
+        match next_token(text, at.place, at.line, at.column) {
             Next::End(_) => return SetsAnswer::Sets { used, next: at },
             Next::Found {
                 token: _,

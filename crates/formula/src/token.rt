@@ -6,8 +6,9 @@ ghost use Prim.Native.Nat.{_+_, _-_, _^_, _≤_, _<_};
 ghost use lib.ListN.{length, getD, take, drop};
 ghost use lib.Dec.{eqb};
 ghost use Rattle.formula.specs.Bounds.{textBound};
-ghost use Rattle.formula.specs.Position.{lineFeed, positionAt, PositionIn};
-ghost use Rattle.formula.specs.Token.{leadBlank, isBlank, isDigit, leadStep, firstToken, same, tokensAt};
+ghost use Rattle.formula.specs.Position.{lineFeed, positionAt};
+ghost use Rattle.formula.specs.Position.Cursor.{position, PositionIn};
+ghost use Rattle.formula.specs.Token.{lineStep, isBlank, isDigit, leadStep, firstToken, same, tokensAt};
 ghost use Rattle.formula.specs.Token.Scan.{numeral, nextOf, moreDigits, DigitsRead, SkipPost};
 
 // The value of a number above every bound: one more than the largest 32-bit word.
@@ -25,7 +26,7 @@ pub enum Lead {
 pub enum Token {
     Natural(usize),
     Negative(usize),
-    Word,
+    NoNumber,
 }
 
 // What is found from a position on: nothing more, up to the end; or a token with its position and the one from which to go on.
@@ -62,7 +63,7 @@ fn is_digit(b: u8) -> bool
 
 // Where a byte outside a comment leads; `comment` says whether one begins there.
 fn line_step(b: u8, comment: bool) -> Lead
-    ensures { λ r. ⌜ r ≡ leadBlank (eqb b lineFeed) (isBlank b) comment ⌝ }
+    ensures { λ r. ⌜ r ≡ lineStep (eqb b lineFeed) (isBlank b) comment ⌝ }
 {
     if b == b'\n' {
         return Lead::LineStart;
@@ -177,7 +178,7 @@ fn token_at(text: &[u8], place: Position) -> Next
             };
         }
         return Next::Found {
-            token: Token::Word,
+            token: Token::NoNumber,
             place,
             next,
         };
@@ -192,7 +193,7 @@ fn token_at(text: &[u8], place: Position) -> Next
         };
     }
     Next::Found {
-        token: Token::Word,
+        token: Token::NoNumber,
         place,
         next,
     }
@@ -216,16 +217,22 @@ fn skip_blanks(text: &[u8], from: Position) -> Position
     at
 }
 
-// The first token from a position on, with its own and the one from which to go on.
-pub fn next_token(text: &[u8], at: Position) -> Next
-    requires { ⌜ PositionIn (now text) at × (length (now text) ≤ textBound) ⌝ }
-    ensures { λ r. ⌜ r ≡ nextOf (now (text .entry)) (tokensAt (now (text .entry)) (at .place)) ⌝ }
+// The first token from a position on, with its own and the one from which to go on. The position is handed over in parts, which stay in
+// registers from token to token.
+pub fn next_token(text: &[u8], place: usize, line: usize, column: usize) -> Next
+    requires { ⌜ PositionIn (now text) (position «place» «line» «column») × (length (now text) ≤ textBound) ⌝ }
+    ensures { λ r. ⌜ r ≡ nextOf (now (text .entry)) (tokensAt (now (text .entry)) «place») ⌝ }
 {
-    let place = skip_blanks(text, at);
-    if place.place < text.len() {
-        token_at(text, place)
+    let at = Position {
+        place,
+        line,
+        column,
+    };
+    let found = skip_blanks(text, at);
+    if found.place < text.len() {
+        token_at(text, found)
     } else {
-        Next::End(place)
+        Next::End(found)
     }
 }
 

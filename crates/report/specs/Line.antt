@@ -1,5 +1,5 @@
--- The lines of the programs (01, "Programs"): `accepted V C steps empty` and `refused number word place`, each ended by LF, with
--- single spaces. Bytes: 10 LF, 32 space. Then what a file is settled as, and what a lent buffer holds at the end.
+-- The lines of the programs (01, "Programs"; 02, P1): `accepted V C steps empty` and `refused number word place line column`, each ended
+-- by LF, with single spaces. Bytes: 10 LF, 32 space. Then what a file is settled as, and what a lent buffer holds at the end.
 use Prim.Native.Nat.{ℕ}
 use mathlib.Core.Bool.{Bool, true, false}
 use mathlib.Core.List.{List, [], _∷_, _++_}
@@ -32,7 +32,9 @@ unfoldable pub acceptedLine : (variables clauses steps empty : ℕ) → List ℕ
 acceptedLine variables clauses steps empty = acceptedText ++ (spaced variables ++ (spaced clauses ++ (spaced steps ++ last empty)))
 
 unfoldable pub refusedLine : Refusal → List ℕ
-refusedLine r = refusedText ++ (spaced (number (r .reason)) ++ (word (r .reason) ++ (32 ∷ last (r .place))))
+refusedLine r =
+    refusedText
+    ++ (spaced (number (r .reason)) ++ (word (r .reason) ++ (32 ∷ (spaced (r .place) ++ (spaced (r .line) ++ last (r .column))))))
 
 -- The largest file that the programs of 01 take, in bytes.
 abbrev pub fileBound : ℕ

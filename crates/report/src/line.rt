@@ -1,5 +1,5 @@
 // The lines of the programs, written into a lent buffer from its start: `accepted V C steps empty` and
-// `refused number word place`. Each function answers the place behind what it wrote; none asks for room but the last.
+// `refused number word place line column`. Each function answers the place behind what it wrote; none asks for room but the last.
 use crate::word::write_word;
 use formula::clear::keep_used;
 use formula::decimal::put;
@@ -40,7 +40,9 @@ pub fn refused_line(line: &mut [u8], refusal: Refusal) -> usize
     at = write_spaced(line, at, reason.number() as usize);
     at = write_word(line, at, reason);
     at = put(line, at, b' ');
-    write_last(line, at, refusal.place)
+    at = write_spaced(line, at, refusal.place);
+    at = write_spaced(line, at, refusal.line);
+    write_last(line, at, refusal.column)
 }
 
 // The line of an accepted proof; `empty` is the first empty clause's number.

@@ -11,7 +11,8 @@ use lib.ListN.{length, getD, take, length-take}
 use lib.Seq.{take-suc}
 use Rattle.formula.specs.declared.position.Position.{Position}
 use Rattle.formula.specs.Bounds.{textBound}
-use Rattle.formula.specs.Position.{lineFeed, feeds, sinceFeed, positionAt, past, along, PositionIn}
+use Rattle.formula.specs.Position.{lineFeed, feeds, sinceFeed, positionAt}
+use Rattle.formula.specs.Position.Cursor.{past, along, PositionIn}
 
 feeds-snoc : (bs : List ℕ) (b : ℕ) → feeds (bs ++ (b ∷ [])) ≡ cond (eqb b lineFeed) (feeds bs + 1) (feeds bs)
 unfolding feeds

@@ -25,7 +25,7 @@ use Rattle.formula.specs.Text.{
   ending,
   reading,
 }
-use Rattle.formula.specs.declared.refusal.Reason.the-variants.{Headless, Oversized, NoRoom, BadToken, OutOfRange, Clash, Unfinished, Miscount}
+use Rattle.formula.specs.declared.refusal.Reason.the-variants.{Headless, Oversized, NoRoom, BadToken, OutOfRange, BoundTwice, Clash, Unfinished, Miscount}
 
 unfoldable pub bytes : String → List ℕ
 bytes end = []
@@ -71,6 +71,19 @@ too-many-variables = refl
 pub number-not-wrapped : reads "p cnf 2 1 e 4294967297 0" ≡ refused (at OutOfRange 12 1 13)
 unfolding reads
 number-not-wrapped = refl
+
+-- A set lists a variable at least, and none twice; -0 is no number.
+pub empty-set : reads "p cnf 1 1\ne 0\n" ≡ refused (at BadToken 12 2 3)
+unfolding reads
+empty-set = refl
+
+pub bound-twice : reads "p cnf 2 1 e 1 0 a 2 1 0" ≡ refused (at BoundTwice 20 1 21)
+unfolding reads
+bound-twice = refl
+
+pub minus-zero : reads "p cnf 1 1 e 1 0 1 -0" ≡ refused (at BadToken 18 1 19)
+unfolding reads
+minus-zero = refl
 
 -- From the header on there are no comments.
 pub comment-after-header : reads "p cnf 1 1\nc\n" ≡ refused (at BadToken 10 2 1)

@@ -6,7 +6,8 @@ use mathlib.Core.Bool.{Bool, true, false}
 use mathlib.Core.List.{List, [], _∷_}
 use lib.ListN.{length}
 use Rattle.formula.specs.Bounds.{variableBound, countBound}
-use Rattle.formula.specs.Position.{positionAt, PositionIn}
+use Rattle.formula.specs.Position.{positionAt}
+use Rattle.formula.specs.Position.Cursor.{PositionIn}
 use Rattle.formula.specs.Refusal.{refusedAt}
 use Rattle.formula.specs.Token.{Token, same, pText, cnfText, numberOf}
 use Rattle.formula.specs.Token.Scan.{shown}
@@ -14,7 +15,7 @@ use Rattle.formula.specs.Text.{refused, State, betweenSets, atEnd, readi
 use Rattle.formula.specs.declared.position.Position.{Position}
 use Rattle.formula.specs.declared.refusal.Reason.the-variants.{Headless}
 use Rattle.formula.specs.declared.token.Token.{Token as Shown}
-use Rattle.formula.specs.declared.token.Token.the-variants.{Natural, Negative, Word}
+use Rattle.formula.specs.declared.token.Token.the-variants.{Natural, Negative, NoNumber}
 use Rattle.formula.specs.declared.header.Wanted.{Wanted}
 use Rattle.formula.specs.declared.header.Wanted.the-variants.{P, Cnf, Number as WantsNumber}
 use Rattle.formula.specs.declared.header.FieldValue.{FieldValue}
@@ -32,7 +33,7 @@ wordValue false = Other
 abbrev pub numberValue : Shown → FieldValue
 numberValue (Natural n) = Value n
 numberValue (Negative n) = Other
-numberValue Word = Other
+numberValue NoNumber = Other
 
 abbrev pub valueOf : Wanted → (bytes : List ℕ) → Shown → FieldValue
 valueOf P bytes t = wordValue (same bytes pText)

@@ -10,7 +10,7 @@ use lib.Dec.{ltb, leb}
 use lib.ListN.{length}
 use Rattle.formula.specs.Refusal.Laws.{require-none}
 use Rattle.formula.specs.Bounds.{matrixBound}
-use Rattle.formula.specs.Position.{PositionIn}
+use Rattle.formula.specs.Position.Cursor.{PositionIn}
 use Rattle.formula.specs.Refusal.{inText, refusedAt}
 use Rattle.formula.specs.Token.{Token, tokensAt}
 use Rattle.formula.specs.Token.Laws.{Finds}

@@ -12,15 +12,16 @@ use lib.Dec.{leb, ltb, eqb}
 use lib.Seq.{drop-cons, drop-drop, getD-drop}
 use Rattle.qbf.specs.Connectives.{and-both, both-and}
 use native.Mathlib.Nat.{le-of-suc-le-suc, not-suc-le-zero}
-use Rattle.formula.specs.Position.{lineFeed, positionAt, along, PositionIn}
+use Rattle.formula.specs.Position.{lineFeed, positionAt}
+use Rattle.formula.specs.Position.Cursor.{along, PositionIn}
 use Rattle.formula.specs.Position.Laws.{along-past}
-use Rattle.formula.specs.Token.{isDigit, isBlank, leadFrom, leadPlace, leadStep, firstToken, Token, emit, ended, joined, tokensFrom, tokensAt, same, Number, natural, negative, noNumber, allDigits, valueFrom, isNumeral, afterMinus, numberOf}
-use Rattle.formula.specs.Token.Scan.{tooLarge, numeral, shown, nextOf, solid, runAt, leads, isPlain}
+use Rattle.formula.specs.Token.{isDigit, isBlank, leadFrom, leadPlace, leadStep, firstToken, Token, emit, ended, joined, tokensFrom, tokensAt, same, Number, natural, negative, noNumber, allDigits, valueFrom, isNumeral, negativeOf, numberOf}
+use Rattle.formula.specs.Token.Scan.{tooLarge, numeral, shown, nextOf, solid, runAt, noLeadingZero, isPlain}
 use Rattle.formula.specs.declared.position.Position.{Position}
 use Rattle.formula.specs.declared.token.Lead.{Lead}
 use Rattle.formula.specs.declared.token.Lead.the-variants.{LineStart, InLine, Comment, Over}
 use Rattle.formula.specs.declared.token.Token.{Token as Shown}
-use Rattle.formula.specs.declared.token.Token.the-variants.{Natural, Negative, Word}
+use Rattle.formula.specs.declared.token.Token.the-variants.{Natural, Negative, NoNumber}
 use Rattle.formula.specs.declared.token.Next.{Next}
 use Rattle.formula.specs.declared.token.Next.the-variants.{End, Found}
 
@@ -165,7 +166,7 @@ ahead at (b ∷ bs) = go (isBlank b) refl (ahead (at + 1) bs)
     go false e later = let k : at + 0 ≡ at = omega arith in inr (record { blanks = 0; inside = omega arith; no-blank = e; from-there = rw k })
 
 abbrev tokenOf : Next → Shown
-tokenOf (End p) = Word
+tokenOf (End p) = NoNumber
 tokenOf (Found t p n) = t
 
 abbrev placeOf : Next → Position

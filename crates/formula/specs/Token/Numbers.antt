@@ -10,14 +10,15 @@ use lib.ListN.{length, length-append, getD, take, drop, drop-of-length-le, lengt
 use lib.Dec.{leb, ltb, eqb}
 use lib.Seq.{take-suc, getD-drop}
 use Rattle.qbf.specs.Connectives.{and-both, both-and}
-use Rattle.formula.specs.Position.{lineFeed, positionAt, PositionIn}
-use Rattle.formula.specs.Token.{isDigit, isBlank, leadFrom, leadPlace, leadStep, firstToken, Token, emit, tokensFrom, tokensAt, same, Number, natural, negative, noNumber, allDigits, valueFrom, isNumeral, afterMinus, numberOf}
-use Rattle.formula.specs.Token.Scan.{tooLarge, numeral, shown, nextOf, solid, runAt, leads, isPlain, moreDigits, DigitsRead}
+use Rattle.formula.specs.Position.{lineFeed, positionAt}
+use Rattle.formula.specs.Position.Cursor.{PositionIn}
+use Rattle.formula.specs.Token.{isDigit, isBlank, leadFrom, leadPlace, leadStep, firstToken, Token, emit, tokensFrom, tokensAt, same, Number, natural, negative, noNumber, allDigits, valueFrom, isNumeral, negativeOf, numberOf}
+use Rattle.formula.specs.Token.Scan.{tooLarge, numeral, shown, nextOf, solid, runAt, noLeadingZero, isPlain, moreDigits, DigitsRead}
 use Rattle.formula.specs.declared.position.Position.{Position}
 use Rattle.formula.specs.declared.token.Lead.{Lead}
 use Rattle.formula.specs.declared.token.Lead.the-variants.{LineStart, InLine, Comment, Over}
 use Rattle.formula.specs.declared.token.Token.{Token as Shown}
-use Rattle.formula.specs.declared.token.Token.the-variants.{Natural, Negative, Word}
+use Rattle.formula.specs.declared.token.Token.the-variants.{Natural, Negative, NoNumber}
 use Rattle.formula.specs.declared.token.Digits.{Digits}
 use Rattle.formula.specs.declared.token.Next.{Next}
 use Rattle.formula.specs.declared.token.Next.the-variants.{End, Found}
@@ -94,11 +95,11 @@ plain-first b = go (isDigit b)
 pub plain-more : (a : ℕ) (ds : List ℕ) (b : ℕ) → isPlain ((a ∷ ds) ++ (b ∷ [])) ≡ ((isPlain (a ∷ ds) && isDigit b) && ltb 0 (capped (a ∷ ds)))
 plain-more a ds b = rw (all-snoc (a ∷ ds) b, lead-snoc ds) (go (isPlain (a ∷ ds)) refl)
   where
-    lead-snoc : (ds : List ℕ) → leads ((a ∷ ds) ++ (b ∷ [])) ≡ ltb 48 a
+    lead-snoc : (ds : List ℕ) → noLeadingZero ((a ∷ ds) ++ (b ∷ [])) ≡ ltb 48 a
     lead-snoc [] = refl
     lead-snoc (c ∷ ds) = refl
 
-    lead-both : (ds : List ℕ) → (leads (a ∷ ds) && ltb 48 a) ≡ ltb 48 a
+    lead-both : (ds : List ℕ) → (noLeadingZero (a ∷ ds) && ltb 48 a) ≡ ltb 48 a
     lead-both [] = refl
     lead-both (c ∷ ds) = twice (ltb 48 a)
       where
@@ -109,8 +110,8 @@ plain-more a ds b = rw (all-snoc (a ∷ ds) b, lead-snoc ds) (go (isPlain (a ∷
     go :
         (p : Bool) → isPlain (a ∷ ds) ≡ p
         → ((allDigits (a ∷ ds) && isDigit b) && ltb 48 a) ≡ ((p && isDigit b) && ltb 0 (capped (a ∷ ds)))
-    go true e = rw (← plain-lead a ds e, and-both (allDigits (a ∷ ds)) (leads (a ∷ ds)) e .0)
-    go false e = fails (allDigits (a ∷ ds)) (leads (a ∷ ds)) (isDigit b) (ltb 48 a) e (lead-both ds)
+    go true e = rw (← plain-lead a ds e, and-both (allDigits (a ∷ ds)) (noLeadingZero (a ∷ ds)) e .0)
+    go false e = fails (allDigits (a ∷ ds)) (noLeadingZero (a ∷ ds)) (isDigit b) (ltb 48 a) e (lead-both ds)
       where
         fails : (s l d t : Bool) → (s && l) ≡ false → (l && t) ≡ t → ((s && d) && t) ≡ false
         fails false l d t e f = refl
@@ -131,14 +132,14 @@ numeral-plain (a ∷ ds) = go (isPlain (a ∷ ds)) refl (apart (ltb 48 a) (allDi
     apart : (l s : Bool) (ds : List ℕ) → (l && s) ≡ true → (s ≡ true) × (l ≡ true)
     apart l s ds e = let b = and-both l s e in (b .1, b .0)
 
-    leading : (ds : List ℕ) → ltb 48 a ≡ true → leads (a ∷ ds) ≡ true
+    leading : (ds : List ℕ) → ltb 48 a ≡ true → noLeadingZero (a ∷ ds) ≡ true
     leading [] e = refl
     leading (c ∷ ds) e = e
 
     go :
         (p : Bool) → isPlain (a ∷ ds) ≡ p → ((ltb 48 a && allDigits (a ∷ ds)) ≡ true → (allDigits (a ∷ ds) ≡ true) × (ltb 48 a ≡ true))
         → (ltb 48 a && allDigits (a ∷ ds)) ≡ (p && ltb 0 (capped (a ∷ ds)))
-    go true e f = rw (and-both (allDigits (a ∷ ds)) (leads (a ∷ ds)) e .0) (last (ltb 48 a) ∙ plain-lead a ds e)
+    go true e f = rw (and-both (allDigits (a ∷ ds)) (noLeadingZero (a ∷ ds)) e .0) (last (ltb 48 a) ∙ plain-lead a ds e)
       where
         last : (t : Bool) → (t && true) ≡ t
         last true = refl
@@ -147,19 +148,19 @@ numeral-plain (a ∷ ds) = go (isPlain (a ∷ ds)) refl (apart (ltb 48 a) (allDi
       where
         no : (t : Bool) → (ltb 48 a && allDigits (a ∷ ds)) ≡ t → t ≡ false
         no false q = refl
-        no true q = absurd (false≢true (sym e ∙ both-and (allDigits (a ∷ ds)) (leads (a ∷ ds)) (f q .0) (leading ds (f q .1))))
+        no true q = absurd (false≢true (sym e ∙ both-and (allDigits (a ∷ ds)) (noLeadingZero (a ∷ ds)) (f q .0) (leading ds (f q .1))))
 
 -- What is shown of a run, by what was read of its digits.
 module _ (ds : List ℕ) (plain : Bool) (value : ℕ) (p : plain ≡ isPlain ds) (v : plain ≡ true → value ≡ capped ds) where
-  pub minus-shown : shown (numberOf (45 ∷ ds)) ≡ cond (plain && ltb 0 value) (Negative value) Word
+  pub minus-shown : shown (numberOf (45 ∷ ds)) ≡ cond (plain && ltb 0 value) (Negative value) NoNumber
   unfolding numberOf same
   minus-shown = rw (numeral-plain ds, ← p) (go plain refl)
     where
-      go : (t : Bool) → plain ≡ t → shown (cond (t && ltb 0 (capped ds)) (negative (valueFrom 0 ds)) noNumber) ≡ cond (t && ltb 0 value) (Negative value) Word
+      go : (t : Bool) → plain ≡ t → shown (cond (t && ltb 0 (capped ds)) (negative (valueFrom 0 ds)) noNumber) ≡ cond (t && ltb 0 value) (Negative value) NoNumber
       go false e = refl
       go true e = rw (v e) (last (ltb 0 (capped ds)))
         where
-          last : (t : Bool) → shown (cond t (negative (valueFrom 0 ds)) noNumber) ≡ cond t (Negative (capped ds)) Word
+          last : (t : Bool) → shown (cond t (negative (valueFrom 0 ds)) noNumber) ≡ cond t (Negative (capped ds)) NoNumber
           last true = refl
           last false = refl
 
@@ -173,18 +174,18 @@ zero-capped = refl
 
 -- A run whose first byte is no minus. One that is not plain is a word; any other is a number, also `0`.
 module _ (a : ℕ) (ds : List ℕ) (plain : Bool) (value : ℕ) (p : plain ≡ isPlain (a ∷ ds)) (v : plain ≡ true → value ≡ capped (a ∷ ds)) where
-  larger : (plain ≡ true → ltb 48 a ≡ true) → shown (cond (plain && ltb 0 (capped (a ∷ ds))) (natural (valueFrom 0 (a ∷ ds))) noNumber) ≡ cond plain (Natural value) Word
+  larger : (plain ≡ true → ltb 48 a ≡ true) → shown (cond (plain && ltb 0 (capped (a ∷ ds))) (natural (valueFrom 0 (a ∷ ds))) noNumber) ≡ cond plain (Natural value) NoNumber
   larger l = go plain refl
     where
-      go : (t : Bool) → plain ≡ t → shown (cond (t && ltb 0 (capped (a ∷ ds))) (natural (valueFrom 0 (a ∷ ds))) noNumber) ≡ cond t (Natural value) Word
+      go : (t : Bool) → plain ≡ t → shown (cond (t && ltb 0 (capped (a ∷ ds))) (natural (valueFrom 0 (a ∷ ds))) noNumber) ≡ cond t (Natural value) NoNumber
       go false e = refl
       go true e = let q = sym (plain-lead a ds (sym p ∙ e)) ∙ l e in rw (q, v e)
 
-pub digits-shown : (a : ℕ) (ds : List ℕ) (plain : Bool) (value : ℕ) → (a ≡ 45 → ⊥) → plain ≡ isPlain (a ∷ ds) → (plain ≡ true → value ≡ capped (a ∷ ds)) → shown (numberOf (a ∷ ds)) ≡ cond plain (Natural value) Word
+pub digits-shown : (a : ℕ) (ds : List ℕ) (plain : Bool) (value : ℕ) → (a ≡ 45 → ⊥) → plain ≡ isPlain (a ∷ ds) → (plain ≡ true → value ≡ capped (a ∷ ds)) → shown (numberOf (a ∷ ds)) ≡ cond plain (Natural value) NoNumber
 unfolding numberOf same
 digits-shown a [] plain value n p v = rw (ne-eqb a 45 n, numeral-plain (a ∷ []), ← p) (go (eqb a 48) refl)
   where
-    go : (s : Bool) → eqb a 48 ≡ s → shown (cond (s && true) (natural 0) (cond (plain && ltb 0 (capped (a ∷ []))) (natural (valueFrom 0 (a ∷ []))) noNumber)) ≡ cond plain (Natural value) Word
+    go : (s : Bool) → eqb a 48 ≡ s → shown (cond (s && true) (natural 0) (cond (plain && ltb 0 (capped (a ∷ []))) (natural (valueFrom 0 (a ∷ []))) noNumber)) ≡ cond plain (Natural value) NoNumber
     go true e =
         let is = eqb-true a 48 e in
         let t : plain ≡ true = p ∙ rw is zero-plain in
@@ -202,7 +203,7 @@ digits-shown a (c ∷ ds) plain value n p v =
 abbrev magnitude : Shown → ℕ
 magnitude (Natural n) = n
 magnitude (Negative n) = n
-magnitude Word = 0
+magnitude NoNumber = 0
 
 pub shown-natural : (m : Number) (n : ℕ) → shown m ≡ Natural n → (k : ℕ) × (m ≡ natural k) × (min k tooLarge ≡ n)
 shown-natural (natural k) n e = (k, refl, ap magnitude e)
@@ -214,10 +215,10 @@ shown-negative (natural k) n e = let z : _≡_ {A = ℕ} 0 1 = cc in absurd (ome
 shown-negative (negative k) n e = (k, refl, ap magnitude e)
 shown-negative noNumber n e = let z : _≡_ {A = ℕ} 0 1 = cc in absurd (omega arith)
 
-pub shown-word : (m : Number) → shown m ≡ Word → m ≡ noNumber
-shown-word (natural k) e = let z : _≡_ {A = ℕ} 0 1 = cc in absurd (omega arith)
-shown-word (negative k) e = let z : _≡_ {A = ℕ} 0 1 = cc in absurd (omega arith)
-shown-word noNumber e = refl
+pub shown-no-number : (m : Number) → shown m ≡ NoNumber → m ≡ noNumber
+shown-no-number (natural k) e = let z : _≡_ {A = ℕ} 0 1 = cc in absurd (omega arith)
+shown-no-number (negative k) e = let z : _≡_ {A = ℕ} 0 1 = cc in absurd (omega arith)
+shown-no-number noNumber e = refl
 
 -- What was read of the run at `from`, up to a byte within it.
 pub record DigitsSoFar (text : List ℕ) (from : ℕ) (r : Digits) : Type 0 where
@@ -311,13 +312,13 @@ more-end r first b = go ((r .plain && isDigit b) && (first || ltb 0 (r .value)))
 module _ (text : List ℕ) (start : ℕ) (h : start < length text) (s : isBlank (getD text start 0) ≡ false) (r : Digits) where
   pub minus-read :
       getD text start 0 ≡ 45 → DigitsRead text (start + 1) r
-      → (shown (numberOf (runAt text start)) ≡ cond (r .plain && ltb 0 (r .value)) (Negative (r .value)) Word) × (r .end - start ≡ solid (drop start text))
+      → (shown (numberOf (runAt text start)) ≡ cond (r .plain && ltb 0 (r .value)) (Negative (r .value)) NoNumber) × (r .end - start ≡ solid (drop start text))
   minus-read e d =
       (rw (run-first text start h s, e) (minus-shown (runAt text (start + 1)) (r .plain) (r .value) (d .is-plain) (d .is-value)), omega (arith, d .ends, solid-first text start h s))
 
   pub digits-read :
       (getD text start 0 ≡ 45 → ⊥) → DigitsRead text start r
-      → (shown (numberOf (runAt text start)) ≡ cond (r .plain) (Natural (r .value)) Word) × (r .end - start ≡ solid (drop start text))
+      → (shown (numberOf (runAt text start)) ≡ cond (r .plain) (Natural (r .value)) NoNumber) × (r .end - start ≡ solid (drop start text))
   digits-read n d =
       let run = run-first text start h s in
       (rw run (digits-shown (getD text start 0) (runAt text (start + 1)) (r .plain) (r .value) n (rw run at (d .is-plain)) (λ e. rw run at (d .is-value e))), omega (arith, d .ends))

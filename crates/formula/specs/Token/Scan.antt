@@ -5,11 +5,12 @@ use mathlib.Core.Bool.{Bool, true, false, _||_, _&&_, cond}
 use mathlib.Core.List.{List, [], _∷_}
 use lib.ListN.{drop, take, length, getD}
 use lib.Dec.{ltb}
-use Rattle.formula.specs.Position.{positionAt, PositionIn}
+use Rattle.formula.specs.Position.{positionAt}
+use Rattle.formula.specs.Position.Cursor.{PositionIn}
 use Rattle.formula.specs.Token.{isDigit, isBlank, Token, tokensAt, Number, natural, negative, noNumber, allDigits, valueFrom, numberOf}
 use Rattle.formula.specs.declared.position.Position.{Position}
 use Rattle.formula.specs.declared.token.Token.{Token as Shown}
-use Rattle.formula.specs.declared.token.Token.the-variants.{Natural, Negative, Word}
+use Rattle.formula.specs.declared.token.Token.the-variants.{Natural, Negative, NoNumber}
 use Rattle.formula.specs.declared.token.Digits.{Digits}
 use Rattle.formula.specs.declared.token.Next.{Next}
 use Rattle.formula.specs.declared.token.Next.the-variants.{End, Found}
@@ -25,7 +26,7 @@ numeral n b = min (10 * n + (b - 48)) tooLarge
 abbrev pub shown : Number → Shown
 shown (natural n) = Natural (min n tooLarge)
 shown (negative n) = Negative (min n tooLarge)
-shown noNumber = Word
+shown noNumber = NoNumber
 
 -- What `next_token` answers where these tokens follow: the first of them, with its positions in the text.
 abbrev pub nextOf : List ℕ → List Token → Next
@@ -41,13 +42,13 @@ abbrev pub runAt : List ℕ → ℕ → List ℕ
 runAt text at = take (solid (drop at text)) (drop at text)
 
 -- Digits alone, of which a first 0 stands alone.
-abbrev pub leads : List ℕ → Bool
-leads [] = true
-leads (b ∷ []) = true
-leads (b ∷ c ∷ bs) = ltb 48 b
+abbrev pub noLeadingZero : List ℕ → Bool
+noLeadingZero [] = true
+noLeadingZero (b ∷ []) = true
+noLeadingZero (b ∷ c ∷ bs) = ltb 48 b
 
 abbrev pub isPlain : List ℕ → Bool
-isPlain bytes = allDigits bytes && leads bytes
+isPlain bytes = allDigits bytes && noLeadingZero bytes
 
 -- What was read of a run with one more byte.
 abbrev pub moreDigits : Digits → Bool → ℕ → Digits

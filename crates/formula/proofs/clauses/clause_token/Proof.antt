@@ -1,6 +1,6 @@
 -- `clause_token` answers by the token: each need is one law of Text.Clauses. Assumes nothing.
 use mathlib.Core.Path.{_∙_}
-use Rattle.formula.specs.Text.Clauses.Laws.{natural-post, negative-post, word-post, closing-post}
+use Rattle.formula.specs.Text.Clauses.Laws.{natural-post, negative-post, no-number-post, closing-post}
 use borrow.Author.Needs.{needs}
 use Rattle.formula.proofs.clauses.clause_token.Statement.{statement}
 use Rattle.formula.proofs.clauses.clause_token.Tie as tie
@@ -21,7 +21,7 @@ returns-3 c =
     λ m sh. negative-post (pre .0) (pre .3) (pre .2) (c .before .put-literal2 .ensures) m (sh ∙ c .before .before .before .before .before .token2 .given .1)
 
 returns-4 : tie.Need-returns-4
-returns-4 c = λ m sh. word-post _ _ _ _ _ _ _ m (sh ∙ c .enum-told .given .1)
+returns-4 c = λ m sh. no-number-post _ _ _ _ _ _ _ m (sh ∙ c .enum-told .given .1)
 
 pub clause-token-spec : {M : Type 1} → statement M
 clause-token-spec =

@@ -4,7 +4,7 @@ use mathlib.Core.Path.{sym, _∙_}
 use mathlib.Core.List.{[]}
 use native.Mathlib.Omega.{arith}
 use lib.ListN.{length}
-use Rattle.formula.specs.Position.{PositionIn}
+use Rattle.formula.specs.Position.Cursor.{PositionIn}
 use Rattle.formula.specs.Token.{numberOf}
 use Rattle.formula.specs.Token.Laws.{Finds, no-token, token-found}
 use Rattle.formula.specs.Text.Clauses.Laws.{ClausesSoFar, clauses-begin, clauses-end, clauses-over, clauses-refuse, clauses-literal, clauses-closed}

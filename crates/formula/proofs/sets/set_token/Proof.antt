@@ -1,6 +1,6 @@
 -- `set_token` answers by the token: each need is one law of Text.Sets. Assumes nothing.
 use mathlib.Core.Path.{_∙_}
-use Rattle.formula.specs.Text.Sets.Laws.{variable-post, closing-post, negative-post, word-post}
+use Rattle.formula.specs.Text.Sets.Laws.{variable-post, closing-post, negative-post, no-number-post}
 use borrow.Author.Needs.{needs}
 use Rattle.formula.proofs.sets.set_token.Statement.{statement}
 use Rattle.formula.proofs.sets.set_token.Tie as tie
@@ -20,7 +20,7 @@ returns-3 : tie.Need-returns-3
 returns-3 c = λ m sh. negative-post _ _ _ _ _ _ _ _ _ m (sh ∙ c .enum-told .given .1)
 
 returns-4 : tie.Need-returns-4
-returns-4 c = λ m sh. word-post _ _ _ _ _ _ _ _ m (sh ∙ c .enum-told2 .given .1)
+returns-4 c = λ m sh. no-number-post _ _ _ _ _ _ _ _ m (sh ∙ c .enum-told2 .given .1)
 
 pub set-token-spec : {M : Type 1} → statement M
 set-token-spec =

@@ -6,7 +6,8 @@ use native.Mathlib.Omega.{arith}
 use denote.Enum.Declared.{tagOf}
 use types.Run.{OneOf, miss}
 use lib.ListN.{length, drop, drop-of-length-le}
-use Rattle.formula.specs.Position.{feeds, sinceFeed, PositionIn}
+use Rattle.formula.specs.Position.{feeds, sinceFeed}
+use Rattle.formula.specs.Position.Cursor.{PositionIn}
 use Rattle.formula.specs.Position.Laws.{past-in, small-in}
 use Rattle.formula.specs.Token.{firstToken, leadFrom, leadPlace}
 use Rattle.formula.specs.Token.Laws.{lead-byte}

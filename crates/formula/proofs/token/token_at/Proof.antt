@@ -9,7 +9,7 @@ use Rattle.formula.specs.Position.Laws.{small-in}
 use Rattle.formula.specs.Token.{numberOf}
 use Rattle.formula.specs.Token.Scan.{shown, solid, runAt}
 use Rattle.formula.specs.Token.Laws.{next-is, run-inside}
-use Rattle.formula.specs.declared.token.Token.the-variants.{Natural, Negative, Word}
+use Rattle.formula.specs.declared.token.Token.the-variants.{Natural, Negative, NoNumber}
 use Rattle.formula.specs.Token.Numbers.{minus-read, digits-read}
 use borrow.Author.Needs.{needs}
 use Rattle.formula.proofs.token.token_at.Statement.{statement}
@@ -18,12 +18,12 @@ use Rattle.formula.proofs.token.token_at.Tie as tie
 -- where the run was read, behind a minus or not
 minus :
     (c : tie.After-read-digits) → let k = c .before .before .before .before .args in let r = c .read-digits .result in
-    (shown (numberOf (runAt (k .text .now) (k .place .place))) ≡ cond (r .plain && ltb 0 (r .value)) (Negative (r .value)) Word) × (r .end - k .place .place ≡ solid (drop (k .place .place) (k .text .now)))
+    (shown (numberOf (runAt (k .text .now) (k .place .place))) ≡ cond (r .plain && ltb 0 (r .value)) (Negative (r .value)) NoNumber) × (r .end - k .place .place ≡ solid (drop (k .place .place) (k .text .now)))
 minus c = let k = c .before .before .before .before in minus-read (k .args .text .now) (k .args .place .place) (k .pre .2) (k .pre .3) (c .read-digits .result) (c .before .if1 .taken) (c .read-digits .ensures)
 
 plain :
     (c : tie.After-read-digits2) → let k = c .before .before .before .before .args in let r = c .read-digits2 .result in
-    (shown (numberOf (runAt (k .text .now) (k .place .place))) ≡ cond (r .plain) (Natural (r .value)) Word) × (r .end - k .place .place ≡ solid (drop (k .place .place) (k .text .now)))
+    (shown (numberOf (runAt (k .text .now) (k .place .place))) ≡ cond (r .plain) (Natural (r .value)) NoNumber) × (r .end - k .place .place ≡ solid (drop (k .place .place) (k .text .now)))
 plain c = let k = c .before .before .before .before in digits-read (k .args .text .now) (k .args .place .place) (k .pre .2) (k .pre .3) (c .read-digits2 .result) (c .before .if1 .left) (c .read-digits2 .ensures)
 
 returns : tie.Need-returns

@@ -38,12 +38,12 @@ use Rattle.formula.specs.Position.{positionAt}
 use Rattle.formula.specs.Token.{tokensAt, Number, natural, negative, numberOf}
 use Rattle.formula.specs.Token.Scan.{tooLarge, shown}
 use Rattle.formula.specs.Token.Laws.{Finds}
-use Rattle.formula.specs.Token.Numbers.{shown-natural, shown-negative, shown-word}
+use Rattle.formula.specs.Token.Numbers.{shown-natural, shown-negative, shown-no-number}
 use Rattle.formula.specs.declared.refusal.Reason.the-variants.{BadToken, Miscount}
 use Rattle.formula.specs.declared.refusal.Reason.{Reason}
 use Rattle.formula.specs.declared.position.Position.{Position}
 use Rattle.formula.specs.declared.token.Token.{Token as Shown}
-use Rattle.formula.specs.declared.token.Token.the-variants.{Natural, Negative, Word}
+use Rattle.formula.specs.declared.token.Token.the-variants.{Natural, Negative, NoNumber}
 use Rattle.formula.specs.declared.clauses.ClauseStep.{ClauseStep}
 use Rattle.formula.specs.declared.clauses.ClauseStep.the-variants.{Literal, Closed, Refused as NoStep}
 use Rattle.formula.specs.declared.clauses.ClausesAnswer.the-variants.{Refused as NoClauses}
@@ -199,8 +199,8 @@ module _ {n v used closed : ℕ} {table : List ℤ} {marks : List ℕ} {table′
   pub negative-post : LiteralPost n v false used closed table marks table′ marks′ answer → (m : Number) → shown m ≡ Negative n → ClauseTokenPost m v used closed table marks table′ marks′ answer
   negative-post post m sh = let k = shown-negative m n sh in rw (k .1) (literal-post small room size (negative (k .0)) (k .0) (λ p rp c P. refl) (k .2) post)
 
-pub word-post : (v used closed : ℕ) (table : List ℤ) (marks : List ℕ) (table′ : List ℤ) (marks′ : List ℕ) (m : Number) → shown m ≡ Word → ClauseTokenPost m v used closed table marks table′ marks′ (NoStep BadToken)
-word-post v used closed table marks table′ marks′ m sh = rw (shown-word m sh) (record { states = λ p rp c P M. refl; stores = tt })
+pub no-number-post : (v used closed : ℕ) (table : List ℤ) (marks : List ℕ) (table′ : List ℤ) (marks′ : List ℕ) (m : Number) → shown m ≡ NoNumber → ClauseTokenPost m v used closed table marks table′ marks′ (NoStep BadToken)
+no-number-post v used closed table marks table′ marks′ m sh = rw (shown-no-number m sh) (record { states = λ p rp c P M. refl; stores = tt })
 
 -- The same of a closing 0.
 pub closing-post : {n v used closed : ℕ} {table table′ : List ℤ} {marks : List ℕ} {answer : ClauseStep} → used ≤ length table → length marks ≡ variableBound + 1 → ClosingPost used table table′ answer → n ≡ 0 → (m : Number) → shown m ≡ Natural n → ClauseTokenPost m v used closed table marks table′ marks answer

@@ -8,7 +8,8 @@ use borrow.Author.Tests.{leb-true, leb-false, lt-leb}
 use lib.ListN.{length, take, drop}
 use lib.Dec.{leb}
 use Rattle.formula.specs.Bounds.{variableBound, countBound}
-use Rattle.formula.specs.Position.{positionAt, PositionIn}
+use Rattle.formula.specs.Position.{positionAt}
+use Rattle.formula.specs.Position.Cursor.{PositionIn}
 use Rattle.formula.specs.Refusal.{inText, require}
 use Rattle.formula.specs.Token.{Token, tokensAt, same, pText, cnfText, Number, natural, negative, noNumber, numberOf}
 use Rattle.formula.specs.Token.Scan.{tooLarge, shown, nextOf}

@@ -18,11 +18,11 @@ use Rattle.formula.specs.Refusal.{refusedAt, unless}
 use Rattle.formula.specs.Prefix.{prefixOf, entryFits, usedAfter, quantifierOf}
 use Rattle.formula.specs.Prefix.Laws.{prefix-none, prefix-words, put-entries, put-more, put-within}
 use Rattle.formula.specs.Tables.{isIn, zeros}
-use Rattle.formula.specs.Position.{PositionIn}
+use Rattle.formula.specs.Position.Cursor.{PositionIn}
 use Rattle.formula.specs.Token.{tokensAt, same, aText, eText, Number, natural, negative, noNumber, numberOf}
 use Rattle.formula.specs.Token.Scan.{tooLarge, shown}
 use Rattle.formula.specs.Token.Laws.{Finds}
-use Rattle.formula.specs.Token.Numbers.{shown-natural, shown-negative, shown-word}
+use Rattle.formula.specs.Token.Numbers.{shown-natural, shown-negative, shown-no-number}
 use Rattle.formula.specs.Text.{betweenSets, inSet, clauses, stopped, atEnd, opens, openFrom, variableReason, setToken, clausesToken, step, ending, readingFrom}
 use Rattle.formula.specs.Text.Distinct.{or-no}
 use Rattle.formula.specs.Text.Laws.{variable-fine, from-end, from-token, from-refused}
@@ -32,7 +32,7 @@ use Rattle.formula.specs.declared.refusal.Reason.{Reason}
 use Rattle.formula.specs.declared.refusal.Refusal.{Refusal}
 use Rattle.formula.specs.declared.position.Position.{Position}
 use Rattle.formula.specs.declared.token.Token.{Token as Shown}
-use Rattle.formula.specs.declared.token.Token.the-variants.{Natural, Negative, Word}
+use Rattle.formula.specs.declared.token.Token.the-variants.{Natural, Negative, NoNumber}
 use Rattle.formula.specs.declared.sets.SetStep.{SetStep}
 use Rattle.formula.specs.declared.sets.SetStep.the-variants.{Listed as Lists, Closed as Closes, Refused as NoListing}
 use Rattle.formula.specs.declared.sets.SetsAnswer.the-variants.{Sets, Refused as NoSets}
@@ -114,8 +114,8 @@ closing-post n v q filled used prefix marks z m sh = let k = shown-natural m n s
 pub negative-post : (n v : ℕ) (q : Quantifier) (filled : Bool) (used : ℕ) (prefix : List ℤ) (marks : List ℕ) (prefix′ : List ℤ) (marks′ : List ℕ) (m : Number) → shown m ≡ Negative n → SetTokenPost m v q filled used prefix marks prefix′ marks′ (NoListing BadToken)
 negative-post n v q filled used prefix marks prefix′ marks′ m sh = rw (shown-negative m n sh .1) (record { states = λ p c rc. refl; stores = tt })
 
-pub word-post : (v : ℕ) (q : Quantifier) (filled : Bool) (used : ℕ) (prefix : List ℤ) (marks : List ℕ) (prefix′ : List ℤ) (marks′ : List ℕ) (m : Number) → shown m ≡ Word → SetTokenPost m v q filled used prefix marks prefix′ marks′ (NoListing BadToken)
-word-post v q filled used prefix marks prefix′ marks′ m sh = rw (shown-word m sh) (record { states = λ p c rc. refl; stores = tt })
+pub no-number-post : (v : ℕ) (q : Quantifier) (filled : Bool) (used : ℕ) (prefix : List ℤ) (marks : List ℕ) (prefix′ : List ℤ) (marks′ : List ℕ) (m : Number) → shown m ≡ NoNumber → SetTokenPost m v q filled used prefix marks prefix′ marks′ (NoListing BadToken)
+no-number-post v q filled used prefix marks prefix′ marks′ m sh = rw (shown-no-number m sh) (record { states = λ p c rc. refl; stores = tt })
 
 -- In a set, at the place `at`: `used` words were used as it began, n are now.
 pub record SetSoFar (text : List ℕ) (start v : ℕ) (q : Quantifier) (used : ℕ) (prefix₀ prefix : List ℤ) (marks : List ℕ) (at n : ℕ) : Type 0 where

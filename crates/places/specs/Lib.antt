@@ -1,0 +1,4 @@
+-- 02's P1 as theorems: a refusal of a text has the line and the column of its place, every other refusal has none; and so it is printed.
+pub mod InText
+pub mod Elsewhere
+pub mod Lines
