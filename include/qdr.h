@@ -54,11 +54,12 @@ extern "C" {
 enum qdr_refusal {
     QDR_HEADLESS = 1,       /* no complete header: the first wrong token's byte, or the text's length */
     QDR_OVERSIZED = 2,      /* a bound is passed: 0 */
-    QDR_NO_ROOM = 3,        /* a table or buffer is short: the token's byte or the clause number that found no room, else 0 */
+    QDR_NO_ROOM = 3,        /* a table or buffer is short: the token's byte or the clause number that found no room, the text's
+                               length for variables added to the prefix, else 0 */
     QDR_BAD_TOKEN = 4,      /* not a number or letter allowed there, an empty set, a negative in a set: the token's byte */
     QDR_OUT_OF_RANGE = 5,   /* a variable above the header's, or a word of a table out of range: the token's byte, or the word */
     QDR_BOUND_TWICE = 6,    /* a variable listed again: the token's byte, or the word */
-    QDR_UNBOUND = 7,        /* a clause's variable is not in the prefix: the token's byte, or the word */
+    QDR_UNBOUND = 7,        /* a clause's variable is not in the prefix (of tables, never of a text): the word */
     QDR_CLASH = 8,          /* a literal repeated or opposed in a clause: the later one's byte, or word */
     QDR_UNFINISHED = 9,     /* a closing 0 is missing: the length */
     QDR_MISCOUNT = 10,      /* a token after the last clause, or too few clauses: the token's byte, or the length */
@@ -81,8 +82,9 @@ uint32_t qdr_check_tables(const int32_t *prefix, size_t prefix_length,
                           const int32_t *clauses, size_t clauses_length,
                           uint64_t out[QDR_OUT_LENGTH]);
 
-/* Reads a formula's text (QDIMACS) into the two tables.
- * Returns 0, or a refusal: one of 1 to 10.
+/* Reads a formula's text (QDIMACS) into the two tables. Variables of the clauses that no set lists are put before the prefix,
+ * existential, in rising order; the words used of the prefix count them. Tables handed to other functions are never completed.
+ * Returns 0, or a refusal: one of 1 to 6 and 8 to 10.
  * out: the prefix words used, the clause words used, the number of clauses C.
  * The tables hold the words used and then zeros; after a refusal zeros alone. */
 uint32_t qdr_read(const uint8_t *text, size_t text_length,

@@ -49,7 +49,7 @@ const ODD_TOKENS: [&str; 36] = [
     "-99999999999999999999999999999999999999999",
 ];
 
-/// The tokens of a formula's text, header first; sets may be split, V and C may be off.
+/// The tokens of a formula's text, header first; sets may be split or lack variables, V and C may be off.
 pub fn tokens(random: &mut Random, tables: &Tables) -> Vec<String> {
     let largest = tables.prefix.iter().map(|w| w.unsigned_abs()).max();
     let largest = largest.unwrap_or(0) as usize;
@@ -66,7 +66,11 @@ pub fn tokens(random: &mut Random, tables: &Tables) -> Vec<String> {
     tokens.push(declared.to_string());
     tokens.push(stated.to_string());
     let mut open: Option<bool> = None;
+    let lacking = random.one_in(4);
     for &word in &tables.prefix {
+        if lacking && random.one_in(3) {
+            continue;
+        }
         let universal = word < 0;
         if open != Some(universal) || random.one_in(8) {
             if open.is_some() {

@@ -70,11 +70,15 @@ impl Seen {
 
     /// Notes a variable of the current clause, which must be bound and new to the clause.
     pub fn meet(&mut self, variable: usize) -> Result<(), Reason> {
-        let last = self.last[variable];
-        if last == 0 {
+        if self.last[variable] == 0 {
             return Err(Reason::Unbound);
         }
-        if last == self.mark {
+        self.enter(variable)
+    }
+
+    /// Notes a variable of the current clause, bound or not, which must be new to the clause.
+    pub fn enter(&mut self, variable: usize) -> Result<(), Reason> {
+        if self.last[variable] == self.mark {
             return Err(Reason::Clash);
         }
         self.last[variable] = self.mark;

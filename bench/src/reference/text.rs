@@ -1,8 +1,9 @@
 //! Reading a formula's text in one pass: comments, the header, quantifier sets, clauses. Tokens are judged
-//! from the left; the first wrong one refuses. Every place is a byte of the text.
+//! from the left; the first wrong one refuses. Every place is a byte of the text. Variables that no set lists
+//! are put before the prefix at the end.
 
 use super::tables::Seen;
-use super::{Reason, Refusal, MAX_CLAUSES, MAX_CLAUSE_WORDS, MAX_TEXT, MAX_VARIABLE};
+use super::{Reason, Refusal, MAX_CLAUSES, MAX_CLAUSE_WORDS, MAX_TEXT, MAX_VARIABLE, ROW_BYTES};
 
 #[derive(Clone, Debug, PartialEq, Eq)]
 pub struct Reading {
@@ -27,11 +28,30 @@ fn read_tokens(text: &[u8], prefix_room: usize, clause_room: usize) -> Result<Re
     let (prefix, first) = tokens.sets(largest, count, &mut seen, room)?;
     let room = clause_room;
     let clauses = tokens.clauses(first, largest, count, &mut seen, room)?;
+    let mut completed = unlisted(&prefix, &clauses);
+    completed.extend(prefix);
+    if completed.len() > prefix_room {
+        return Err(Reason::NoRoom.at(text.len()));
+    }
     Ok(Reading {
-        prefix,
+        prefix: completed,
         clauses,
         count,
     })
+}
+
+/// The variables that occur in a clause and not in the prefix, rising.
+fn unlisted(prefix: &[i32], clauses: &[i32]) -> Vec<i32> {
+    let mut free = [false; ROW_BYTES];
+    for word in clauses {
+        free[word.unsigned_abs() as usize] = true;
+    }
+    for word in prefix {
+        free[word.unsigned_abs() as usize] = false;
+    }
+    (1..ROW_BYTES as i32)
+        .filter(|&variable| free[variable as usize])
+        .collect()
 }
 
 /// A token and the place of its first byte.
@@ -229,8 +249,8 @@ impl Tokens<'_> {
                     return Err(Reason::Oversized.at(0));
                 }
                 if value != 0 {
-                    let met = seen.meet(variable);
-                    met.map_err(|reason| reason.at(token.place))?;
+                    let entered = seen.enter(variable);
+                    entered.map_err(|reason| reason.at(token.place))?;
                 }
                 if clauses.len() == room {
                     return Err(Reason::NoRoom.at(token.place));
@@ -317,12 +337,27 @@ mod tests {
         assert_eq!(refused("p cnf 2 2\ne 1 2 0\n1 0 a\n"), (4, 22));
         assert_eq!(refused("p cnf 2 1\ne 1 2 0\n1 0 a\n"), (10, 22));
         assert_eq!(refused("p cnf 2 1\ne 1 2 0\n3 0\n"), (5, 18));
-        assert_eq!(refused("p cnf 2 1\ne 1 0\n2 0\n"), (7, 16));
         assert_eq!(refused("p cnf 2 1\ne 1 2 0\n1 2 -2 -1 0\n"), (8, 22));
         assert_eq!(refused("p cnf 2 1\ne 1 2 0\n1 2"), (9, 21));
         assert_eq!(refused("p cnf 2 2\ne 1 2 0\n1 2 0"), (10, 23));
         assert_eq!(refused("p cnf 2 1\ne 1 2 0\n-0"), (4, 18));
         assert_eq!(tables("p cnf 0 2 0 0"), (vec![], vec![0, 0], 2));
+    }
+
+    #[test]
+    fn free_variables() {
+        let prefix = |text| tables(text).0;
+        assert_eq!(prefix("p cnf 3 1\n3 -1 0\n"), vec![1, 3]);
+        assert_eq!(prefix("p cnf 4 2\na 3 0\n4 -2 0 3 2 0\n"), vec![2, 4, -3]);
+        assert_eq!(prefix("p cnf 4 1\ne 2 4 0\n-1 2 0\n"), vec![1, 2, 4]);
+        assert_eq!(refused("p cnf 2 1\ne 1 0\n2 1 -2 0\n"), (8, 20));
+        assert_eq!(refused("p cnf 2 1\n3 0\n"), (5, 10));
+        let text = b"p cnf 3 1\ne 1 0\n2 3 0\n";
+        assert!(read(text, 3, 9).is_ok());
+        let crowded = read(text, 2, 9).unwrap_err();
+        assert_eq!((crowded.reason, crowded.place), (Reason::NoRoom, 22));
+        assert_eq!((crowded.line, crowded.column), (4, 1));
+        assert_eq!(read(&text[..19], 2, 9).unwrap_err().reason.number(), 9);
     }
 
     #[test]

@@ -178,7 +178,7 @@ fn set_numbers() {
     );
 }
 
-// Literals: 5, 7, 8.
+// Literals: 5.
 fn literals() {
     run_list(
         Kind::Text,
@@ -203,18 +203,39 @@ fn literal_tokens() {
     );
 }
 
-// Clauses too many and too few: 10.
+// Literals repeated and opposed: 8; clauses that are read.
 fn clauses() {
     run_list(
         Kind::Text,
-        b"unbound|p cnf 2 1\ne 1 0\n1 -2 0\n|\
-          unbound without sets|p cnf 1 1\n1 0\n|\
-          literal repeated|p cnf 2 1\ne 1 2 0\n1 2 1 0\n|\
+        b"literal repeated|p cnf 2 1\ne 1 2 0\n1 2 1 0\n|\
           literal opposed|p cnf 2 1\ne 1 2 0\n1 2 -1 0\n|\
           two oppositions|p cnf 2 1\ne 1 2 0\n1 2 -2 -1 0\n|\
           opposition over lines|p cnf 2 1\ne 1 2 0\n1\n-1 0\n|\
           one literal in two clauses|p cnf 1 2\ne 1 0\n1 0\n1 0\n|\
           empty clauses|p cnf 0 2\n0 0\n|",
+    );
+}
+
+// Variables that no set binds: added in front, rising; refused where their clause holds them already (8), above V (5), and last of all
+// where the completed prefix has no room (3 at the end, after 9 and 10).
+fn free() {
+    run_list(
+        Kind::Text,
+        b"free, no sets|p cnf 3 2\n3 -1 0\n1 0\n|\
+          free before an e set|p cnf 3 1\ne 2 0\n3 -2 1 0\n|\
+          free before an a set|p cnf 3 1\na 2 0\n-3 2 1 0\n|\
+          free between listed numbers|p cnf 4 1\na 4 0\ne 1 0\n1 -3 2 4 0\n|\
+          free and not in a clause|p cnf 4 1\ne 3 0\n-2 0\n|\
+          free in two clauses|p cnf 2 2\n2 0\n-2 0\n|\
+          free, with room|p cnf 4 1\ne 4 3 0\n2 1 0\n|\
+          free, one without room|p cnf 5 1\ne 4 3 5 0\n2 1 0\n|\
+          free without room, clause not closed|p cnf 5 1\ne 4 3 5 0\n2 1\n|\
+          free without room, clause missing|p cnf 5 2\ne 4 3 5 0\n2 1 0\n|\
+          free without room, token after clause C|p cnf 5 1\ne 4 3 5 0\n2 1 0\n1\n|\
+          free repeated|p cnf 2 1\n2 1 2 0\n|\
+          free opposed|p cnf 2 1\ne 1 0\n2 1 -2 0\n|\
+          free above V|p cnf 2 1\n1 3 0\n|\
+          fifth listed without room, ahead of free|p cnf 6 1\ne 1 2 3 4 5 0\n6 0\n|",
     );
 }
 
@@ -262,7 +283,7 @@ fn later_lines() {
           later, bad token over 127|c \xc3\xa4\r\np cnf 2 1\r\ne\t1 2 0\r\n1 \xc3\xa4 0\r\n|\
           later, out of range|c \xc3\xa4\r\np cnf 2 1\r\ne\t1 2 0\r\n1\t-3 0\r\n|\
           later, bound twice|c \xc3\xa4\r\np cnf 2 1\r\ne\t1 2 0\r\na\t1 0\r\n|\
-          later, unbound|c \xc3\xa4\r\np cnf 2 1\r\ne\t1 0\r\n1\t2 0\r\n|\
+          later, no room for the free|c \xc3\xa4\r\np cnf 5 2\r\ne\t1 2 3 0\r\n4\t5 0 1 0\r\n|\
           later, clash|c \xc3\xa4\r\np cnf 2 1\r\ne\t1 2 0\r\n1\t2\r\n\t-1 0\r\n|\
           later, unfinished|c \xc3\xa4\r\np cnf 2 1\r\ne\t1 2 0\r\n1\t2\r\n|\
           later, miscount|c \xc3\xa4\r\np cnf 2 1\r\ne\t1 2 0\r\n1\t0 2 0\r\n|\
@@ -276,6 +297,12 @@ fn tables() {
     lent(b"no prefix table", text, 0, 2);
     lent(b"no clause table", text, 1, 0);
     lent(b"one word and two words", text, 1, 2);
+    lent(
+        b"no prefix table, a free variable",
+        b"p cnf 1 1\n1 0\n",
+        0,
+        2,
+    );
 }
 
 // Both tables whole after a refusal.
@@ -336,6 +363,7 @@ pub fn run() {
     literals();
     literal_tokens();
     clauses();
+    free();
     ends();
     room();
     later_lines();

@@ -4,6 +4,7 @@ use crate::list::run_list;
 use crate::tables;
 use crate::text;
 use caselist::show;
+use caselist::words::first_words;
 use formula::read::ReadAnswer;
 use formula::read::read_formula;
 use formula::write::WriteAnswer;
@@ -53,6 +54,30 @@ fn lent(name: &[u8], prefix: &[i32], clauses: &[i32], bytes: usize) {
 // Writing into 64 bytes.
 pub fn case(name: &[u8], prefix: &[i32], clauses: &[i32]) {
     lent(name, prefix, clauses, 64);
+}
+
+// A text read, and its tables written: what is written speaks of the completed prefix.
+fn rewritten(name: &[u8], text: &[u8]) {
+    let mut prefix = [7i32; 4];
+    let mut clauses = [7i32; 6];
+    match read_formula(text, &mut prefix, &mut clauses) {
+        ReadAnswer::Read {
+            prefix_used,
+            clauses_used,
+            clauses: _,
+        } => case(
+            name,
+            first_words(&prefix, prefix_used),
+            first_words(&clauses, clauses_used),
+        ),
+        ReadAnswer::Refused(r) => show::refused(r),
+    }
+}
+
+// Free variables share the run of an `e` set that comes first, and stand in one of their own before an `a` set.
+fn free() {
+    rewritten(b"free before an e set", b"p cnf 3 1\ne 2 0\n3 -2 1 0\n");
+    rewritten(b"free before an a set", b"p cnf 3 1\na 2 0\n-3 2 1 0\n");
 }
 
 // The example into so many bytes.
@@ -141,6 +166,7 @@ fn longest_prefix() {
 // All of them.
 pub fn run() {
     formulas();
+    free();
     room();
     longest_prefix();
 }

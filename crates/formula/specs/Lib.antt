@@ -1,5 +1,5 @@
 -- The definitions that layer 1's contracts cite. What a reader must believe: Bounds, Word, Position, Refusal, Prefix, Tables, Decode (tables),
--- Token, Text (reading), Decimal, Write, Clear, Words, RoundTrip. For inner contracts: Store, Write/Stream, and
+-- Token, Text, Free (reading), Decimal, Write, Clear, Words, RoundTrip. For inner contracts: Store, Write/Stream, Position/Cursor, Token/Scan, Free/Complete, and
 -- the stages of reading in Text/{Header,Sets,Clauses,Fill}.
 pub mod Bounds
 pub mod Word
@@ -14,5 +14,6 @@ pub mod Store
 pub mod Write
 pub mod Position
 pub mod Token
+pub mod Free
 pub mod Text
 pub mod RoundTrip

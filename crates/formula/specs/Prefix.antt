@@ -2,9 +2,10 @@
 -- speaks of the entries; the check of tables alone judges the words. Laws are in Prefix/Laws.antt.
 pub mod Laws
 use Prim.Native.Nat.{ℕ, suc, _+_, _≤_}
+use mathlib.Core.Path.{_≡_}
 use mathlib.Core.Bool.{Bool, true, false, _&&_, _||_}
 use mathlib.Core.List.{List, [], _∷_, map, List·Memᴰ}
-use lib.ListN.{length, getD, set, drop}
+use lib.ListN.{length, getD, set, take, drop}
 use lib.Dec.{ltb, eqb}
 use lib.IntN.{ℤ, pos, negsuc, negℤ}
 use Rattle.qbf.specs.Formula.{Quantifier, existential, universal, Entry, entry, Prefix}
@@ -62,6 +63,13 @@ putEntry ws used x = set ws used (entryWord x)
 
 unfoldable pub usedAfter : ℕ → ℕ
 usedAfter used = used + 1
+
+-- How many words so many entries have; the words used of a table moved on by so many.
+unfoldable pub entryWords : ℕ → ℕ
+entryWords n = n
+
+abbrev pub Moved : (used by : ℕ) (table table′ : List ℤ) → Type 0
+Moved used by table table′ = take used (drop by table′) ≡ take used table
 
 -- An entry as the code has it.
 abbrev pub quantifierOf : Bool → Quantifier

@@ -1,5 +1,5 @@
--- Reading a formula's text (01, "Formula text" and the order "Text"): 2 on length, then tokens from the left, at a token 10
--- first, then 1, 4, 5, 2, 6, 7, 8, 3; at the end 1, 9, then 10. A state goes over the tokens; a refusal stops it.
+-- Reading a formula's text (01, "Formula text" and the order "Text"; 02, P2): 2 on length, then tokens from the left, at a token 10
+-- first, then 1, 4, 5, 2, 6, 8, 3; at the end 1, 9, 10, then 3 for the completed prefix. A state goes over the tokens; a refusal stops it.
 -- What the stages of reading answer, each from its state and place on, is in Header, Sets, Clauses, Fill: a stage that goes on
 -- hands over a state and a place from which the text is read as the same. Laws are in Laws and in each stage's.
 pub mod Examples
@@ -12,18 +12,19 @@ pub mod Distinct
 pub mod Admits
 use Prim.Native.Nat.{ℕ, zero, suc, _-_}
 use mathlib.Core.Path.{_≡_}
-use mathlib.Core.Bool.{Bool, true, false, not}
+use mathlib.Core.Bool.{Bool, true, false, not, _&&_}
 use mathlib.Core.Option.{Option, none, some}
 use mathlib.Core.List.{List, [], _∷_, _++_}
-use lib.ListN.{length, replicate}
-use lib.Dec.{leb, ltb, eqb}
-use lib.IntN.{ℤ, pos, negsuc, negℤ}
+use lib.ListN.{length}
+use lib.Dec.{leb, ltb}
+use lib.IntN.{ℤ, pos, negsuc}
 use Rattle.formula.specs.Bounds.{variableBound, countBound, matrixBound, textBound}
 use Rattle.formula.specs.Clear.{filledUp}
 use Rattle.qbf.specs.Formula.{Quantifier, existential, universal, entry, Prefix, listed}
 use Rattle.formula.specs.Refusal.{refusal, inText, require, unless}
 use Rattle.formula.specs.Word.{signed}
 use Rattle.formula.specs.Prefix.{entryFits, prefixWords}
+use Rattle.formula.specs.Free.{completed}
 use Rattle.formula.specs.Tables.{isIn, zeros}
 use Rattle.formula.specs.Token.{Token, tokens, tokensAt, same, pText, cnfText, aText, eText, Number, natural, negative, noNumber, numberOf}
 use Rattle.formula.specs.declared.refusal.Refusal.{Refusal}
@@ -35,7 +36,6 @@ use Rattle.formula.specs.declared.refusal.Reason.the-variants.{
   BadToken,
   OutOfRange,
   BoundTwice,
-  Unbound,
   Clash,
   Unfinished,
   Miscount,
@@ -43,7 +43,7 @@ use Rattle.formula.specs.declared.refusal.Reason.the-variants.{
 use Rattle.formula.specs.declared.read.ReadAnswer.{ReadAnswer}
 use Rattle.formula.specs.declared.read.ReadAnswer.the-variants.{Read, Refused}
 
--- What a text is read as: the words of the prefix and of the clauses, closing zeros included, and C; or a refusal.
+-- What a text is read as: the words of the completed prefix and of the clauses, closing zeros included, and C; or a refusal.
 pub data Reading : Type 0 where
   read : (prefix clauses : List ℤ) (count : ℕ) → Reading
   refused : Refusal → Reading
@@ -89,15 +89,13 @@ unfoldable pub variableReason : (v n : ℕ) (known fits : Bool) → Option Reaso
 variableReason v n known fits =
     require (leb n v) (some OutOfRange) (require (not known) (some BoundTwice) (require fits (some NoRoom) none))
 
--- Why a literal of the variable n is not written: 5, 2, 7, 8, 3. `bound` says whether a set lists it, `clash` whether its clause
--- holds it; `used` words are used of `room`.
-unfoldable pub literalReason : (v n : ℕ) (bound clash : Bool) (used room : ℕ) → Option Reason
-literalReason v n bound clash used room =
-    require (leb n v) (some OutOfRange)
+-- Why a literal of the variable n is not written: 5, 2, 8, 3. `clash` says whether its clause holds n; `used` words are used of `room`.
+unfoldable pub literalReason : (v n : ℕ) (clash : Bool) (used room : ℕ) → Option Reason
+literalReason v n clash used room =
+    require (ltb 0 n && leb n v) (some OutOfRange)
     (require (ltb used matrixBound) (some Oversized)
-    (require bound (some Unbound)
     (require (not clash) (some Clash)
-    (require (ltb used room) (some NoRoom) none))))
+    (require (ltb used room) (some NoRoom) none)))
 
 -- Why a clause's closing 0, which is a clause word too, is not written: 2, 3.
 unfoldable pub closingReason : (used room : ℕ) → Option Reason
@@ -125,7 +123,7 @@ module _ (prefixRoom clauseRoom : ℕ) where
   -- A token of a clause: a literal, or the closing 0.
   abbrev pub putLiteral : (at v c : ℕ) (P : Prefix) (words : List ℤ) (positive : Bool) → ℕ → State
   putLiteral at v c P words positive n =
-      unless (stopped at) (literalReason v n (isIn n (listed P)) (isIn n (openClause words)) (length words) clauseRoom)
+      unless (stopped at) (literalReason v n (isIn n (openClause words)) (length words) clauseRoom)
       (clauses v c P (words ++ (signed positive n ∷ [])))
 
   abbrev pub clauseNumber : (at v c : ℕ) (P : Prefix) (words : List ℤ) → ℕ → State
@@ -168,27 +166,35 @@ abbrev pub clausesEnding : List ℕ → (clauseOpen missing : Bool) → Reading 
 clausesEnding text clauseOpen missing done =
     require (not clauseOpen) (refused (atEnd text Unfinished)) (require (not missing) (refused (atEnd text Miscount)) done)
 
+-- The completed prefix, last of all, needs room; then it and the clause words are read.
+abbrev pub completing : (prefixRoom : ℕ) → List ℕ → Prefix → List ℤ → (c : ℕ) → Reading
+completing prefixRoom text P words c = require (leb (length (prefixWords P)) prefixRoom) (refused (atEnd text NoRoom)) (read (prefixWords P) words c)
+
+-- The text ends after these sets and clause words: 9, 10, then 3.
+abbrev pub tablesEnding : (prefixRoom : ℕ) → List ℕ → (v c : ℕ) → Prefix → List ℤ → Reading
+tablesEnding prefixRoom text v c P words =
+    clausesEnding text (isOpen (openClause words)) (ltb (zeros words) c) (completing prefixRoom text (completed v P words) words c)
+
 -- What is read where the text ends in a state. A refusal has the line and the column of its place in the text.
-unfoldable pub ending : List ℕ → State → Reading
-ending text wantsP = refused (atEnd text Headless)
-ending text wantsCnf = refused (atEnd text Headless)
-ending text wantsV = refused (atEnd text Headless)
-ending text (wantsC v) = refused (atEnd text Headless)
-ending text (betweenSets v c P) = clausesEnding text false (ltb 0 c) (read (prefixWords P) [] c)
-ending text (inSet v c q filled P) = refused (atEnd text Unfinished)
-ending text (clauses v c P words) =
-    clausesEnding text (isOpen (openClause words)) (ltb (zeros words) c) (read (prefixWords P) words c)
-ending text (stopped at r) = refused (inText text at r)
+unfoldable pub ending : (prefixRoom : ℕ) → List ℕ → State → Reading
+ending prefixRoom text wantsP = refused (atEnd text Headless)
+ending prefixRoom text wantsCnf = refused (atEnd text Headless)
+ending prefixRoom text wantsV = refused (atEnd text Headless)
+ending prefixRoom text (wantsC v) = refused (atEnd text Headless)
+ending prefixRoom text (betweenSets v c P) = tablesEnding prefixRoom text v c P []
+ending prefixRoom text (inSet v c q filled P) = refused (atEnd text Unfinished)
+ending prefixRoom text (clauses v c P words) = tablesEnding prefixRoom text v c P words
+ending prefixRoom text (stopped at r) = refused (inText text at r)
 
 -- What a text is read as, with so many words of room for the prefix and for the clauses.
 unfoldable pub reading : List ℕ → (prefixRoom clauseRoom : ℕ) → Reading
 reading text prefixRoom clauseRoom =
     require (leb (length text) textBound) (refused (refusal Oversized 0))
-    (ending text (run prefixRoom clauseRoom wantsP (tokens text)))
+    (ending prefixRoom text (run prefixRoom clauseRoom wantsP (tokens text)))
 
 -- What the text is read as from a state and a place on.
 abbrev pub readingFrom : (prefixRoom clauseRoom : ℕ) → List ℕ → State → ℕ → Reading
-readingFrom prefixRoom clauseRoom text s at = ending text (run prefixRoom clauseRoom s (tokensAt text at))
+readingFrom prefixRoom clauseRoom text s at = ending prefixRoom text (run prefixRoom clauseRoom s (tokensAt text at))
 
 -- What `read_formula` answers, and what it leaves in the tables: the words read, then zeros.
 abbrev pub readAnswer : Reading → ReadAnswer

@@ -1,5 +1,5 @@
-// The clauses of a formula's text: literals, each clause closed by 0. A variable's mark is 0 where no set lists it, and the
-// number of clauses closed so far, plus 2, where the open clause holds it.
+// The clauses of a formula's text: literals, each clause closed by 0. A variable's mark is twice the number of the last clause that
+// holds it, and 1 more where a set lists it.
 use crate::bounds::MatrixLength;
 use crate::position::Position;
 use crate::refusal::Reason;
@@ -28,9 +28,9 @@ pub enum ClauseStep {
     Refused(Reason),
 }
 
-// The clause words used.
+// The clause words used, and the text's end.
 pub enum ClausesAnswer {
-    Clauses { used: usize },
+    Clauses { used: usize, end: Position },
     Refused(Refusal),
 }
 
@@ -43,32 +43,25 @@ fn mark_of(marks: &[usize; 1025], n: usize) -> usize
 }
 
 // The refusals of a literal, in their order.
-fn judge_literal(
-    variables: usize,
-    n: usize,
-    bound: bool,
-    clash: bool,
-    used: usize,
-    room: usize,
-) -> ClauseStep
-    ensures { λ r. ⌜ r ≡ literalStep (literalReason variables n bound clash used room) ⌝ }
+fn judge_literal(variables: usize, n: usize, clash: bool, used: usize, room: usize) -> ClauseStep
+    ensures { λ r. ⌜ r ≡ literalStep (literalReason variables n clash used room) ⌝ }
 {
+    if n < 1 {
+        return ClauseStep::Refused(Reason::OutOfRange);
+    }
     if variables < n {
         return ClauseStep::Refused(Reason::OutOfRange);
     }
     if MatrixLength::MAX <= used {
         return ClauseStep::Refused(Reason::Oversized);
     }
-    if bound {
-        if clash {
-            return ClauseStep::Refused(Reason::Clash);
-        }
-        if room <= used {
-            return ClauseStep::Refused(Reason::NoRoom);
-        }
-        return ClauseStep::Literal;
+    if clash {
+        return ClauseStep::Refused(Reason::Clash);
     }
-    ClauseStep::Refused(Reason::Unbound)
+    if room <= used {
+        return ClauseStep::Refused(Reason::NoRoom);
+    }
+    ClauseStep::Literal
 }
 
 // Writes a literal of the variable n and marks it, unless it is refused.
@@ -86,12 +79,12 @@ fn put_literal(
 {
     let mark = mark_of(marks, n);
     let room = clauses.len();
-    match judge_literal(variables, n, 0 < mark, mark == closed + 2, used, room) {
+    match judge_literal(variables, n, mark / 2 == closed + 1, used, room) {
         ClauseStep::Refused(r) => ClauseStep::Refused(r),
         ClauseStep::Closed => ClauseStep::Closed,
         ClauseStep::Literal => {
             clauses[used] = signed_word(positive, n);
-            marks[n] = closed + 2;
+            marks[n] = 2 * (closed + 1) + mark % 2;
             ClauseStep::Literal
         }
     }
@@ -150,7 +143,7 @@ fn clauses_end(
     if closed < count {
         return ClausesAnswer::Refused(Refusal::in_text(Reason::Miscount, end));
     }
-    ClausesAnswer::Clauses { used }
+    ClausesAnswer::Clauses { used, end }
 }
 
 // The clauses, from the position after the sets on.
@@ -164,7 +157,7 @@ pub fn read_clauses(
 ) -> ClausesAnswer
     requires { ⌜ PositionIn (now text) from × (length (now text) ≤ textBound) ⌝ }
     requires { ⌜ (variables ≤ variableBound) × (count ≤ countBound) × (length (now marks) ≡ 1025) ⌝ }
-    ensures { λ r. ⌜ ((prefixRoom : ℕ) (P : Prefix) → Listed (now (marks .entry)) P → ClausesPost (now (text .entry)) (from .place) variables count prefixRoom P (now (clauses .entry)) (now (clauses .exit)) r) ⌝ }
+    ensures { λ r. ⌜ ((prefixRoom : ℕ) (P : Prefix) → Listed (now (marks .entry)) P → ClausesPost (now (text .entry)) (from .place) variables count prefixRoom P (now (clauses .entry)) (now (clauses .exit)) (now (marks .exit)) r) ⌝ }
 {
     let mut at = from;
     let mut used = 0;

@@ -3,6 +3,7 @@ pub mod bounds;
 mod clauses;
 pub mod clear;
 pub mod decimal;
+mod free;
 mod header;
 pub mod literal;
 pub mod position;

@@ -29,17 +29,13 @@ impl Position {
         requires { ⌜ (self .place + 1 < 2 ^ 64) × (self .line + 1 < 2 ^ 64) × (self .column + 1 < 2 ^ 64) ⌝ }
         ensures { λ r. ⌜ r ≡ past self b ⌝ }
     {
-        if b == b'\n' {
-            return Position {
-                place: self.place + 1,
-                line: self.line + 1,
-                column: 1,
-            };
-        }
+        let feed = b == b'\n';
+        let line = if feed { self.line + 1 } else { self.line };
+        let column = if feed { 1 } else { self.column + 1 };
         Position {
             place: self.place + 1,
-            line: self.line,
-            column: self.column + 1,
+            line,
+            column,
         }
     }
 

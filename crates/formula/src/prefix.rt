@@ -1,14 +1,14 @@
 // The prefix table as entries: how many there are, the entry at a place, the entries after the first, an entry put behind those
-// that stand. Nothing else reads or writes prefix words, but for the check of tables, which judges them.
+// that stand, entries moved on. Nothing else reads or writes prefix words, but for the check of tables, which judges them.
 use crate::literal::Variable;
 use crate::word::Word;
 use crate::word::signed_word;
 ghost use mathlib.Core.Path.{_≡_};
 ghost use mathlib.Core.Bool.{true};
-ghost use Prim.Native.Nat.{_<_, _≤_};
+ghost use Prim.Native.Nat.{_+_, _<_, _≤_};
 ghost use lib.ListN.{length};
 ghost use Rattle.formula.specs.Bounds.{variableBound};
-ghost use Rattle.formula.specs.Prefix.{entryCount, entryAt, entryShown, laterEntries, quantifierOf, entryFits, usedAfter, putEntry, Entries};
+ghost use Rattle.formula.specs.Prefix.{entryCount, entryAt, entryShown, laterEntries, quantifierOf, entryFits, usedAfter, putEntry, entryWords, Moved, Entries};
 ghost use Rattle.qbf.specs.Formula.{entry};
 
 // A variable with its quantifier.
@@ -74,4 +74,24 @@ pub fn put_entry(prefix: &mut [i32], used: usize, existential: bool, variable: V
 {
     prefix[used] = signed_word(existential, variable.0);
     used + 1
+}
+
+// How many words so many entries have.
+pub fn entry_words(entries: usize) -> usize
+    ensures { λ r. ⌜ r ≡ entryWords entries ⌝ }
+{
+    entries
+}
+
+// Moves the entries in the words used on by so many words, the last one first.
+pub fn move_entries(prefix: &mut [i32], used: usize, by: usize)
+    requires { ⌜ by + used ≤ length (now prefix) ⌝ }
+    ensures { λ r. ⌜ Moved used by (now (prefix .entry)) (now (prefix .exit)) ⌝ }
+{
+    let mut i = used;
+    while 0 < i {
+        let j = i - 1;
+        prefix[by + j] = prefix[j];
+        i = j;
+    }
 }

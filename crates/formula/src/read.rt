@@ -4,6 +4,8 @@ use crate::bounds::TextLength;
 use crate::clauses::ClausesAnswer;
 use crate::clauses::read_clauses;
 use crate::clear::clear_words;
+use crate::free::Completion;
+use crate::free::complete;
 use crate::header::HeaderAnswer;
 use crate::header::read_header;
 use crate::position::Position;
@@ -29,7 +31,8 @@ pub enum ReadAnswer {
     Refused(Refusal),
 }
 
-// The sets and the clauses, from the position after the header on. Past the used part the tables hold anything.
+// The sets and the clauses, from the position after the header on, then the variables that no set binds. Past the used part the tables
+// hold anything.
 fn fill_tables(
     text: &[u8],
     from: Position,
@@ -48,11 +51,18 @@ fn fill_tables(
         SetsAnswer::Sets { used, next } => {
             match read_clauses(text, next, variables, count, clauses, &mut marks) {
                 ClausesAnswer::Refused(r) => ReadAnswer::Refused(r),
-                ClausesAnswer::Clauses { used: words } => ReadAnswer::Read {
-                    prefix_used: used,
-                    clauses_used: words,
-                    clauses: count,
-                },
+                ClausesAnswer::Clauses { used: words, end } => {
+                    match complete(prefix, used, variables, &marks) {
+                        Completion::NoRoom => {
+                            ReadAnswer::Refused(Refusal::in_text(Reason::NoRoom, end))
+                        }
+                        Completion::Completed(total) => ReadAnswer::Read {
+                            prefix_used: total,
+                            clauses_used: words,
+                            clauses: count,
+                        },
+                    }
+                }
             }
         }
     }

@@ -6,7 +6,7 @@ ghost use Prim.Native.Nat.{_+_, _-_, _^_, _≤_, _<_};
 ghost use lib.ListN.{length, getD, take, drop};
 ghost use lib.Dec.{eqb};
 ghost use Rattle.formula.specs.Bounds.{textBound};
-ghost use Rattle.formula.specs.Position.{lineFeed, positionAt};
+ghost use Rattle.formula.specs.Position.{lineFeed};
 ghost use Rattle.formula.specs.Position.Cursor.{position, PositionIn};
 ghost use Rattle.formula.specs.Token.{lineStep, isBlank, isDigit, leadStep, firstToken, same, tokensAt};
 ghost use Rattle.formula.specs.Token.Scan.{numeral, nextOf, moreDigits, DigitsRead, SkipPost};

@@ -13,6 +13,7 @@ use lib.ListN.{length, drop, length-drop}
 use Rattle.qbf.specs.Formula.{Quantifier, entry, Prefix, listed}
 use Rattle.formula.specs.Bounds.{variableBound, countBound, textBound}
 use Rattle.formula.specs.Position.{lineAt, columnAt}
+use Rattle.formula.specs.Free.{completed}
 use Rattle.formula.specs.Prefix.{entryFits, prefixWords}
 use Rattle.formula.specs.Refusal.{refusal, number, inText, require, unless}
 use Rattle.formula.specs.Tables.{isIn, zeros}
@@ -43,7 +44,9 @@ use Rattle.formula.specs.Text.{
   clauseToken,
   step,
   run,
+  atEnd,
   clausesEnding,
+  tablesEnding,
   ending,
   reading,
 }
@@ -51,7 +54,7 @@ use Rattle.formula.specs.Word.{signed}
 use Rattle.formula.specs.declared.token.Lead.{Lead}
 use Rattle.formula.specs.declared.token.Lead.the-variants.{LineStart, InLine, Comment, Over}
 use Rattle.formula.specs.declared.refusal.Reason.{Reason}
-use Rattle.formula.specs.declared.refusal.Reason.the-variants.{Headless, Oversized, BadToken, Unfinished, Miscount}
+use Rattle.formula.specs.declared.refusal.Reason.the-variants.{Headless, Oversized, NoRoom, BadToken, Unfinished, Miscount}
 use Rattle.formula.specs.declared.refusal.Refusal.{Refusal}
 
 -- 2 has place, line and column 0; any other reason has a place in the text, with its line and its column.
@@ -132,7 +135,7 @@ module _ (prefixRoom clauseRoom n at : ℕ) (h : at ≤ n) where
 
   literal-in : (v c : ℕ) (P : Prefix) (words : List ℤ) (positive : Bool) (k : ℕ) → stoppedAt (putLiteral prefixRoom clauseRoom at v c P words positive k) ≤ n
   literal-in v c P words positive k =
-      unless-in (literalReason v k (isIn k (listed P)) (isIn k (openClause words)) (length words) clauseRoom) (clauses v c P (words ++ (signed positive k ∷ []))) (omega arith)
+      unless-in (literalReason v k (isIn k (openClause words)) (length words) clauseRoom) (clauses v c P (words ++ (signed positive k ∷ []))) (omega arith)
 
   clause-token-in : (v c : ℕ) (P : Prefix) (words : List ℤ) (m : Number) → stoppedAt (clauseToken prefixRoom clauseRoom at v c P words m) ≤ n
   clause-token-in v c P words (natural zero) = unless-in (closingReason (length words) clauseRoom) (clauses v c P (words ++ (pos 0 ∷ []))) (omega arith)
@@ -183,29 +186,34 @@ module _ (text : List ℕ) where
   ReadPlaced (read prefix words count) = Unit {0}
   ReadPlaced (refused r) = PlacedIn text r
 
-  clauses-placed : (o m : Bool) (prefix words : List ℤ) (count : ℕ) → ReadPlaced (clausesEnding text o m (read prefix words count))
-  clauses-placed true m prefix words count = end-placed Unfinished
-  clauses-placed false true prefix words count = end-placed Miscount
-  clauses-placed false false prefix words count = tt
+  clauses-placed : (o m f : Bool) (prefix words : List ℤ) (count : ℕ) → ReadPlaced (clausesEnding text o m (require f (refused (atEnd text NoRoom)) (read prefix words count)))
+  clauses-placed true m f prefix words count = end-placed Unfinished
+  clauses-placed false true f prefix words count = end-placed Miscount
+  clauses-placed false false true prefix words count = tt
+  clauses-placed false false false prefix words count = end-placed NoRoom
 
-  ending-placed : (s : State) → stoppedAt s ≤ length text → ReadPlaced (ending text s)
+  tables-placed : (prefixRoom v c : ℕ) (P : Prefix) (words : List ℤ) → ReadPlaced (tablesEnding prefixRoom text v c P words)
+  tables-placed prefixRoom v c P words =
+      clauses-placed (isOpen (openClause words)) (ltb (zeros words) c) (leb (length (prefixWords (completed v P words))) prefixRoom) (prefixWords (completed v P words)) words c
+
+  ending-placed : (prefixRoom : ℕ) (s : State) → stoppedAt s ≤ length text → ReadPlaced (ending prefixRoom text s)
   unfolding ending
-  ending-placed wantsP h = end-placed Headless
-  ending-placed wantsCnf h = end-placed Headless
-  ending-placed wantsV h = end-placed Headless
-  ending-placed (wantsC v) h = end-placed Headless
-  ending-placed (betweenSets v c P) h = clauses-placed false (ltb 0 c) (prefixWords P) [] c
-  ending-placed (inSet v c q filled P) h = end-placed Unfinished
-  ending-placed (clauses v c P words) h = clauses-placed (isOpen (openClause words)) (ltb (zeros words) c) (prefixWords P) words c
-  ending-placed (stopped at r) h = in-text-placed at r h
+  ending-placed prefixRoom wantsP h = end-placed Headless
+  ending-placed prefixRoom wantsCnf h = end-placed Headless
+  ending-placed prefixRoom wantsV h = end-placed Headless
+  ending-placed prefixRoom (wantsC v) h = end-placed Headless
+  ending-placed prefixRoom (betweenSets v c P) h = tables-placed prefixRoom v c P []
+  ending-placed prefixRoom (inSet v c q filled P) h = end-placed Unfinished
+  ending-placed prefixRoom (clauses v c P words) h = tables-placed prefixRoom v c P words
+  ending-placed prefixRoom (stopped at r) h = in-text-placed at r h
 
   reading-placed : (prefixRoom clauseRoom : ℕ) → ReadPlaced (reading text prefixRoom clauseRoom)
   unfolding reading
   reading-placed prefixRoom clauseRoom = go (leb (length text) textBound)
     where
-      go : (b : Bool) → ReadPlaced (require b (refused (refusal Oversized 0)) (ending text (run prefixRoom clauseRoom wantsP (tokens text))))
+      go : (b : Bool) → ReadPlaced (require b (refused (refusal Oversized 0)) (ending prefixRoom text (run prefixRoom clauseRoom wantsP (tokens text))))
       go true =
-          ending-placed (run prefixRoom clauseRoom wantsP (tokens text))
+          ending-placed prefixRoom (run prefixRoom clauseRoom wantsP (tokens text))
           (run-in prefixRoom clauseRoom (length text) wantsP (tokens text) (tokens-in text) (omega arith))
       go false = oversized-placed
 

@@ -3,14 +3,16 @@
 use Prim.Native.Nat.{ℕ}
 use mathlib.Core.Path.{_≡_, refl, _∙_, subst}
 use mathlib.Core.Bool.{Bool, true, false}
+use mathlib.Core.Logic.{_⊎_, inl, inr}
 use mathlib.Core.List.{List}
 use lib.Dec.{leb}
 use lib.IntN.{ℤ}
 use lib.ListN.{length}
-use Rattle.formula.specs.Prefix.{entryCount}
+use Rattle.formula.specs.Decode.{formulaOf}
+use Rattle.formula.specs.Prefix.{prefixOf, entryCount}
 use Rattle.formula.specs.Refusal.{refusal, require}
 use Rattle.formula.specs.Text.{read, refused, reading}
-use Rattle.formula.specs.declared.refusal.Reason.the-variants.{Oversized}
+use Rattle.formula.specs.declared.refusal.Reason.the-variants.{Oversized, NoRoom}
 use Rattle.formula.specs.declared.refusal.Refusal.{Refusal}
 use Rattle.checker.specs.File.{ProofReading, proofReading}
 use Rattle.checker.specs.File.{read as readSteps, refused as refusedFile}
@@ -21,8 +23,9 @@ use Rattle.checker.specs.declared.verdict.Verdict.the-variants.{Accepted, Refus
 use Rattle.report.specs.Line.{acceptedLine, refusedLine, settled}
 use Rattle.report.specs.Check.{Room, settledProof, verdictLine, stepsLine, checkLine}
 use Rattle.report.specs.Check.Laws.{refused-line, read-line}
-use Rattle.report.specs.Dependents.{dependencyText}
-use Rattle.report.specs.Dependents.Laws.{text-refused}
+use Rattle.dependency.specs.Scratch.{scratchBound}
+use Rattle.report.specs.Dependents.{universalLines, tablesText, dependencyText}
+use Rattle.report.specs.Dependents.Laws.{text-refused, text-read}
 use Rattle.places.specs.InText.{PlacedIn, ReadPlaced, oversized-placed, refused-placed}
 use Rattle.places.specs.Elsewhere.{Unplaced, FileIn, file-unplaced, verdict-unplaced}
 
@@ -75,3 +78,17 @@ module _ (room : Room) (formula proof : List ℕ) (prefix clauses : List ℤ) (c
       go : (s : ProofReading) → steps ≡ s → ProofLine (checkLine room formula proof)
       go (readSteps words) f = judged words f (verdictOf plainRules prefix clauses words (room .scratch) (room .offsets)) refl
       go (refusedFile r) f = refuses r (settled-proof-unplaced r f) (whole ∙ rw f)
+
+-- The second program's text for a formula that is read: 3 for scratch, which has no line and no column, or the universals' lines.
+pub dependency-read-text :
+    (room : Room) (formula : List ℕ) (prefix clauses : List ℤ) (count : ℕ) → settled (room .file) formula (room .prefix) (room .clauses) ≡ read prefix clauses count
+    → (dependencyText room formula ≡ refusedLine (refusal NoRoom 0)) ⊎ (dependencyText room formula ≡ universalLines (formulaOf prefix clauses) (prefixOf prefix) (prefixOf prefix))
+unfolding tablesText
+dependency-read-text room formula prefix clauses count e = go (leb scratchBound (room .scratch)) (text-read room formula prefix clauses count e)
+  where
+    lines : List ℕ
+    lines = universalLines (formulaOf prefix clauses) (prefixOf prefix) (prefixOf prefix)
+
+    go : (b : Bool) → dependencyText room formula ≡ require b (refusedLine (refusal NoRoom 0)) lines → (dependencyText room formula ≡ refusedLine (refusal NoRoom 0)) ⊎ (dependencyText room formula ≡ lines)
+    go true f = inr f
+    go false f = inl f

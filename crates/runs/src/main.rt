@@ -1,10 +1,11 @@
 // The two programs run on pairs of files of data/: each pair is named, then come the first program's line and the second
-// program's lines. The file stdout holds what 01 says of each, worked out without the programs.
+// program's lines. The file stdout holds what 01 and 02 say of each, worked out without the programs.
 //
 // Not here, since files of 65,536 bytes cannot have it: more than 16,384 step words (3 at 0) and a distance above 4 × 1,048,576
 // (2), for a proof file has at most 16,381 words ahead of its trailer and a distance past its start is 11; more than 16,384
 // numbered clauses (3), for a step has at least 4 words, so that there are at most 8,192 + 4,095 of them; and more than 65,536
-// clause words (2), for each takes two bytes of the text. No program asks for a row of anything but a universal (20).
+// clause words (2), for each takes two bytes of the text. No program asks for a row of anything but a universal (20), 1,024 words hold every
+// completed prefix (3), and no text leaves a variable unbound (7).
 use files::print_first;
 use programs::check_files;
 use programs::dependency_file;
@@ -35,7 +36,7 @@ fn refused_proof(proof: &[u8]) {
 }
 
 // Proofs that are right: with a note ahead of the steps, without steps, with steps behind the empty clause; dependents in
-// prefix order.
+// prefix order; the example without a set for its outermost variable, and all 1,024 variables without one.
 fn accepted() {
     run(b"formula/example", b"proof/example");
     run(b"formula/example", b"proof/noted");
@@ -44,6 +45,8 @@ fn accepted() {
     run(b"formula/reduction", b"proof/after-empty");
     run(b"formula/dependents", b"proof/dependents");
     run(b"formula/prefix-order", b"proof/prefix-order");
+    run(b"formula/free", b"proof/example");
+    run(b"formula/free-1024", b"proof/no-steps-4");
 }
 
 // Files as long as is taken and one byte longer; the bounds on variables and on clauses and 16,384 clause words, all reached; and
@@ -95,11 +98,10 @@ fn sets() {
     refused_formula(b"formula/clauses-0");
 }
 
-// 4, 5, 7 and 8 in clauses.
+// 4, 5 and 8 in clauses.
 fn clauses() {
     refused_formula(b"formula/glued-token");
     refused_formula(b"formula/above-v");
-    refused_formula(b"formula/unbound");
     refused_formula(b"formula/opposed");
     refused_formula(b"formula/repeated");
 }

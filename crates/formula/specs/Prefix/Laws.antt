@@ -1,24 +1,25 @@
 -- Laws of the prefix table: how many entries there are, the entry at a place and those after it, and an entry put behind the
 -- words used. Definitions: Prefix. Assumes nothing.
 use Prim.Native.Nat.{ℕ, zero, suc, _+_, _≤_, _<_}
-use mathlib.Core.Path.{_≡_, refl, ap, sym}
+use mathlib.Core.Path.{_≡_, refl, ap, sym, _∙_}
 use mathlib.Core.Logic.{_⊎_, inl, inr}
 use mathlib.Core.Bool.{true, false, _&&_, _||_, false≢true}
 use mathlib.Core.List.{List, [], _∷_, _++_, map, List·Memᴰ, List·Memᴰ·head, List·Memᴰ·tail, List·Memᴰ·not-nil, List·Memᴰ·cases-cons, Memᴰ·map, Memᴰ·of-map}
+use native.Mathlib.Decide.{ℕ-discrete}
 use native.Mathlib.Numerals.{add-one}
 use native.Mathlib.Nat.{le-of-suc-le-suc, not-suc-le-zero}
 use native.Mathlib.Omega.{arith}
 use borrow.Author.Tests.{ltb-true, lt-ltb, eqb-true, eq-eqb}
-use lib.ListN.{length, getD, take, drop}
+use lib.ListN.{length, getD, set, take, drop, length-set, length-drop}
 use lib.Dec.{eqb}
-use lib.Seq.{drop-cons, take-suc-set}
+use lib.Seq.{drop-cons, drop-set-lt, take-suc-set, getD-set-same, getD-set-other, getD-take, getD-drop, ext-getD, length-take-le}
 use lib.IntN.{ℤ, pos, negsuc, negℤ, natAbs}
 use Rattle.qbf.specs.Formula.{Quantifier, existential, universal, Entry, entry, Prefix, listed}
 use Rattle.qbf.specs.Connectives.{and-both, or-either, or-right}
 use Rattle.formula.specs.Bounds.{variableBound}
 use Rattle.formula.specs.Word.{wordOf}
 use Rattle.formula.specs.Word.Laws.{positive-word, negative-word, negative-bounded}
-use Rattle.formula.specs.Prefix.{entryOf, prefixOf, signedBy, entryWord, prefixWords, entryCount, entryAt, laterEntries, entryFits, putEntry, usedAfter, entryShown, isQuantifier, quantifies, Entries}
+use Rattle.formula.specs.Prefix.{entryOf, prefixOf, signedBy, entryWord, prefixWords, entryCount, entryAt, laterEntries, entryFits, putEntry, usedAfter, entryWords, Moved, entryShown, isQuantifier, quantifies, Entries}
 use Rattle.formula.specs.declared.literal.Variable.{Variable}
 use Rattle.formula.specs.declared.word.Word.the-variants.{Positive, Negative}
 use Rattle.formula.specs.declared.prefix.Entry.the-variants.{Existential, Universal}
@@ -77,8 +78,8 @@ unfolding prefixWords
 words-append [] Q = refl
 words-append (x ∷ P) Q = ap {B = List ℤ} (λ r. entryWord x ∷ r) (words-append P Q)
 
-pub words-length : (P : Prefix) → length (prefixWords P) ≡ length P
-unfolding prefixWords
+pub words-length : (P : Prefix) → length (prefixWords P) ≡ entryWords (length P)
+unfolding prefixWords entryWords
 words-length [] = refl
 words-length (x ∷ P) = ap suc (words-length P)
 
@@ -173,6 +174,19 @@ pub put-entries :
 put-entries ws used v q h l =
     rw (put-entry ws used (entry v q) h, prefix-append (take used ws) (prefixWords (entry v q ∷ [])), words-entry q v l)
 
+-- How many words are used then; a table keeps its length, and what is behind the entry.
+pub used-after : (used : ℕ) (x : Entry) → usedAfter used ≡ used + length (prefixWords (x ∷ []))
+unfolding usedAfter prefixWords
+used-after used x = refl
+
+pub put-same : (ws : List ℤ) (used : ℕ) (x : Entry) → length (putEntry ws used x) ≡ length ws
+unfolding putEntry
+put-same ws used x = length-set ws used (entryWord x)
+
+pub put-before : (ws : List ℤ) (used : ℕ) (x : Entry) (k : ℕ) → usedAfter used ≤ k → drop k (putEntry ws used x) ≡ drop k ws
+unfolding putEntry usedAfter
+put-before ws used x k h = drop-set-lt k ws used (entryWord x) (omega arith)
+
 pub put-more : (used : ℕ) → used < usedAfter used
 unfolding usedAfter
 put-more used = omega arith
@@ -184,6 +198,46 @@ entry-room room used x P h = lt-ltb used room (omega arith)
 pub put-within : (room used : ℕ) → entryFits room used ≡ true → usedAfter used ≤ room
 unfolding entryFits usedAfter
 put-within room used h = omega (arith, ltb-true used room h)
+
+pub words-rise : (m n : ℕ) → m ≤ n → entryWords m ≤ entryWords n
+unfolding entryWords
+words-rise m n h = h
+
+-- Words moved on by so many places, the last one first: those from the place i on are moved.
+pub record MovedSoFar (used by : ℕ) (table₀ table : List ℤ) (i : ℕ) : Type 0 where
+  pub left : i ≤ used
+  pub same : length table ≡ length table₀
+  pub before : (k : ℕ) → k < i → getD table k (pos 0) ≡ getD table₀ k (pos 0)
+  pub after : (k : ℕ) → i ≤ k → k < used → getD table (by + k) (pos 0) ≡ getD table₀ k (pos 0)
+
+pub move-begins : (used by : ℕ) (table : List ℤ) → MovedSoFar used by table table used
+move-begins used by table = record { left = omega arith; same = refl; before = λ k h. refl; after = λ k h l. absurd (omega arith) }
+
+module _ {used by : ℕ} {table₀ table : List ℤ} (room : by + used ≤ length table₀) where
+  pub move-step : {i : ℕ} (j : ℕ) → i ≡ suc j → MovedSoFar used by table₀ table i → MovedSoFar used by table₀ (set table (by + j) (getD table j (pos 0))) j
+  move-step {i} j e M =
+      record {
+        left = omega (arith, M .left);
+        same = length-set table (by + j) (getD table j (pos 0)) ∙ M .same;
+        before = λ k h. getD-set-other table (by + j) k (getD table j (pos 0)) (pos 0) (λ q. omega (arith, q, h)) ∙ M .before k (omega (arith, e, h));
+        after = λ k h l. after k h l (ℕ-discrete k j);
+      }
+    where
+      after : (k : ℕ) → j ≤ k → k < used → Dec (k ≡ j) → getD (set table (by + j) (getD table j (pos 0))) (by + k) (pos 0) ≡ getD table₀ k (pos 0)
+      after k h l (yes q) =
+          rw q (getD-set-same table (by + j) (getD table j (pos 0)) (pos 0) (omega (arith, M .same, M .left, e, room)) ∙ M .before j (omega (arith, e)))
+      after k h l (no q) =
+          getD-set-other table (by + j) (by + k) (getD table j (pos 0)) (pos 0) (λ r. q (omega (arith, r)))
+          ∙ M .after k (omega (arith, h, q, e)) l
+
+  pub move-ends : MovedSoFar used by table₀ table 0 → Moved used by table₀ table
+  move-ends M =
+      let a : length (take used (drop by table)) ≡ used = length-take-le used (drop by table) (omega (arith, length-drop by table, M .same, room)) in
+      let b : length (take used table₀) ≡ used = length-take-le used table₀ (omega (arith, room)) in
+      ext-getD (pos 0) (take used (drop by table)) (take used table₀) (a ∙ sym b)
+      (λ k h.
+      rw (getD-take used (drop by table) k (pos 0) (omega (arith, a, h)), getD-drop by table k (pos 0), getD-take used table₀ k (pos 0) (omega (arith, a, h)))
+      (M .after k (omega arith) (omega (arith, a, h))))
 
 -- `quantifies` tests membership.
 quantifier-sound : (q r : Quantifier) → isQuantifier q r ≡ true → r ≡ q

@@ -2,17 +2,17 @@
 -- none is missing. Assumes nothing.
 use Prim.Native.Nat.{ℕ, zero, suc, _+_, _<_, _≤_}
 use mathlib.Core.Path.{_≡_, refl, sym, _∙_}
-use mathlib.Core.Bool.{Bool, true, false}
+use mathlib.Core.Bool.{Bool, true, false, false≢true}
 use mathlib.Core.Option.{Option, none, some}
 use mathlib.Core.List.{List, [], _∷_, _++_, append-assoc, append-nil}
+use native.Mathlib.Decide.{ℕ-discrete}
 use native.Mathlib.Omega.{arith}
-use borrow.Author.Tests.{lt-ltb, le-leb}
+use borrow.Author.Tests.{lt-ltb, le-leb, ne-eqb}
 use lib.ListN.{length, length-append}
-use lib.Dec.{ltb}
 use lib.IntN.{ℤ, pos, negsuc, natAbs}
 use Rattle.formula.specs.Bounds.{variableBound, matrixBound}
 use Rattle.qbf.specs.Formula.{Prefix, listed}
-use Rattle.formula.specs.Prefix.{prefixWords}
+use Rattle.formula.specs.Free.{occurs}
 use Rattle.formula.specs.Word.{wordOf, signed as withSign}
 use Rattle.formula.specs.Decode.Laws.{positive-magnitude}
 use Rattle.formula.specs.Tables.{isIn, zeros, literalWord, clauseWord, clausesEnd, clausesRefusal}
@@ -20,7 +20,7 @@ use Rattle.formula.specs.Tables.Laws.{Kind, kind, closing, large, signed
 use Rattle.formula.specs.Write.Stream.{wordText, clausesText}
 use Rattle.formula.specs.Decimal.{decimal}
 use Rattle.formula.specs.Token.{isBlank, same, aText, eText, numberOf}
-use Rattle.formula.specs.Text.{read, State, betweenSets, clauses, openFrom, openClause, isOpen, literalReason, closingReason, clausesToken, step, clausesEnding, ending}
+use Rattle.formula.specs.Text.{State, betweenSets, clauses, openClause, isOpen, literalReason, closingReason, clausesToken, step, tablesEnding, ending}
 use Rattle.formula.specs.Text.Clauses.Laws.{open-literal, open-closing, zeros-literal, zeros-closing}
 use Rattle.formula.specs.RoundTrip.Scan.{Takes, takes-none, takes-append, takes-token, IsRun, decimal-run, decimal-number, minus-number, decimal-unlike}
 use Rattle.formula.specs.RoundTrip.Prefix.{zero-run, space-blank, feed-blank}
@@ -36,12 +36,12 @@ refused : {r : Refusal} {A : Type 0} → _≡_ {A = Option Refusal} (some r) non
 refused e = let z : _≡_ {A = ℕ} 0 1 = cc in absurd (omega arith)
 
 -- A literal that passes the check: its variable is listed, its clause does not hold it, and what follows passes.
-record LiteralPasses (known : ℕ → Bool) (seen : List ℕ) (w : ℤ) (next : List ℕ → Option Refusal) : Type 0 where
-  bound : known (natAbs w) ≡ true
-  new : isIn (natAbs w) seen ≡ false
-  later : next (natAbs w ∷ seen) ≡ none
+pub record LiteralPasses (known : ℕ → Bool) (seen : List ℕ) (w : ℤ) (next : List ℕ → Option Refusal) : Type 0 where
+  pub bound : known (natAbs w) ≡ true
+  pub new : isIn (natAbs w) seen ≡ false
+  pub later : next (natAbs w ∷ seen) ≡ none
 
-literal-passes :
+pub literal-passes :
     (known : ℕ → Bool) (at : ℕ) (seen : List ℕ) (next : List ℕ → Option Refusal) (w : ℤ)
     → 1 ≤ natAbs w → clauseWord known at seen (wordOf w) next ≡ none → LiteralPasses known seen w next
 literal-passes known at seen next w p h = go (kind w)
@@ -59,7 +59,7 @@ literal-passes known at seen next w p h = go (kind w)
     go (signed l u) = judged (known (natAbs w)) (isIn (natAbs w) seen) refl refl (sym (clause-word-literal known at seen next w l u) ∙ h)
 
 -- A clause that was begun is closed by a later 0.
-begun-closes : (known : ℕ → Bool) (at v : ℕ) (seen : List ℕ) (ws : List ℤ) → clausesRefusal known at (v ∷ seen) ws ≡ none → 1 ≤ zeros ws
+pub begun-closes : (known : ℕ → Bool) (at v : ℕ) (seen : List ℕ) (ws : List ℤ) → clausesRefusal known at (v ∷ seen) ws ≡ none → 1 ≤ zeros ws
 unfolding clausesRefusal zeros
 begun-closes known at v seen [] h = refused h
 begun-closes known at v seen (pos zero ∷ ws) h = omega arith
@@ -69,6 +69,20 @@ begun-closes known at v seen (pos (suc n) ∷ ws) h =
 begun-closes known at v seen (negsuc n ∷ ws) h =
     begun-closes known (at + 1) (suc n) (v ∷ seen) ws
     (literal-passes known at (v ∷ seen) (λ s. clausesRefusal known (at + 1) s ws) (negsuc n) (omega arith) h .later)
+
+-- Clauses that pass hold no variable that is not known.
+pub all-known : (known : ℕ → Bool) (at : ℕ) (seen : List ℕ) (ws : List ℤ) → clausesRefusal known at seen ws ≡ none → (n : ℕ) → 1 ≤ n → occurs n ws ≡ true → known n ≡ true
+unfolding clausesRefusal occurs wordOf
+all-known known at seen [] h n l o = absurd (false≢true o)
+all-known known at seen (w ∷ ws) h n l o = go (ℕ-discrete n (natAbs w)) (kind w) (λ s g. all-known known (at + 1) s ws g n l)
+  where
+    go : Dec (n ≡ natAbs w) → Kind w → ((s : List ℕ) → clausesRefusal known (at + 1) s ws ≡ none → occurs n ws ≡ true → known n ≡ true) → known n ≡ true
+    go (yes e) k later =
+        rw e (literal-passes known at seen (λ s. clausesRefusal known (at + 1) s ws) w (omega (arith, l, e)) h .bound)
+    go (no e) (closing z) later = later [] (rw z at h) (rw (ne-eqb n (natAbs w) e) at o)
+    go (no e) (large k) later = refused (sym (clause-word-large known at seen (λ s. clausesRefusal known (at + 1) s ws) w k) ∙ h)
+    go (no e) (signed k u) later =
+        later (natAbs w ∷ seen) (literal-passes known at seen (λ s. clausesRefusal known (at + 1) s ws) w k h .later) (rw (ne-eqb n (natAbs w) e) at o)
 
 -- A word's sign as the reader keeps it.
 unfoldable positive : ℤ → Bool
@@ -81,10 +95,10 @@ signed-word (pos n) h = refl
 signed-word (negsuc n) h = refl
 
 -- One more literal: it stands first in the open clause, and closes none.
-open-word : (ws : List ℤ) (w : ℤ) → 1 ≤ natAbs w → openClause (ws ++ (w ∷ [])) ≡ natAbs w ∷ openClause ws
+pub open-word : (ws : List ℤ) (w : ℤ) → 1 ≤ natAbs w → openClause (ws ++ (w ∷ [])) ≡ natAbs w ∷ openClause ws
 open-word ws w h = rw (signed-word w h) at (open-literal [] ws (positive w) (natAbs w) (λ e. omega arith))
 
-zeros-word : (ws : List ℤ) (w : ℤ) → 1 ≤ natAbs w → zeros (ws ++ (w ∷ [])) ≡ zeros ws
+pub zeros-word : (ws : List ℤ) (w : ℤ) → 1 ≤ natAbs w → zeros (ws ++ (w ∷ [])) ≡ zeros ws
 zeros-word ws w h = rw (signed-word w h) at (zeros-literal ws (positive w) (natAbs w) (λ e. omega arith))
 
 module _ (prefixRoom clauseRoom v c : ℕ) (P : Prefix) where
@@ -97,13 +111,13 @@ module _ (prefixRoom clauseRoom v c : ℕ) (P : Prefix) where
     pub steps :
         (bytes : List ℕ) (at : ℕ) → same bytes eText ≡ false → same bytes aText ≡ false
         → step prefixRoom clauseRoom s (record { bytes = bytes; place = at }) ≡ clausesToken prefixRoom clauseRoom at v c P done (numberOf bytes)
-    pub ends : (text : List ℕ) → ending text s ≡ clausesEnding text (isOpen (openClause done)) (ltb (zeros done) c) (read (prefixWords P) done c)
+    pub ends : (text : List ℕ) → ending prefixRoom text s ≡ tablesEnding prefixRoom text v c P done
 
   pub among-sets : Among (betweenSets v c P) []
-  unfolding step ending openFrom zeros
+  unfolding step ending
   among-sets = record { steps = λ t at e a. rw (e, a); ends = λ at. refl }
 
-  among-clauses : (done : List ℤ) → Among (clauses v c P done) done
+  pub among-clauses : (done : List ℤ) → Among (clauses v c P done) done
   unfolding step ending
   among-clauses done = record { steps = λ t at e a. refl; ends = λ at. refl }
 
@@ -128,11 +142,11 @@ module _ (prefixRoom clauseRoom v c : ℕ) (P : Prefix) where
 
   puts :
       (s : State) (done : List ℤ) (w : ℤ) → Among s done → Room done → v ≤ variableBound
-      → 1 ≤ natAbs w → natAbs w ≤ v → known (natAbs w) ≡ true → isIn (natAbs w) (openClause done) ≡ false
+      → 1 ≤ natAbs w → natAbs w ≤ v → isIn (natAbs w) (openClause done) ≡ false
       → Takes prefixRoom clauseRoom s (wordText w) (clauses v c P (done ++ (w ∷ [])))
   unfolding wordText literalReason same
-  puts s done (pos zero) a r b l h e f = absurd (omega arith)
-  puts s done (pos (suc n)) a r b l h e f =
+  puts s done (pos zero) a r b l h f = absurd (omega arith)
+  puts s done (pos (suc n)) a r b l h f =
       takes-token prefixRoom clauseRoom 32
       (clauses v c P (done ++ (pos (suc n) ∷ [])))
       (decimal-run (suc n))
@@ -142,13 +156,13 @@ module _ (prefixRoom clauseRoom v c : ℕ) (P : Prefix) where
       ∙ rw (
         decimal-number (suc n),
         lt-ltb (zeros done) c (r .count),
+        lt-ltb 0 (suc n) (omega arith),
         le-leb (suc n) v h,
         lt-ltb (length done) matrixBound (r .words),
-        e,
         f,
         lt-ltb (length done) clauseRoom (r .room),
       ))
-  puts s done (negsuc n) a r b l h e f =
+  puts s done (negsuc n) a r b l h f =
       takes-token prefixRoom clauseRoom 32
       (clauses v c P (done ++ (negsuc n ∷ [])))
       (minus-run (suc n))
@@ -158,9 +172,9 @@ module _ (prefixRoom clauseRoom v c : ℕ) (P : Prefix) where
       ∙ rw (
         minus-number (suc n) (omega arith),
         lt-ltb (zeros done) c (r .count),
+        lt-ltb 0 (suc n) (omega arith),
         le-leb (suc n) v h,
         lt-ltb (length done) matrixBound (r .words),
-        e,
         f,
         lt-ltb (length done) clauseRoom (r .room),
       ))
@@ -179,7 +193,7 @@ module _ (prefixRoom clauseRoom v c : ℕ) (P : Prefix) where
     pub among : Among after all
     pub shut : isOpen (openClause all) ≡ false
 
-  nothing-open : (at : ℕ) (seen : List ℕ) → clausesEnd at seen ≡ none → isOpen seen ≡ false
+  pub nothing-open : (at : ℕ) (seen : List ℕ) → clausesEnd at seen ≡ none → isOpen seen ≡ false
   nothing-open at [] h = refl
   nothing-open at (u ∷ seen) h = refused h
 
@@ -208,7 +222,7 @@ module _ (prefixRoom clauseRoom v c : ℕ) (P : Prefix) where
         let k : 1 ≤ zeros ws = begun-closes known (at + 1) (natAbs w) (openClause done) ws (q .later) in
         let r : Room done =
         record { count = omega (arith, h .count, z, k); words = omega (arith, h .words); room = omega (arith, h .room) } in (
-          puts s done w a r b l (below (natAbs w) (q .bound)) (q .bound) (q .new),
+          puts s done w a r b l (below (natAbs w) (q .bound)) (q .new),
           record {
             passes = rw (open-word done w l) (q .later);
             count = rw (zeros-word done w l) (omega (arith, h .count, z));

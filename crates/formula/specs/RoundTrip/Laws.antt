@@ -13,6 +13,8 @@ use lib.Dec.{leb}
 use lib.IntN.{ℤ}
 use Rattle.qbf.specs.Formula.{Entry, Prefix, listed}
 use Rattle.formula.specs.Bounds.{textBound}
+use Rattle.formula.specs.Free.{completed}
+use Rattle.formula.specs.Free.Laws.{completed-listed}
 use Rattle.formula.specs.Prefix.{prefixOf, prefixWords}
 use Rattle.formula.specs.Prefix.Laws.{prefix-words}
 use Rattle.formula.specs.Tables.{isIn, zeros, prefixRefusal, clausesRefusal, listedIn, sized, firstRefusal, ifSized, tablesRefusal, Admitted}
@@ -28,11 +30,12 @@ use Rattle.formula.specs.Write.Stream.{clausesText}
 use Rattle.formula.specs.Write.Lines.{written-stream}
 use Rattle.formula.specs.Write.Length.{largest-bounded, written-fits}
 use Rattle.formula.specs.Token.{isBlank, leadFrom, tokensFrom, tokens}
+use Rattle.formula.specs.Text.Admits.{read-admitted}
 use Rattle.formula.specs.Text.{read, wantsP, betweenSets, openFrom, run, ending, reading, ReadPost}
 use Rattle.formula.specs.RoundTrip.{ReadBack}
 use Rattle.formula.specs.RoundTrip.Scan.{Takes, takes-append}
 use Rattle.formula.specs.RoundTrip.Prefix.{Lists, header-takes, prefix-taken}
-use Rattle.formula.specs.RoundTrip.Clauses.{Passes, AllRead, among-sets, clauses-reads}
+use Rattle.formula.specs.RoundTrip.Clauses.{all-known, Passes, AllRead, among-sets, clauses-reads}
 use Rattle.formula.specs.declared.refusal.Refusal.{Refusal}
 use Rattle.formula.specs.declared.read.ReadAnswer.{ReadAnswer}
 use Rattle.formula.specs.declared.write.WriteAnswer.the-variants.{Written}
@@ -53,7 +56,7 @@ listed-largest P n h =
     omega (arith, t .2, member-largest P (t .0) (t .1))
 
 -- The part of the check that judges the clause words.
-clauses-pass : (p c : List ℤ) → Admitted p c → clausesRefusal (listedIn p) 0 [] c ≡ none
+pub clauses-pass : (p c : List ℤ) → Admitted p c → clausesRefusal (listedIn p) 0 [] c ≡ none
 unfolding tablesRefusal
 clauses-pass p c a = go (sized p c) (prefixRefusal 0 [] p) (a .passes)
   where
@@ -117,13 +120,27 @@ module _ (p c : List ℤ) (prefixRoom clauseRoom : ℕ) (a : Admitted p c) (h : 
       ap (run prefixRoom clauseRoom wantsP) (tokens-written ∙ ap (tokensFrom 0 []) (sym (append-nil (written p c))))
       ∙ text-taken .takes 0 []
 
-  ending-written : (text : List ℕ) → ending text (clauses-read .after) ≡ read p c (zeros c)
-  ending-written text = clauses-read .among .ends text ∙ rw (clauses-read .shut, le-ltb (zeros c) (zeros c) (omega arith), prefix-words p)
+  -- Every variable of the clauses is listed, so the prefix is complete.
+  complete-written : completed (largest (prefixOf p)) (prefixOf p) c ≡ prefixOf p
+  complete-written = completed-listed (largest (prefixOf p)) (prefixOf p) c (all-known (listedIn p) 0 [] c (clauses-pass p c a))
+
+  ending-written : (text : List ℕ) → ending prefixRoom text (clauses-read .after) ≡ read p c (zeros c)
+  ending-written text =
+      clauses-read .among .ends text
+      ∙ rw (clauses-read .shut, le-ltb (zeros c) (zeros c) (omega arith), complete-written, prefix-words p, le-leb (length p) prefixRoom h)
 
   -- What is written is read as the tables that it was written from.
   pub written-read : reading (written p c) prefixRoom clauseRoom ≡ read p c (zeros c)
   unfolding reading
   written-read = rw (le-leb (length (written p c)) textBound (written-fits p c a), run-written) (ending-written (written p c))
+
+-- What is read, written and read again is the same: the completed prefix is listed whole.
+pub read-written :
+    (text : List ℕ) (prefixRoom clauseRoom : ℕ) (p c : List ℤ) (count : ℕ) → reading text prefixRoom clauseRoom ≡ read p c count
+    → (prefixRoom′ clauseRoom′ : ℕ) → length p ≤ prefixRoom′ → length c ≤ clauseRoom′ → reading (written p c) prefixRoom′ clauseRoom′ ≡ read p c count
+read-written text prefixRoom clauseRoom p c count e prefixRoom′ clauseRoom′ h k =
+    let a = read-admitted text prefixRoom clauseRoom p c count e in
+    written-read p c prefixRoom′ clauseRoom′ (a .admitted) h k ∙ rw (a .counted)
 
 -- A text that was written: the tables are admitted, and its used part is the written text.
 record WasWritten (p c : List ℤ) (used : ℕ) (text : List ℕ) : Type 0 where

@@ -1,8 +1,8 @@
 -- Pieces of text under the reader: bytes that are one token, numbers among them, and a piece that takes one state of the reader to
 -- another. Each is said at any place and before any rest, so places are never computed.
-use Prim.Native.Nat.{ℕ, suc, _+_, _*_, _-_, _/_, _%_, _<_, _≤_}
-use mathlib.Core.Path.{_≡_, refl, ap, sym, _∙_}
-use mathlib.Core.Bool.{Bool, true, false, _&&_, cond, false≢true}
+use Prim.Native.Nat.{ℕ, suc, _+_, _-_, _/_, _%_, _<_, _≤_}
+use mathlib.Core.Path.{_≡_, refl, ap, _∙_}
+use mathlib.Core.Bool.{true, false, false≢true}
 use mathlib.Core.List.{List, [], _∷_, _++_, append-assoc, append-nil}
 use native.Mathlib.Nat.{add-zero}
 use native.Mathlib.Omega.{arith}
@@ -14,7 +14,7 @@ use Rattle.qbf.specs.Connectives.{and-both, both-and}
 use Rattle.formula.specs.Decimal.{decimal}
 use Rattle.formula.specs.Decimal.Laws.{decimal-induction}
 use Rattle.formula.specs.Position.{lineFeed}
-use Rattle.formula.specs.Token.{isDigit, isBlank, Token, emit, tokensFrom, same, natural, negative, allDigits, valueFrom, isNumeral, numberOf}
+use Rattle.formula.specs.Token.{isDigit, isBlank, Token, tokensFrom, same, natural, negative, allDigits, valueFrom, isNumeral, numberOf}
 use Rattle.formula.specs.Token.Numbers.{all-snoc, value-snoc}
 use Rattle.formula.specs.Text.{State, step, run}
 

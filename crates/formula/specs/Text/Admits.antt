@@ -1,21 +1,21 @@
--- What is read is admitted: the words that a text is read as pass the check of tables, and C is their number of clauses.
--- A property of each state is kept by every token. Assumes nothing.
+-- What is read is admitted: the words that a text is read as, with the completed prefix, pass the check of tables, and C is their number
+-- of clauses. A property of each state is kept by every token. Assumes nothing.
 use Prim.Native.Nat.{ℕ, zero, suc, _+_, _≤_, _<_}
-use mathlib.Core.Path.{_≡_, refl, ap, _∙_}
-use mathlib.Core.Bool.{Bool, true, false, or-comm}
+use mathlib.Core.Path.{_≡_, refl, ap, sym, _∙_, subst}
+use mathlib.Core.Bool.{Bool, true, false, _||_, or-true, or-false, false≢true}
 use mathlib.Core.Option.{Option, none, some}
 use mathlib.Core.List.{List, [], _∷_, _++_, append-assoc, append-nil}
-use native.Mathlib.Numerals.{add-one}
+use native.Mathlib.Decide.{ℕ-discrete}
 use native.Mathlib.Omega.{arith}
-use borrow.Author.Tests.{ltb-true, ltb-false, leb-true, le-leb}
-use lib.ListN.{length, length-append}
+use borrow.Author.Tests.{ltb-true, ltb-false, leb-true, le-leb, eq-eqb, ne-eqb}
+use lib.ListN.{length, length-append, length-map}
 use lib.Dec.{leb, ltb, eqb}
 use lib.IntN.{ℤ, pos}
 use Rattle.formula.specs.Bounds.{variableBound, countBound, matrixBound, textBound}
-use Rattle.qbf.specs.Formula.{Quantifier, existential, universal, entry, Prefix, listed}
+use Rattle.qbf.specs.Formula.{Quantifier, existential, universal, Entry, entry, Prefix, listed}
 use Rattle.formula.specs.Word.{wordOf, signed}
-use Rattle.formula.specs.Prefix.{entryWord, prefixWords, entryFits}
-use Rattle.formula.specs.Prefix.Laws.{words-listed, words-append, words-length}
+use Rattle.formula.specs.Prefix.{entryWord, prefixWords, entryFits, entryWords}
+use Rattle.formula.specs.Prefix.Laws.{words-listed, words-length}
 use Rattle.formula.specs.Refusal.{refusal, require, unless}
 use Rattle.formula.specs.Tables.{
   isIn,
@@ -28,12 +28,13 @@ use Rattle.formula.specs.Tables.{
   Admitted,
 }
 use Rattle.formula.specs.Token.{Token, same, pText, cnfText, aText, eText, Number, natural, negative, noNumber, numberOf, tokens}
-use Rattle.formula.specs.Text.{read, refused, State, wantsP, wantsCnf, wantsV, wantsC, betweenSets, inSet, clauses, stopped, openClause, openFrom, isOpen, headerNumber, opens, setToken, putLiteral, clauseToken, clausesToken, clausesEnding, step, run, ending, reading}
+use Rattle.formula.specs.Text.{Reading, read, refused, State, wantsP, wantsCnf, wantsV, wantsC, betweenSets, inSet, clauses, stopped, openClause, openFrom, isOpen, headerNumber, opens, setToken, putLiteral, clauseToken, clausesToken, atEnd, clausesEnding, tablesEnding, step, run, ending, reading}
 use Rattle.formula.specs.Text.Laws.{variable-fine, literal-fine, closing-fine}
-use Rattle.formula.specs.Text.Distinct.{Apart, Ranged, ranged-in, apart-few}
-use Rattle.formula.specs.Text.Sets.Laws.{listed-snoc}
-use Rattle.formula.specs.Text.Clauses.Laws.{open-literal, open-closing, zeros-literal, zeros-closing}
-use Rattle.formula.specs.declared.refusal.Reason.the-variants.{Headless, Oversized, BadToken, Miscount}
+use Rattle.formula.specs.Text.Distinct.{Apart, Ranged, apart-append, ranged-append, ranged-each, rising-apart, apart-few}
+use Rattle.formula.specs.Free.{occurs, existentials, completed}
+use Rattle.formula.specs.Free.Laws.{listed-append, listed-existentials, completion, completed-lists}
+use Rattle.formula.specs.Text.Clauses.Laws.{open-literal, open-closing, zeros-literal, zeros-closing, occurs-literal, occurs-closing}
+use Rattle.formula.specs.declared.refusal.Reason.the-variants.{Headless, Oversized, NoRoom, BadToken, Miscount}
 use Rattle.formula.specs.declared.refusal.Reason.{Reason}
 use Rattle.formula.specs.declared.refusal.Refusal.{Refusal}
 
@@ -55,57 +56,96 @@ clause-word known at seen false (suc n) next z h = rw (le-leb (suc n) variableBo
 length-snoc : (ws : List ℤ) (w : ℤ) → length (ws ++ (w ∷ [])) ≡ length ws + 1
 length-snoc ws w = length-append ws (w ∷ [])
 
--- The words of the entries pass: what follows them is checked as if their variables were seen.
-pub record PrefixPasses (v : ℕ) (P : Prefix) : Type 0 where
-  pub seen : List ℕ
-  pub agrees : (n : ℕ) → isIn n seen ≡ isIn n (listed P)
-  pub passes : (rest : List ℤ) → prefixRefusal 0 [] (prefixWords P ++ rest) ≡ prefixRefusal (length (prefixWords P)) seen rest
-  pub apart : Apart seen
-  pub ranged : Ranged v seen
-  pub long : length P ≡ length seen
+-- The entries list different variables from 1 to v.
+pub record PrefixFine (v : ℕ) (P : Prefix) : Type 0 where
+  pub apart : Apart (listed P)
+  pub ranged : Ranged v (listed P)
 
-prefix-empty : (v : ℕ) → PrefixPasses v []
-unfolding prefixWords
-prefix-empty v = record { seen = []; agrees = λ n. refl; passes = λ rest. refl; apart = tt; ranged = tt; long = refl }
+-- Their words pass the check.
+prefix-passes :
+    (v : ℕ) → v ≤ variableBound → (at : ℕ) (seen : List ℕ) (P : Prefix) → PrefixFine v P → ((n : ℕ) → isIn n (listed P) ≡ true → isIn n seen ≡ false)
+    → prefixRefusal at seen (prefixWords P) ≡ none
+unfolding prefixRefusal prefixWords isIn
+prefix-passes v b at seen [] F fresh = refl
+prefix-passes v b at seen (x ∷ P) F fresh =
+    prefix-entry at seen (x .quantifier) (x .variable) (prefixWords P) (λ z. omega (arith, F .ranged .0, z)) (omega (arith, b, F .ranged .1)) (fresh (x .variable) (rw (eq-eqb (x .variable) (x .variable) refl)))
+    ∙ prefix-passes v b _ (x .variable ∷ seen) P (record { apart = F .apart .1; ranged = F .ranged .2 }) (λ n e. later n e (ℕ-discrete n (x .variable)))
+  where
+    later : (n : ℕ) → isIn n (listed P) ≡ true → Dec (n ≡ x .variable) → (eqb n (x .variable) || isIn n seen) ≡ false
+    later n e (yes q) = absurd (false≢true (sym (F .apart .0) ∙ rw q at e))
+    later n e (no q) = rw (ne-eqb n (x .variable) q) (fresh n (rw e (or-true (eqb n (x .variable)))))
 
-prefix-more : (v : ℕ) (P : Prefix) (q : Quantifier) (n : ℕ) → v ≤ variableBound → PrefixPasses v P → (n ≡ 0 → ⊥) → n ≤ v → isIn n (listed P) ≡ false → PrefixPasses v (P ++ (entry n q ∷ []))
+prefix-empty : (v : ℕ) → PrefixFine v []
+prefix-empty v = record { apart = tt; ranged = tt }
+
+prefix-more : (v : ℕ) (P : Prefix) (q : Quantifier) (n : ℕ) → PrefixFine v P → 1 ≤ n → n ≤ v → isIn n (listed P) ≡ false → PrefixFine v (P ++ (entry n q ∷ []))
 unfolding isIn
-prefix-more v P q n b h z l f =
-    let absent : isIn n (h .seen) ≡ false = h .agrees n ∙ f in
-    let w = prefixWords (entry n q ∷ []) in
+prefix-more v P q n F z l f =
     record {
-      seen = n ∷ h .seen;
-      agrees = λ m. rw (listed-snoc m P n q, ← h .agrees m) (or-comm (eqb m n) (isIn m (h .seen)));
-      passes = λ rest. rw (words-append P (entry n q ∷ []), append-assoc, h .passes (w ++ rest), prefix-entry (length (prefixWords P)) (h .seen) q n rest z (omega (arith, b, l)) absent, length-append (prefixWords P) w);
-      apart = (absent, h .apart);
-      ranged = (omega (arith, z), l, h .ranged);
-      long = rw (length-append P (entry n q ∷ []), h .long) (add-one (length (h .seen)));
+      apart = subst Apart (sym (listed-append P (entry n q ∷ []))) (apart-append (listed P) (n ∷ []) (F .apart) (refl, tt) (λ m e. only m e (ℕ-discrete m n)));
+      ranged = subst (Ranged v) (sym (listed-append P (entry n q ∷ []))) (ranged-append v (listed P) (n ∷ []) (F .ranged) (z, l, tt));
+    }
+  where
+    only : (m : ℕ) → isIn m (listed P) ≡ true → Dec (m ≡ n) → (eqb m n || false) ≡ false
+    only m e (yes k) = absurd (false≢true (sym f ∙ rw k at e))
+    only m e (no k) = rw (ne-eqb m n k)
+
+-- The completed prefix does so too.
+completed-fine : (v : ℕ) (P : Prefix) (words : List ℤ) → PrefixFine v P → PrefixFine v (completed v P words)
+completed-fine v P words F =
+    let C = completion v P words in
+    let e : listed (completed v P words) ≡ C .added ++ listed P = listed-append (existentials (C .added)) P ∙ ap (λ (ns : List ℕ). ns ++ listed P) (listed-existentials (C .added)) in
+    record {
+      apart = subst Apart (sym e) (apart-append (C .added) (listed P) (rising-apart 0 v (C .added) (C .rising)) (F .apart) (λ n m. C .only n m .3));
+      ranged = subst (Ranged v) (sym e) (ranged-append v (C .added) (listed P) (ranged-each v (C .added) (λ n m. (C .only n m .0, C .only n m .1))) (F .ranged));
     }
 
--- The clause words pass: what follows them is checked with the open clause as seen.
-pub record ClausesPass (c : ℕ) (P : Prefix) (words : List ℤ) : Type 0 where
-  pub passes : (rest : List ℤ) → clausesRefusal (λ m. isIn m (listed P)) 0 [] (words ++ rest) ≡ clausesRefusal (λ m. isIn m (listed P)) (length words) (openClause words) rest
+-- The clause words pass for whatever prefix has their variables: what follows them is checked with the open clause as seen.
+pub record ClausesPass (v c : ℕ) (words : List ℤ) : Type 0 where
+  pub passes :
+      (known : ℕ → Bool) → ((n : ℕ) → 1 ≤ n → occurs n words ≡ true → known n ≡ true)
+      → (rest : List ℤ) → clausesRefusal known 0 [] (words ++ rest) ≡ clausesRefusal known (length words) (openClause words) rest
+  pub ranged : (n : ℕ) → 1 ≤ n → occurs n words ≡ true → n ≤ v
   pub short : length words ≤ matrixBound
   pub few : zeros words ≤ c
 
-clauses-empty : (c : ℕ) (P : Prefix) → ClausesPass c P []
-unfolding openFrom zeros
-clauses-empty c P = record { passes = λ rest. refl; short = omega arith; few = omega arith }
-
-clauses-literal : (c : ℕ) (P : Prefix) (words : List ℤ) (positive : Bool) (n : ℕ) → ClausesPass c P words → (n ≡ 0 → ⊥) → n ≤ variableBound → isIn n (listed P) ≡ true → isIn n (openClause words) ≡ false → length words < matrixBound → ClausesPass c P (words ++ (signed positive n ∷ []))
-unfolding clausesRefusal
-clauses-literal c P words positive n K z h known apart l =
+clauses-empty : (v c : ℕ) → ClausesPass v c []
+unfolding openFrom zeros occurs
+clauses-empty v c =
     record {
-      passes = λ rest. rw (append-assoc, K .passes (signed positive n ∷ rest), clause-word (λ m. isIn m (listed P)) (length words) (openClause words) positive n (λ seen. clausesRefusal (λ m. isIn m (listed P)) (length words + 1) seen rest) z h, known, apart, length-snoc words (signed positive n), open-literal [] words positive n z);
-      short = rw (length-snoc words (signed positive n)) (omega arith);
-      few = rw (zeros-literal words positive n z) (K .few);
+      passes = λ known h rest. refl;
+      ranged = λ n l e. absurd (false≢true e);
+      short = omega arith;
+      few = omega arith;
     }
 
-clauses-closing : (c : ℕ) (P : Prefix) (words : List ℤ) → ClausesPass c P words → zeros words < c → length words < matrixBound → ClausesPass c P (words ++ (pos 0 ∷ []))
-unfolding clausesRefusal wordOf
-clauses-closing c P words K k l =
+clauses-literal : (v c : ℕ) (words : List ℤ) (positive : Bool) (n : ℕ) → v ≤ variableBound → ClausesPass v c words → 1 ≤ n → n ≤ v → isIn n (openClause words) ≡ false → length words < matrixBound → ClausesPass v c (words ++ (signed positive n ∷ []))
+unfolding clausesRefusal
+clauses-literal v c words positive n b K l h apart k =
     record {
-      passes = λ rest. rw (append-assoc, K .passes (pos 0 ∷ rest), length-snoc words (pos 0), open-closing [] words);
+      passes = λ known has rest.
+          let before : (m : ℕ) → 1 ≤ m → occurs m words ≡ true → known m ≡ true = λ m i o. has m i (occurs-literal m words positive n ∙ rw o) in
+          let own : known n ≡ true = has n l (occurs-literal n words positive n ∙ rw (eq-eqb n n refl) (or-true (occurs n words))) in
+          rw (append-assoc, K .passes known before (signed positive n ∷ rest), clause-word known (length words) (openClause words) positive n (λ seen. clausesRefusal known (length words + 1) seen rest) proper (omega (arith, b, h)), own, apart, length-snoc words (signed positive n), open-literal [] words positive n proper);
+      ranged = λ m i o. range m i (rw (occurs-literal m words positive n) at o) (ℕ-discrete m n);
+      short = rw (length-snoc words (signed positive n)) (omega arith);
+      few = rw (zeros-literal words positive n proper) (K .few);
+    }
+  where
+    proper : n ≡ 0 → ⊥
+    proper z = omega (arith, l, z)
+
+    range : (m : ℕ) → 1 ≤ m → (occurs m words || eqb m n) ≡ true → Dec (m ≡ n) → m ≤ v
+    range m i o (yes q) = omega (arith, q, h)
+    range m i o (no q) = K .ranged m i (sym (or-false (occurs m words)) ∙ rw (ne-eqb m n q) at o)
+
+clauses-closing : (v c : ℕ) (words : List ℤ) → ClausesPass v c words → zeros words < c → length words < matrixBound → ClausesPass v c (words ++ (pos 0 ∷ []))
+unfolding clausesRefusal wordOf
+clauses-closing v c words K k l =
+    record {
+      passes = λ known has rest.
+          rw (append-assoc, K .passes known (λ n i o. has n i (occurs-closing n words i ∙ o)) (pos 0 ∷ rest), length-snoc words (pos 0), open-closing [] words);
+      ranged = λ n i o. K .ranged n i (sym (occurs-closing n words i) ∙ o);
       short = rw (length-snoc words (pos 0)) (omega arith);
       few = rw (zeros-closing words) k;
     }
@@ -116,10 +156,10 @@ Sound wantsP = Unit {0}
 Sound wantsCnf = Unit {0}
 Sound wantsV = Unit {0}
 Sound (wantsC v) = v ≤ variableBound
-Sound (betweenSets v c P) = (v ≤ variableBound) × (c ≤ countBound) × PrefixPasses v P
-Sound (inSet v c q filled P) = (v ≤ variableBound) × (c ≤ countBound) × PrefixPasses v P
+Sound (betweenSets v c P) = (v ≤ variableBound) × (c ≤ countBound) × PrefixFine v P
+Sound (inSet v c q filled P) = (v ≤ variableBound) × (c ≤ countBound) × PrefixFine v P
 Sound (clauses v c P words) =
-    (v ≤ variableBound) × (c ≤ countBound) × PrefixPasses v P × ClausesPass c P words
+    (v ≤ variableBound) × (c ≤ countBound) × PrefixFine v P × ClausesPass v c words
 Sound (stopped p r) = Unit {0}
 
 unless-sound : (at : ℕ) (x : Option Reason) (s : State) → (x ≡ none → Sound s) → Sound (unless (stopped at) x s)
@@ -136,28 +176,27 @@ number-sound bound at (negative n) next h = tt
 number-sound bound at noNumber next h = tt
 
 module _ (prefixRoom clauseRoom : ℕ) where
-  set-sound : (at v c : ℕ) (q : Quantifier) (filled : Bool) (P : Prefix) (m : Number) → (v ≤ variableBound) × (c ≤ countBound) × PrefixPasses v P → Sound (setToken prefixRoom clauseRoom at v c q filled P m)
+  set-sound : (at v c : ℕ) (q : Quantifier) (filled : Bool) (P : Prefix) (m : Number) → (v ≤ variableBound) × (c ≤ countBound) × PrefixFine v P → Sound (setToken prefixRoom clauseRoom at v c q filled P m)
   set-sound at v c q filled P (natural zero) h =
       require-sound filled at BadToken (betweenSets v c P) (λ e. h)
   set-sound at v c q filled P (natural (suc n)) h =
       unless-sound at _ (inSet v c q true (P ++ (entry (suc n) q ∷ []))) λ e.
       let f = variable-fine v (suc n) (isIn (suc n) (listed P)) (entryFits prefixRoom (length (prefixWords P))) e in
-      (h .0, h .1, prefix-more v P q (suc n) (h .0) (h .2) (λ z. omega arith) (f .inRange) (f .fresh))
+      (h .0, h .1, prefix-more v P q (suc n) (h .2) (omega arith) (f .inRange) (f .fresh))
   set-sound at v c q filled P (negative n) h = tt
   set-sound at v c q filled P noNumber h = tt
 
   literal-sound : (at v c : ℕ) (P : Prefix) (words : List ℤ) (positive : Bool) (n : ℕ) → Sound (clauses v c P words) → Sound (putLiteral prefixRoom clauseRoom at v c P words positive n)
   literal-sound at v c P words positive n h =
       unless-sound at _ (clauses v c P (words ++ (signed positive n ∷ []))) λ e.
-      let f = literal-fine v n (isIn n (listed P)) (isIn n (openClause words)) (length words) clauseRoom e in
-      let r = ranged-in v n (h .2 .seen) (h .2 .ranged) (h .2 .agrees n ∙ f .isBound) in
-      (h .0, h .1, h .2, clauses-literal c P words positive n (h .3) (λ z. omega (arith, r .0)) (omega (arith, h .0, r .1)) (f .isBound) (f .apart) (f .short))
+      let f = literal-fine v n (isIn n (openClause words)) (length words) clauseRoom e in
+      (h .0, h .1, h .2, clauses-literal v c words positive n (h .0) (h .3) (f .least) (f .inRange) (f .apart) (f .short))
 
   clause-sound : (at v c : ℕ) (P : Prefix) (words : List ℤ) (m : Number) → zeros words < c → Sound (clauses v c P words) → Sound (clauseToken prefixRoom clauseRoom at v c P words m)
   clause-sound at v c P words (natural zero) k h =
       unless-sound at _ (clauses v c P (words ++ (pos 0 ∷ []))) λ e.
       let f = closing-fine (length words) clauseRoom e in
-      (h .0, h .1, h .2, clauses-closing c P words (h .3) k (f .short))
+      (h .0, h .1, h .2, clauses-closing v c words (h .3) k (f .short))
   clause-sound at v c P words (natural (suc n)) k h = literal-sound at v c P words true (suc n) h
   clause-sound at v c P words (negative n) k h = literal-sound at v c P words false n h
   clause-sound at v c P words noNumber k h = tt
@@ -167,7 +206,7 @@ module _ (prefixRoom clauseRoom : ℕ) where
       require-sound (ltb (zeros words) c) at Miscount (clauseToken prefixRoom clauseRoom at v c P words m)
       (λ e. clause-sound at v c P words m (ltb-true (zeros words) c e) h)
 
-  opens-sound : (e a : Bool) (v c : ℕ) (P : Prefix) (later : State) → (v ≤ variableBound) × (c ≤ countBound) × PrefixPasses v P → Sound later → Sound (opens e a v c P later)
+  opens-sound : (e a : Bool) (v c : ℕ) (P : Prefix) (later : State) → (v ≤ variableBound) × (c ≤ countBound) × PrefixFine v P → Sound later → Sound (opens e a v c P later)
   opens-sound true a v c P later h k = h
   opens-sound false true v c P later h k = h
   opens-sound false false v c P later h k = k
@@ -180,29 +219,31 @@ module _ (prefixRoom clauseRoom : ℕ) where
   step-sound (wantsC v) t h =
       number-sound countBound (t .place) (numberOf (t .bytes)) (λ c. betweenSets v c []) (λ n k. (h, k, prefix-empty v))
   step-sound (betweenSets v c P) t h =
-      opens-sound (same (t .bytes) eText) (same (t .bytes) aText) v c P (clausesToken prefixRoom clauseRoom (t .place) v c P [] (numberOf (t .bytes))) h (clauses-sound (t .place) v c P [] (numberOf (t .bytes)) (h .0, h .1, h .2, clauses-empty c P))
+      opens-sound (same (t .bytes) eText) (same (t .bytes) aText) v c P (clausesToken prefixRoom clauseRoom (t .place) v c P [] (numberOf (t .bytes))) h (clauses-sound (t .place) v c P [] (numberOf (t .bytes)) (h .0, h .1, h .2, clauses-empty v c))
   step-sound (inSet v c q filled P) t h = set-sound (t .place) v c q filled P (numberOf (t .bytes)) h
   step-sound (clauses v c P words) t h = clauses-sound (t .place) v c P words (numberOf (t .bytes)) h
   step-sound (stopped p r) t h = tt
 
-  run-sound : (s : State) (ts : List Token) → Sound s → Sound (run prefixRoom clauseRoom s ts)
+  pub run-sound : (s : State) (ts : List Token) → Sound s → Sound (run prefixRoom clauseRoom s ts)
   unfolding run
   run-sound s [] h = h
   run-sound s (t ∷ ts) h = run-sound (step prefixRoom clauseRoom s t) ts (step-sound s t h)
 
--- Tables whose prefix and clause words pass, with no clause open, are admitted.
-admits : (v c : ℕ) (P : Prefix) (words : List ℤ) → Sound (clauses v c P words) → openClause words ≡ [] → Admitted (prefixWords P) words
-unfolding tablesRefusal prefixRefusal clausesRefusal
+-- The completed tables, with no clause open, are admitted.
+admits : (v c : ℕ) (P : Prefix) (words : List ℤ) → Sound (clauses v c P words) → openClause words ≡ [] → Admitted (prefixWords (completed v P words)) words
+unfolding tablesRefusal clausesRefusal isIn entryWords
 admits v c P words h e =
-    let K = h .2 in
-    let C = h .3 in
-    let few = apart-few v (K .seen) (K .apart) (K .ranged) in
-    let a : leb (length (prefixWords P)) variableBound ≡ true = le-leb (length (prefixWords P)) variableBound (omega (arith, few, K .long, words-length P, h .0)) in
-    let b : leb (length words) matrixBound ≡ true = le-leb (length words) matrixBound (C .short) in
-    let d : leb (zeros words) countBound ≡ true = le-leb (zeros words) countBound (omega (arith, C .few, h .1)) in
-    let p : prefixRefusal 0 [] (prefixWords P) ≡ none = rw append-nil at (K .passes []) in
-    let q : clausesRefusal (λ m. isIn m (listed P)) 0 [] words ≡ none = rw e at (rw append-nil at (C .passes [])) in
-    record { passes = rw (a, b, d, p) (ap (λ (L : List ℕ). clausesRefusal (λ m. isIn m L) 0 [] words) (words-listed P) ∙ q) }
+    let Q : Prefix = completed v P words in
+    let F = completed-fine v P words (h .2) in
+    let K = h .3 in
+    let few = apart-few v (listed Q) (F .apart) (F .ranged) in
+    let a : leb (length (prefixWords Q)) variableBound ≡ true = le-leb (length (prefixWords Q)) variableBound (omega (arith, few, length-map Q (λ (x : Entry). x .variable), words-length Q, h .0)) in
+    let b : leb (length words) matrixBound ≡ true = le-leb (length words) matrixBound (K .short) in
+    let d : leb (zeros words) countBound ≡ true = le-leb (zeros words) countBound (omega (arith, K .few, h .1)) in
+    let p : prefixRefusal 0 [] (prefixWords Q) ≡ none = prefix-passes v (h .0) 0 [] Q F (λ n m. refl) in
+    let has : (n : ℕ) → 1 ≤ n → occurs n words ≡ true → isIn n (listed Q) ≡ true = λ n l o. completed-lists v P words n l (K .ranged n l o) o in
+    let q : clausesRefusal (λ m. isIn m (listed Q)) 0 [] words ≡ none = rw e at (rw append-nil at (K .passes (λ m. isIn m (listed Q)) has [])) in
+    record { passes = rw (a, b, d, p) (ap (λ (L : List ℕ). clausesRefusal (λ m. isIn m L) 0 [] words) (words-listed Q) ∙ q) }
 
 pub record ReadAdmitted (prefix words : List ℤ) (count : ℕ) : Type 0 where
   pub admitted : Admitted prefix words
@@ -219,33 +260,39 @@ same-read prefix words p w c n e h =
 not-refused : (r : Refusal) (p w : List ℤ) (n : ℕ) → refused r ≡ read p w n → ReadAdmitted p w n
 not-refused r p w n e = let z : _≡_ {A = ℕ} 0 1 = cc in absurd (omega arith)
 
-clauses-admitted : (text : List ℕ) (v c : ℕ) (P : Prefix) (words p w : List ℤ) (n : ℕ) → Sound (clauses v c P words) → clausesEnding text (isOpen (openClause words)) (ltb (zeros words) c) (read (prefixWords P) words c) ≡ read p w n → ReadAdmitted p w n
-clauses-admitted text v c P words p w n h e = go (openClause words) (ltb (zeros words) c) refl refl e
+clauses-admitted : (prefixRoom : ℕ) (text : List ℕ) (v c : ℕ) (P : Prefix) (words p w : List ℤ) (n : ℕ) → Sound (clauses v c P words) → tablesEnding prefixRoom text v c P words ≡ read p w n → ReadAdmitted p w n
+clauses-admitted prefixRoom text v c P words p w n h e = go (openClause words) (ltb (zeros words) c) (leb (length (prefixWords (completed v P words))) prefixRoom) refl refl e
   where
-    go : (o : List ℕ) (m : Bool) → openClause words ≡ o → ltb (zeros words) c ≡ m → clausesEnding text (isOpen o) m (read (prefixWords P) words c) ≡ read p w n → ReadAdmitted p w n
-    go (x ∷ xs) m f g k = not-refused _ p w n k
-    go [] true f g k = not-refused _ p w n k
-    go [] false f g k =
-        let q : c ≤ zeros words = ltb-false (zeros words) c g in
-        same-read (prefixWords P) words p w c n k (record { admitted = admits v c P words h f; counted = omega (arith, h .3 .few) })
+    abbreviated : Reading
+    abbreviated = read (prefixWords (completed v P words)) words c
 
-ending-admitted : (text : List ℕ) (s : State) (p w : List ℤ) (n : ℕ) → Sound s → ending text s ≡ read p w n → ReadAdmitted p w n
-unfolding ending openFrom zeros
-ending-admitted text wantsP p w n h e = not-refused _ p w n e
-ending-admitted text wantsCnf p w n h e = not-refused _ p w n e
-ending-admitted text wantsV p w n h e = not-refused _ p w n e
-ending-admitted text (wantsC v) p w n h e = not-refused _ p w n e
-ending-admitted text (betweenSets v c P) p w n h e =
-    clauses-admitted text v c P [] p w n (h .0, h .1, h .2, clauses-empty c P) e
-ending-admitted text (inSet v c q filled P) p w n h e = not-refused _ p w n e
-ending-admitted text (clauses v c P words) p w n h e = clauses-admitted text v c P words p w n h e
-ending-admitted text (stopped q r) p w n h e = not-refused _ p w n e
+    go :
+        (o : List ℕ) (m f : Bool) → openClause words ≡ o → ltb (zeros words) c ≡ m
+        → clausesEnding text (isOpen o) m (require f (refused (atEnd text NoRoom)) abbreviated) ≡ read p w n → ReadAdmitted p w n
+    go (x ∷ xs) m f i g k = not-refused _ p w n k
+    go [] true f i g k = not-refused _ p w n k
+    go [] false false i g k = not-refused _ p w n k
+    go [] false true i g k =
+        let q : c ≤ zeros words = ltb-false (zeros words) c g in
+        same-read (prefixWords (completed v P words)) words p w c n k (record { admitted = admits v c P words h i; counted = omega (arith, h .3 .few) })
+
+ending-admitted : (prefixRoom : ℕ) (text : List ℕ) (s : State) (p w : List ℤ) (n : ℕ) → Sound s → ending prefixRoom text s ≡ read p w n → ReadAdmitted p w n
+unfolding ending
+ending-admitted prefixRoom text wantsP p w n h e = not-refused _ p w n e
+ending-admitted prefixRoom text wantsCnf p w n h e = not-refused _ p w n e
+ending-admitted prefixRoom text wantsV p w n h e = not-refused _ p w n e
+ending-admitted prefixRoom text (wantsC v) p w n h e = not-refused _ p w n e
+ending-admitted prefixRoom text (betweenSets v c P) p w n h e =
+    clauses-admitted prefixRoom text v c P [] p w n (h .0, h .1, h .2, clauses-empty v c) e
+ending-admitted prefixRoom text (inSet v c q filled P) p w n h e = not-refused _ p w n e
+ending-admitted prefixRoom text (clauses v c P words) p w n h e = clauses-admitted prefixRoom text v c P words p w n h e
+ending-admitted prefixRoom text (stopped q r) p w n h e = not-refused _ p w n e
 
 -- What is read passes the check of tables, and C is the number of its clauses.
 pub read-admitted : (text : List ℕ) (prefixRoom clauseRoom : ℕ) (prefix words : List ℤ) (count : ℕ) → reading text prefixRoom clauseRoom ≡ read prefix words count → ReadAdmitted prefix words count
 unfolding reading
 read-admitted text prefixRoom clauseRoom prefix words count e = go (leb (length text) textBound) e
   where
-    go : (b : Bool) → require b (refused (refusal Oversized 0)) (ending text (run prefixRoom clauseRoom wantsP (tokens text))) ≡ read prefix words count → ReadAdmitted prefix words count
-    go true f = ending-admitted text _ prefix words count (run-sound prefixRoom clauseRoom wantsP (tokens text) tt) f
+    go : (b : Bool) → require b (refused (refusal Oversized 0)) (ending prefixRoom text (run prefixRoom clauseRoom wantsP (tokens text))) ≡ read prefix words count → ReadAdmitted prefix words count
+    go true f = ending-admitted prefixRoom text _ prefix words count (run-sound prefixRoom clauseRoom wantsP (tokens text) tt) f
     go false f = not-refused _ prefix words count f

@@ -1,7 +1,7 @@
 -- What the functions that read the clauses of a text answer and leave in the clause table and in the marks. Laws are in
 -- Clauses/Laws.antt.
 pub mod Laws
-use Prim.Native.Nat.{ℕ, _+_, _≤_, _<_}
+use Prim.Native.Nat.{ℕ, _+_, _*_, _/_, _%_, _≤_, _<_}
 use mathlib.Core.Path.{_≡_}
 use mathlib.Core.Bool.{Bool, true, false, not}
 use mathlib.Core.Option.{Option}
@@ -12,10 +12,12 @@ use lib.Dec.{ltb, eqb}
 use Rattle.qbf.specs.Formula.{Prefix, listed}
 use Rattle.formula.specs.Bounds.{variableBound}
 use Rattle.formula.specs.Refusal.{refusedAt, require, unless}
-use Rattle.formula.specs.Prefix.{prefixWords}
+use Rattle.formula.specs.Position.{positionAt}
+use Rattle.formula.specs.Free.{occurs, isFree, completed}
+use Rattle.formula.specs.Free.Complete.{isListed, isFreeMark}
 use Rattle.formula.specs.Tables.{isIn, zeros}
 use Rattle.formula.specs.Word.{signed}
-use Rattle.formula.specs.Text.{read, refused, clauses, stopped, openClause, isOpen, literalReason, closingReason, clauseToken, readingFrom}
+use Rattle.formula.specs.Text.{refused, clauses, stopped, openClause, isOpen, literalReason, closingReason, clauseToken, completing, readingFrom}
 use Rattle.formula.specs.declared.refusal.Reason.the-variants.{Unfinished, Miscount}
 use Rattle.formula.specs.declared.refusal.Reason.{Reason}
 use Rattle.formula.specs.Token.{Number}
@@ -25,14 +27,21 @@ use Rattle.formula.specs.declared.clauses.ClauseStep.the-variants.{Liter
 use Rattle.formula.specs.declared.clauses.ClausesAnswer.{ClausesAnswer}
 use Rattle.formula.specs.declared.clauses.ClausesAnswer.the-variants.{Clauses, Refused as NoClauses}
 
--- The marks of the variables while clauses are read, `closed` of them being closed: 0 where no set lists the variable,
--- closed + 2 where the open clause holds it.
+-- A mark is twice the number of the last clause that holds the variable, and 1 more where a set lists it: whether the open clause, `closed`
+-- clauses being closed, holds it; and its mark once it does.
+abbrev pub holdsOpen : (mark closed : ℕ) → Bool
+holdsOpen mark closed = eqb (mark / 2) (closed + 1)
+
+abbrev pub markFor : (mark closed : ℕ) → ℕ
+markFor mark closed = 2 * (closed + 1) + mark % 2
+
+-- The marks of the variables while clauses are read.
 pub record Marked (marks : List ℕ) (P : Prefix) (words : List ℤ) (closed : ℕ) : Type 0 where
   pub size : length marks ≡ variableBound + 1
-  pub nought : getD marks 0 0 ≡ 0
-  pub says : (v : ℕ) → v ≤ variableBound → isIn v (listed P) ≡ ltb 0 (getD marks v 0)
-  pub holds : (v : ℕ) → v ≤ variableBound → isIn v (openClause words) ≡ eqb (getD marks v 0) (closed + 2)
-  pub small : (v : ℕ) → getD marks v 0 ≤ closed + 2
+  pub says : (v : ℕ) → v ≤ variableBound → isIn v (listed P) ≡ isListed (getD marks v 0)
+  pub seen : (v : ℕ) → v ≤ variableBound → 1 ≤ v → occurs v words ≡ ltb 1 (getD marks v 0)
+  pub holds : (v : ℕ) → v ≤ variableBound → isIn v (openClause words) ≡ holdsOpen (getD marks v 0) closed
+  pub small : (v : ℕ) → getD marks v 0 / 2 ≤ closed + 1
   pub count : zeros words ≡ closed
 
 -- A literal of the variable n: refused, or written and marked.
@@ -41,10 +50,10 @@ literalStep x = unless NoStep x Literal
 
 -- By its variable's mark.
 abbrev pub markedReason : (v n : ℕ) (marks : List ℕ) (closed used room : ℕ) → Option Reason
-markedReason v n marks closed used room = literalReason v n (ltb 0 (getD marks n 0)) (eqb (getD marks n 0) (closed + 2)) used room
+markedReason v n marks closed used room = literalReason v n (holdsOpen (getD marks n 0) closed) used room
 
 abbrev pub LiteralStores : (n : ℕ) (positive : Bool) (used closed : ℕ) (table : List ℤ) (marks : List ℕ) (table′ : List ℤ) (marks′ : List ℕ) → ClauseStep → Type 0
-LiteralStores n positive used closed table marks table′ marks′ Literal = (table′ ≡ set table used (signed positive n)) × (marks′ ≡ set marks n (closed + 2))
+LiteralStores n positive used closed table marks table′ marks′ Literal = (table′ ≡ set table used (signed positive n)) × (marks′ ≡ set marks n (markFor (getD marks n 0) closed))
 LiteralStores n positive used closed table marks table′ marks′ Closed = Unit {0}
 LiteralStores n positive used closed table marks table′ marks′ (NoStep r) = Unit {0}
 
@@ -86,11 +95,19 @@ pub record ClauseTokenPost (m : Number) (v used closed : ℕ) (table : List ℤ)
 -- The text ends.
 abbrev pub clausesEnd : (end : Position) (clauseOpen missing : Bool) (used : ℕ) → ClausesAnswer
 clausesEnd end clauseOpen missing used =
-    require (not clauseOpen) (NoClauses (refusedAt end Unfinished)) (require (not missing) (NoClauses (refusedAt end Miscount)) (Clauses used))
+    require (not clauseOpen) (NoClauses (refusedAt end Unfinished)) (require (not missing) (NoClauses (refusedAt end Miscount)) (Clauses used end))
 
--- The clauses, from the byte after the sets on.
-abbrev pub ClausesPost : (text : List ℕ) (at v c prefixRoom : ℕ) (P : Prefix) (table table′ : List ℤ) → ClausesAnswer → Type 0
-ClausesPost text at v c prefixRoom P table table′ (Clauses n) =
-    (readingFrom prefixRoom (length table) text (clauses v c P []) at ≡ read (prefixWords P) (take n table′) c) × (n ≤ length table′)
-ClausesPost text at v c prefixRoom P table table′ (NoClauses r) =
+-- What the marks then tell of the variables that no set binds.
+pub record MarksFree (marks : List ℕ) (P : Prefix) (words : List ℤ) : Type 0 where
+  pub size : length marks ≡ variableBound + 1
+  pub frees : (v : ℕ) → 1 ≤ v → v ≤ variableBound → isFree P words v ≡ isFreeMark (getD marks v 0)
+
+-- The clauses, from the byte after the sets on: what is read from there are these words and the completed prefix.
+abbrev pub ClausesPost : (text : List ℕ) (at v c prefixRoom : ℕ) (P : Prefix) (table table′ : List ℤ) (marks′ : List ℕ) → ClausesAnswer → Type 0
+ClausesPost text at v c prefixRoom P table table′ marks′ (Clauses n end) =
+    (readingFrom prefixRoom (length table) text (clauses v c P []) at ≡ completing prefixRoom text (completed v P (take n table′)) (take n table′) c)
+    × (n ≤ length table′)
+    × MarksFree marks′ P (take n table′)
+    × (end ≡ positionAt text (length text))
+ClausesPost text at v c prefixRoom P table table′ marks′ (NoClauses r) =
     readingFrom prefixRoom (length table) text (clauses v c P []) at ≡ refused r

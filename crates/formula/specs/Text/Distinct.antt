@@ -1,13 +1,15 @@
--- Different numbers from 1 to n are at most n many. Assumes nothing.
+-- Different numbers, each from 1 to n: of lists put together and of rising ones; they are at most n many. Assumes nothing.
 use Prim.Native.Nat.{ℕ, zero, suc, _≤_}
 use mathlib.Core.Path.{_≡_, refl, ap}
-use mathlib.Core.Bool.{Bool, true, false, _||_, cond}
-use mathlib.Core.List.{List, [], _∷_}
+use mathlib.Core.Bool.{Bool, true, false, _||_, cond, or-true}
+use mathlib.Core.List.{List, [], _∷_, _++_}
 use native.Mathlib.Omega.{arith}
-use borrow.Author.Tests.{eqb-true, eqb-false}
+use borrow.Author.Tests.{eqb-true, eqb-false, eq-eqb}
 use lib.ListN.{length}
 use lib.Dec.{eqb}
 use Rattle.formula.specs.Tables.{isIn}
+use Rattle.formula.specs.Free.{Rising}
+use Rattle.formula.specs.Free.Laws.{in-append, rising-range}
 
 -- No number stands twice; each is from 1 to n.
 abbrev pub Apart : List ℕ → Type 0
@@ -22,14 +24,29 @@ pub or-no : (s t : Bool) → (s || t) ≡ false → (s ≡ false) × (t ≡ fals
 or-no true t e = let z : _≡_ {A = ℕ} 0 1 = cc in absurd (omega arith)
 or-no false t e = (refl, e)
 
-pub ranged-in : (n v : ℕ) (xs : List ℕ) → Ranged n xs → isIn v xs ≡ true → (1 ≤ v) × (v ≤ n)
+-- Lists put together; rising lists.
+pub apart-append : (xs ys : List ℕ) → Apart xs → Apart ys → ((n : ℕ) → isIn n xs ≡ true → isIn n ys ≡ false) → Apart (xs ++ ys)
 unfolding isIn
-ranged-in n v [] r e = let z : _≡_ {A = ℕ} 0 1 = cc in absurd (omega arith)
-ranged-in n v (x ∷ xs) r e = go (eqb v x) refl (ranged-in n v xs (r .2))
+apart-append [] ys a b h = b
+apart-append (x ∷ xs) ys a b h =
+    (rw (in-append x xs ys, a .0) (h x (rw (eq-eqb x x refl))), apart-append xs ys (a .1) b (λ n e. h n (rw e (or-true (eqb n x)))))
+
+pub ranged-append : (n : ℕ) (xs ys : List ℕ) → Ranged n xs → Ranged n ys → Ranged n (xs ++ ys)
+ranged-append n [] ys r s = s
+ranged-append n (x ∷ xs) ys r s = (r .0, r .1, ranged-append n xs ys (r .2) s)
+
+pub ranged-each : (n : ℕ) (xs : List ℕ) → ((m : ℕ) → isIn m xs ≡ true → (1 ≤ m) × (m ≤ n)) → Ranged n xs
+unfolding isIn
+ranged-each n [] h = tt
+ranged-each n (x ∷ xs) h = let own = h x (rw (eq-eqb x x refl)) in (own .0, own .1, ranged-each n xs (λ m e. h m (rw e (or-true (eqb m x)))))
+
+pub rising-apart : (k n : ℕ) (xs : List ℕ) → Rising k n xs → Apart xs
+rising-apart k n [] h = tt
+rising-apart k n (x ∷ xs) h = (absent (isIn x xs) refl, rising-apart x n xs (h .1))
   where
-    go : (b : Bool) → eqb v x ≡ b → (isIn v xs ≡ true → (1 ≤ v) × (v ≤ n)) → (1 ≤ v) × (v ≤ n)
-    go true f later = let h = eqb-true v x f in (omega (arith, r .0), omega (arith, r .1))
-    go false f later = later (rw f at e)
+    absent : (b : Bool) → isIn x xs ≡ b → b ≡ false
+    absent true e = absurd (omega (arith, rising-range x n x xs (h .1) e .0))
+    absent false e = refl
 
 -- The list without the number m.
 unfoldable without : ℕ → List ℕ → List ℕ

@@ -1,4 +1,4 @@
--- Texts and what they are read as, by computation: 01's known positions on text, and cases for its rules.
+-- Texts and what they are read as, by computation: 01's known positions on text, and cases for its rules and 02's.
 use Prim.Native.Nat.{ℕ}
 use Prim.Native.Char.{code}
 use Prim.Native.String.{String, [] as end, _∷_ as _then_}
@@ -11,6 +11,7 @@ use Rattle.formula.specs.declared.refusal.Refusal.{Refusal}
 use Rattle.formula.specs.Prefix.{entryWord, prefixWords, entryFits}
 use Rattle.formula.specs.Tables.{isIn, zeros}
 use Rattle.formula.specs.Position.{feeds, sinceFeed}
+use Rattle.formula.specs.Free.{occurs, passing}
 use Rattle.formula.specs.Token.{isDigit, isBlank, leadFrom, tokensFrom, same, allDigits, valueFrom, numberOf}
 use Rattle.formula.specs.Text.{
   Reading,
@@ -37,7 +38,7 @@ at r place line column = record { reason = r; place = place; line = line; column
 
 -- With room for eight words in each table.
 unfoldable pub reads : String → Reading
-unfolding bytes entryWord prefixWords entryFits isIn zeros isDigit isBlank leadFrom tokensFrom same allDigits valueFrom numberOf feeds sinceFeed openFrom variableReason literalReason closingReason step run ending reading
+unfolding bytes entryWord prefixWords entryFits isIn zeros isDigit isBlank leadFrom tokensFrom same allDigits valueFrom numberOf feeds sinceFeed openFrom variableReason literalReason closingReason occurs passing step run ending reading
 reads s = reading (bytes s) 8 8
 
 -- 01's two texts: bytes that part nothing glue into one token; a line end closes nothing.
@@ -99,6 +100,28 @@ clash-at-the-third = refl
 pub no-room : reads "p cnf 2 9 e 1 0 1 0 0 0 0 0 0 0 0 0" ≡ refused (at NoRoom 32 1 33)
 unfolding reads
 no-room = refl
+
+-- Variables that no set binds stand ahead of the sets, rising; a clash of theirs is one, and above V they are out of range.
+pub free-ahead : reads "p cnf 4 2 a 3 0 4 -2 0 3 2 0" ≡ read (pos 2 ∷ pos 4 ∷ negsuc 2 ∷ []) (pos 4 ∷ negsuc 1 ∷ pos 0 ∷ pos 3 ∷ pos 2 ∷ pos 0 ∷ []) 2
+unfolding reads
+free-ahead = refl
+
+pub free-clash : reads "p cnf 2 1\ne 1 0\n2 1 -2 0\n" ≡ refused (at Clash 20 3 5)
+unfolding reads
+free-clash = refl
+
+pub free-above : reads "p cnf 2 1 3 0" ≡ refused (at OutOfRange 10 1 11)
+unfolding reads
+free-above = refl
+
+-- Room for the completed prefix is asked for last, at the end; a clause that is not closed comes ahead of it.
+pub free-without-room : reads "p cnf 9 1 e 1 2 3 4 5 6 7 8 0 9 0" ≡ refused (at NoRoom 33 1 34)
+unfolding reads
+free-without-room = refl
+
+pub unfinished-ahead-of-room : reads "p cnf 9 1 e 1 2 3 4 5 6 7 8 0 9" ≡ refused (at Unfinished 31 1 32)
+unfolding reads
+unfinished-ahead-of-room = refl
 
 -- A set that is cut off, ahead of clauses that are missing.
 pub set-cut-off : reads "p cnf 2 1 e 1" ≡ refused (at Unfinished 13 1 14)

@@ -1,13 +1,12 @@
 -- Laws of reading: what is known where a token is not refused, and how a token takes the state on. Assumes nothing.
 use Prim.Native.Nat.{ℕ, _≤_, _<_}
 use mathlib.Core.Path.{_≡_, refl, ap, sym, _∙_}
-use mathlib.Core.Bool.{Bool, true, false, not}
-use mathlib.Core.Option.{Option, none, some}
+use mathlib.Core.Bool.{Bool, true, false, not, _&&_}
+use mathlib.Core.Option.{none}
 use mathlib.Core.List.{List, [], _∷_}
-use native.Mathlib.Omega.{arith}
 use borrow.Author.Tests.{ltb-true, leb-true, not-true}
 use lib.Dec.{ltb, leb}
-use lib.ListN.{length}
+use Rattle.qbf.specs.Connectives.{and-both}
 use Rattle.formula.specs.Refusal.Laws.{require-none}
 use Rattle.formula.specs.Bounds.{matrixBound}
 use Rattle.formula.specs.Position.Cursor.{PositionIn}
@@ -34,25 +33,25 @@ variable-fine v n known fits e =
     record { inRange = leb-true n v (a .0); fresh = not-true known (b .0); room = d .0 }
 
 -- A literal that is written.
-pub record LiteralFine (v n : ℕ) (bound clash : Bool) (used room : ℕ) : Type 0 where
+pub record LiteralFine (v n : ℕ) (clash : Bool) (used room : ℕ) : Type 0 where
+  pub least : 1 ≤ n
   pub inRange : n ≤ v
   pub short : used < matrixBound
-  pub isBound : bound ≡ true
   pub apart : clash ≡ false
   pub fits : used < room
 
-pub literal-fine : (v n : ℕ) (bound clash : Bool) (used room : ℕ) → literalReason v n bound clash used room ≡ none → LiteralFine v n bound clash used room
+pub literal-fine : (v n : ℕ) (clash : Bool) (used room : ℕ) → literalReason v n clash used room ≡ none → LiteralFine v n clash used room
 unfolding literalReason
-literal-fine v n bound clash used room e =
-    let a = require-none (leb n v) _ _ e in
+literal-fine v n clash used room e =
+    let a = require-none (ltb 0 n && leb n v) _ _ e in
+    let range = and-both (ltb 0 n) (leb n v) (a .0) in
     let b = require-none (ltb used matrixBound) _ _ (a .1) in
-    let d = require-none bound _ _ (b .1) in
-    let f = require-none (not clash) _ _ (d .1) in
+    let f = require-none (not clash) _ _ (b .1) in
     let g = require-none (ltb used room) _ none (f .1) in
     record {
-      inRange = leb-true n v (a .0);
+      least = ltb-true 0 n (range .0);
+      inRange = leb-true n v (range .1);
       short = ltb-true used matrixBound (b .0);
-      isBound = d .0;
       apart = not-true clash (f .0);
       fits = ltb-true used room (g .0);
     }
@@ -71,7 +70,7 @@ closing-fine used room e =
 
 -- The text ends; a token; a refusal stays.
 module _ (prefixRoom clauseRoom : ℕ) (text : List ℕ) where
-  pub from-end : (s : State) (at : ℕ) → tokensAt text at ≡ [] → readingFrom prefixRoom clauseRoom text s at ≡ ending text s
+  pub from-end : (s : State) (at : ℕ) → tokensAt text at ≡ [] → readingFrom prefixRoom clauseRoom text s at ≡ ending prefixRoom text s
   unfolding run
   from-end s at e = rw e
 

@@ -34,7 +34,7 @@ returns c =
     rw (c .clauses-end .ensures, none .1) (clauses-end (l .loop .inv .0) (none .0))
 
 returns-2 : tie.Need-returns-2 Inv-loop μ-loop
-returns-2 c = rw (c .in-text .ensures) (clauses-over (c .before .before .before .before .before .before .loop .inv .0) (found (c .before .before)) (c .before .if1 .taken) [])
+returns-2 c = rw (c .in-text .ensures) (clauses-over (c .before .before .before .before .before .before .loop .inv .0) (found (c .before .before)) (c .before .if1 .taken) [] [])
 
 returns-3 : tie.Need-returns-3 Inv-loop μ-loop
 returns-3 c =

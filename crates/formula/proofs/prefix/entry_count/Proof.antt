@@ -1,7 +1,6 @@
 -- `entry_count`: one entry a word. Assumes nothing.
 use mathlib.Core.Path.{sym}
 use Rattle.formula.specs.Prefix.Laws.{entry-count}
-use borrow.Author.Needs.{needs}
 use Rattle.formula.proofs.prefix.entry_count.Statement.{statement}
 use Rattle.formula.proofs.prefix.entry_count.Tie as tie
 

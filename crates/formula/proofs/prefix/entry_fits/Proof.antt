@@ -1,7 +1,6 @@
 -- `entry_fits` compares as its definition does. Assumes nothing.
 use mathlib.Core.Path.{refl}
 use Rattle.formula.specs.Prefix.{entryFits}
-use borrow.Author.Needs.{needs}
 use Rattle.formula.proofs.prefix.entry_fits.Statement.{statement}
 use Rattle.formula.proofs.prefix.entry_fits.Tie as tie
 

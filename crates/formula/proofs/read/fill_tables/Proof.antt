@@ -1,8 +1,7 @@
--- `fill_tables` reads the sets, then the clauses. Assumes nothing.
+-- `fill_tables` reads the sets, then the clauses, then completes the prefix. Assumes nothing.
 use mathlib.Core.Path.{_∙_}
 use lib.ListN.{length}
-use Rattle.formula.specs.Prefix.Laws.{prefix-words}
-use Rattle.formula.specs.Text.Fill.Laws.{listed-none}
+use Rattle.formula.specs.Text.Fill.Laws.{listed-none, fill-completed, fill-crowded}
 use borrow.Author.Needs.{needs}
 use Rattle.formula.proofs.read.fill_tables.Statement.{statement}
 use Rattle.formula.proofs.read.fill_tables.Tie as tie
@@ -12,28 +11,54 @@ read-sets-requires c κs = let k = c .before .before .before in ((k .pre .0 .0, 
 
 read-clauses-requires : tie.Need-read-clauses-requires
 read-clauses-requires c κs =
-    let post = rw (c .before .before .before .used .given .1) at (c .before .before .before .before .before .before .read-sets .ensures) in
-    ((post .3, c .before .before .before .before .before .before .before .before .before .before .pre .0 .1), (search needs, search needs, post .1 .size))
+    let sets = rw (c .before .before .before .used .given .1) at (c .before .before .before .before .before .before .read-sets .ensures) in
+    ((sets .3, c .before .before .before .before .before .before .before .before .before .before .pre .0 .1), (search needs, search needs, sets .1 .size))
+
+complete-requires : tie.Need-complete-requires
+complete-requires c κs =
+    let s = c .before .before .before .before .before .before .before .before .before .before .before .before .before .before .before .before .before in
+    let sets = rw (c .before .before .before .before .before .before .before .before .before .before .used .given .1) at (c .before .before .before .before .before .before .before .before .before .before .before .before .before .read-sets .ensures) in
+    let clauses = rw (c .before .before .before .words .given .1) at (c .before .before .before .before .before .before .read-clauses .ensures (length (s .args .prefix .now)) _ (sets .1)) in
+    (sets .2, s .pre .1 .0, clauses .2 .size)
 
 returns : tie.Need-returns
 returns c =
     let args = c .before .before .before .before .before .before .before .before .args in
-    let post = rw (c .before .r .given .1) at (c .before .before .before .before .read-sets .ensures) in
-    post (args .count) (length (args .clauses .now))
+    let sets = rw (c .before .r .given .1) at (c .before .before .before .before .read-sets .ensures) in
+    sets (args .count) (length (args .clauses .now))
 
 returns-2 : tie.Need-returns-2
 returns-2 c =
     let args = c .before .before .before .before .before .before .before .before .before .before .before .before .before .before .before .args in
-    let post = rw (c .before .before .before .before .before .before .before .before .used .given .1) at (c .before .before .before .before .before .before .before .before .before .before .before .read-sets .ensures) in
-    let rest = rw (c .before .r2 .given .1) at (c .before .before .before .before .read-clauses .ensures (length (args .prefix .now)) _ (post .1)) in
-    post .0 (args .count) (length (args .clauses .now)) ∙ rest
+    let sets = rw (c .before .before .before .before .before .before .before .before .used .given .1) at (c .before .before .before .before .before .before .before .before .before .before .before .read-sets .ensures) in
+    let clauses = rw (c .before .r2 .given .1) at (c .before .before .before .before .read-clauses .ensures (length (args .prefix .now)) _ (sets .1)) in
+    sets .0 (args .count) (length (args .clauses .now)) ∙ clauses
 
 returns-3 : tie.Need-returns-3
 returns-3 c =
-    let args = c .before .before .before .before .before .before .before .before .before .before .before .before .before .before .before .args in
-    let post = rw (c .before .before .before .before .before .before .before .before .used .given .1) at (c .before .before .before .before .before .before .before .before .before .before .before .read-sets .ensures) in
-    let rest = rw (c .before .words .given .1) at (c .before .before .before .before .read-clauses .ensures (length (args .prefix .now)) _ (post .1)) in
-    (post .0 (args .count) (length (args .clauses .now)) ∙ rw prefix-words at (rest .0), post .2, rest .1)
+    let s = c .before .before .before .before .before .before .before .before .before .before .before .before .before .before .before .before .before .before .before .before .before .before in
+    let args = s .args in
+    let read = c .before .before .before .before .before .before .before .before .before .before .before .before .before .before .before .before .before .before .read-sets in
+    let listed = c .before .before .before .before .before .before .before .before .before .before .before .before .before .before .before .used .given in
+    let sets = rw (listed .1) at (read .ensures) in
+    let written = c .before .before .before .before .before .before .before .before .before .before .before .read-clauses in
+    let counted = c .before .before .before .before .before .before .before .before .words .given in
+    let clauses = rw (counted .1) at (written .ensures (length (args .prefix .now)) _ (sets .1)) in
+    let done = rw (c .before .enum-told .given .1) at (c .before .before .before .before .complete .ensures) in
+    rw (c .in-text .ensures, clauses .3) (sets .0 (args .count) (length (args .clauses .now)) ∙ clauses .0 ∙ fill-crowded (length (args .prefix .now)) (args .text .now) (args .variables) (args .count) (listed .0 .0) (counted .0 .0) (read .last .1 .1 .1 .0) (c .before .before .before .before .complete .last .0) (written .last .1 .1 .1 .1 .0) (written .last .1 .1 .1 .1 .1 .0) (s .pre .1 .0) (sets .2) (search needs) (clauses .1) (clauses .2) done)
+
+returns-4 : tie.Need-returns-4
+returns-4 c =
+    let s = c .before .before .before .before .before .before .before .before .before .before .before .before .before .before .before .before .before .before .before .before .before .before in
+    let args = s .args in
+    let read = c .before .before .before .before .before .before .before .before .before .before .before .before .before .before .before .before .before .before .read-sets in
+    let listed = c .before .before .before .before .before .before .before .before .before .before .before .before .before .before .before .used .given in
+    let sets = rw (listed .1) at (read .ensures) in
+    let written = c .before .before .before .before .before .before .before .before .before .before .before .read-clauses in
+    let counted = c .before .before .before .before .before .before .before .before .words .given in
+    let clauses = rw (counted .1) at (written .ensures (length (args .prefix .now)) _ (sets .1)) in
+    let done = rw (c .before .total .given .1) at (c .before .before .before .before .complete .ensures) in
+    rw (sets .0 (args .count) (length (args .clauses .now)) ∙ clauses .0) (fill-completed (length (args .prefix .now)) (args .text .now) (args .variables) (args .count) (listed .0 .0) (counted .0 .0) (read .last .1 .1 .1 .0) (c .before .before .before .before .complete .last .0) (written .last .1 .1 .1 .1 .0) (written .last .1 .1 .1 .1 .1 .0) (s .pre .1 .0) (sets .2) (search needs) (clauses .1) (clauses .2) (c .before .total .given .0 .0) (search needs) done)
 
 pub fill-tables-spec : {M : Type 1} → statement M
 fill-tables-spec =
@@ -45,6 +70,10 @@ fill-tables-spec =
     read-clauses-requires
     (λ c. search needs)
     (λ c. search needs)
+    complete-requires
+    (λ c. search needs)
+    (λ c κs. search needs)
+    (λ c. search needs)
     (λ c. search needs)
     returns
     (λ c. search needs)
@@ -52,4 +81,7 @@ fill-tables-spec =
     returns-2
     (λ c. search needs)
     (λ c. search needs)
-    returns-3)
+    returns-3
+    (λ c. search needs)
+    (λ c. search needs)
+    returns-4)

@@ -1,8 +1,5 @@
 -- `next_token` passes blanks, then takes the token that begins there. Assumes nothing.
-use mathlib.Core.Path.{_≡_, sym, _∙_, ap}
-use native.Mathlib.Omega.{arith}
 use Rattle.formula.specs.Token.Laws.{nothing-behind}
-use borrow.Author.Needs.{needs}
 use Rattle.formula.proofs.token.next_token.Statement.{statement}
 use Rattle.formula.proofs.token.next_token.Tie as tie
 

@@ -3,7 +3,6 @@ use Prim.Native.Nat.{_-_}
 use mathlib.Core.Path.{_≡_, refl, sym, _∙_}
 use native.Mathlib.Omega.{arith}
 use lib.ListN.{length}
-use Rattle.formula.specs.Position.{positionAt}
 use Rattle.formula.specs.Position.Cursor.{PositionIn}
 use Rattle.formula.specs.Position.Laws.{past-in, small-in}
 use Rattle.formula.specs.Token.{tokensAt}

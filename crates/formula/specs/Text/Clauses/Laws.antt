@@ -1,28 +1,33 @@
 -- Laws of reading the clauses: the marks of the open clause's variables, and one law for each outcome of a token.
 -- Assumes nothing.
-use Prim.Native.Nat.{ℕ, zero, suc, _+_, _≤_, _<_, min}
+use Prim.Native.Nat.{ℕ, zero, suc, _+_, _/_, _%_, _≤_, _<_, min}
 use mathlib.Core.Path.{_≡_, refl, ap, sym, _∙_}
-use mathlib.Core.Bool.{Bool, true, false}
+use mathlib.Core.Bool.{Bool, true, false, _||_, and-false, or-true, or-false}
 use mathlib.Core.Option.{Option, none, some}
 use mathlib.Core.List.{List, [], _∷_, _++_}
 use native.Mathlib.Decide.{ℕ-discrete}
 use native.Mathlib.Numerals.{add-one}
 use native.Mathlib.Omega.{arith}
-use borrow.Author.Tests.{ltb-true, leb-true, leb-false, lt-leb, lt-ltb, le-ltb, eq-eqb, ne-eqb}
+use borrow.Author.Tests.{leb-true, leb-false, lt-leb, lt-ltb, le-ltb, eq-eqb, ne-eqb}
 use lib.ListN.{length, getD, set, take, length-set}
 use lib.Seq.{getD-set-same, getD-set-other, take-suc-set, length-take-le}
 use lib.Dec.{ltb, leb, eqb}
-use lib.IntN.{ℤ, pos, negsuc}
+use lib.IntN.{ℤ, pos, negsuc, natAbs}
 use Rattle.formula.specs.Bounds.{variableBound}
 use Rattle.qbf.specs.Formula.{Prefix, listed}
-use Rattle.formula.specs.Prefix.{prefixWords}
+use Rattle.formula.specs.Free.{occurs, completed}
+use Rattle.formula.specs.Free.Complete.{isListed, isFreeMark}
+use Rattle.formula.specs.Free.Laws.{occurs-append}
 use Rattle.formula.specs.Tables.{isIn, zeros}
 use Rattle.formula.specs.Word.{signed}
-use Rattle.formula.specs.Text.{readingFrom, read, clauses, stopped, atEnd, openFrom, openClause, isOpen, literalReason, closingReason, putLiteral, clauseToken, clausesEnding, step, ending}
+use Rattle.formula.specs.Text.{readingFrom, clauses, stopped, openFrom, openClause, isOpen, literalReason, closingReason, putLiteral, clauseToken, clausesEnding, completing, step, ending}
 use Rattle.formula.specs.Refusal.{unless, refusedAt, require}
 use Rattle.formula.specs.Text.Sets.{Listed}
 use Rattle.formula.specs.Text.Clauses.{
+  holdsOpen,
+  markFor,
   Marked,
+  MarksFree,
   literalStep,
   markedReason,
   LiteralPost,
@@ -85,66 +90,97 @@ zeros-closing (pos zero ∷ ws) = ap suc (zeros-closing ws)
 zeros-closing (pos (suc m) ∷ ws) = zeros-closing ws
 zeros-closing (negsuc m ∷ ws) = zeros-closing ws
 
+-- The word of a literal has its variable's magnitude.
+pub signed-magnitude : (positive : Bool) (n : ℕ) → natAbs (signed positive n) ≡ n
+signed-magnitude true n = refl
+signed-magnitude false zero = refl
+signed-magnitude false (suc n) = refl
+
+pub occurs-literal : (v : ℕ) (ws : List ℤ) (positive : Bool) (n : ℕ) → occurs v (ws ++ (signed positive n ∷ [])) ≡ (occurs v ws || eqb v n)
+unfolding occurs
+occurs-literal v ws positive n = occurs-append v ws (signed positive n ∷ []) ∙ rw (signed-magnitude positive n) (ap (λ b. occurs v ws || b) (or-false (eqb v n)))
+
+pub occurs-closing : (v : ℕ) (ws : List ℤ) → 1 ≤ v → occurs v (ws ++ (pos 0 ∷ [])) ≡ occurs v ws
+unfolding occurs
+occurs-closing v ws h = occurs-append v ws (pos 0 ∷ []) ∙ rw (ne-eqb v 0 (omega arith)) (or-false (occurs v ws))
+
 -- The marks before the first clause, after a literal, after a closing 0.
 pub marked-begins : (marks : List ℕ) (P : Prefix) → Listed marks P → Marked marks P [] 0
-unfolding isIn openFrom zeros
+unfolding isIn openFrom zeros occurs
 marked-begins marks P L =
     record {
       size = L .size;
-      nought = L .nought;
-      says = L .says;
-      holds = λ v k. sym (ne-eqb (getD marks v 0) (0 + 2) (omega (arith, L .small v)));
+      says = λ v k. L .says v k ∙ parity (getD marks v 0) (L .small v);
+      seen = λ v k l. sym (le-ltb 1 (getD marks v 0) (L .small v));
+      holds = λ v k. sym (ne-eqb (getD marks v 0 / 2) (0 + 1) (omega (arith, L .small v)));
       small = λ v. omega (arith, L .small v);
       count = refl;
     }
+  where
+    parity : (m : ℕ) → m ≤ 1 → ltb 0 m ≡ eqb (m % 2) 1
+    parity m h = go (ℕ-discrete m 0)
+      where
+        go : Dec (m ≡ 0) → ltb 0 m ≡ eqb (m % 2) 1
+        go (yes e) = rw e
+        go (no e) = let one : m ≡ 1 = omega (arith, e) in rw one
 
 module _ (marks : List ℕ) (P : Prefix) (words : List ℤ) (closed : ℕ) (M : Marked marks P words closed) where
-  pub marked-proper : (n : ℕ) → ltb 0 (getD marks n 0) ≡ true → n ≡ 0 → ⊥
-  marked-proper n b e = let m : 0 < getD marks n 0 = ltb-true 0 (getD marks n 0) b in omega (arith, rw e at m, M .nought)
-
-  pub marked-literal : (positive : Bool) (n : ℕ) → n ≤ variableBound → ltb 0 (getD marks n 0) ≡ true → Marked (set marks n (closed + 2)) P (words ++ (signed positive n ∷ [])) closed
+  pub marked-literal : (positive : Bool) (n : ℕ) → n ≤ variableBound → 1 ≤ n → Marked (set marks n (markFor (getD marks n 0) closed)) P (words ++ (signed positive n ∷ [])) closed
   unfolding isIn
-  marked-literal positive n h b =
+  marked-literal positive n h l =
       record {
         size = rw length-set (M .size);
-        nought = rw (getD-set-other marks n 0 (closed + 2) 0 (λ e. proper (sym e))) (M .nought);
         says = λ v k. says v k (ℕ-discrete v n);
+        seen = λ v k b. occurs-literal v words positive n ∙ seen v k b (ℕ-discrete v n);
         holds = λ v k. rw (open-literal [] words positive n proper) (holds v k (ℕ-discrete v n));
         small = λ v. small v (ℕ-discrete v n);
         count = zeros-literal words positive n proper ∙ M .count;
       }
     where
       proper : n ≡ 0 → ⊥
-      proper = marked-proper n b
+      proper e = omega (arith, l, e)
 
       inside : n < length marks
       inside = omega (arith, M .size)
 
-      says : (v : ℕ) → v ≤ variableBound → Dec (v ≡ n) → isIn v (listed P) ≡ ltb 0 (getD (set marks n (closed + 2)) v 0)
+      new : ℕ
+      new = markFor (getD marks n 0) closed
+
+      says : (v : ℕ) → v ≤ variableBound → Dec (v ≡ n) → isIn v (listed P) ≡ isListed (getD (set marks n new) v 0)
       says v k (yes e) =
-          rw (e, getD-set-same marks n (closed + 2) 0 inside, lt-ltb 0 (closed + 2) (omega arith)) (M .says n h ∙ b)
-      says v k (no e) = rw (getD-set-other marks n v (closed + 2) 0 e) (M .says v k)
+          let same : new % 2 ≡ getD marks n 0 % 2 = omega arith in
+          rw (e, getD-set-same marks n new 0 inside, same) (M .says n h)
+      says v k (no e) = rw (getD-set-other marks n v new 0 e) (M .says v k)
 
-      holds : (v : ℕ) → v ≤ variableBound → Dec (v ≡ n) → isIn v (n ∷ openClause words) ≡ eqb (getD (set marks n (closed + 2)) v 0) (closed + 2)
+      seen : (v : ℕ) → v ≤ variableBound → 1 ≤ v → Dec (v ≡ n) → (occurs v words || eqb v n) ≡ ltb 1 (getD (set marks n new) v 0)
+      seen v k b (yes e) = rw (e, getD-set-same marks n new 0 inside, eq-eqb n n refl, or-true, lt-ltb 1 new (omega arith))
+      seen v k b (no e) = rw (getD-set-other marks n v new 0 e, ne-eqb v n e, or-false) (M .seen v k b)
+
+      holds : (v : ℕ) → v ≤ variableBound → Dec (v ≡ n) → isIn v (n ∷ openClause words) ≡ holdsOpen (getD (set marks n new) v 0) closed
       holds v k (yes e) =
-          rw (e, getD-set-same marks n (closed + 2) 0 inside, eq-eqb n n refl, eq-eqb (closed + 2) (closed + 2) refl)
-      holds v k (no e) = rw (getD-set-other marks n v (closed + 2) 0 e, ne-eqb v n e) (M .holds v k)
+          let half : new / 2 ≡ closed + 1 = omega arith in
+          rw (e, getD-set-same marks n new 0 inside, half, eq-eqb n n refl, eq-eqb (closed + 1) (closed + 1) refl)
+      holds v k (no e) = rw (getD-set-other marks n v new 0 e, ne-eqb v n e) (M .holds v k)
 
-      small : (v : ℕ) → Dec (v ≡ n) → getD (set marks n (closed + 2)) v 0 ≤ closed + 2
-      small v (yes e) = rw (e, getD-set-same marks n (closed + 2) 0 inside) (omega arith)
-      small v (no e) = rw (getD-set-other marks n v (closed + 2) 0 e) (M .small v)
+      small : (v : ℕ) → Dec (v ≡ n) → getD (set marks n new) v 0 / 2 ≤ closed + 1
+      small v (yes e) = rw (e, getD-set-same marks n new 0 inside) (omega arith)
+      small v (no e) = rw (getD-set-other marks n v new 0 e) (M .small v)
 
   pub marked-closing : Marked marks P (words ++ (pos 0 ∷ [])) (closed + 1)
   unfolding isIn
   marked-closing =
       record {
         size = M .size;
-        nought = M .nought;
         says = M .says;
-        holds = λ v k. rw (open-closing [] words) (sym (ne-eqb (getD marks v 0) (closed + 1 + 2) (omega (arith, M .small v))));
+        seen = λ v k b. occurs-closing v words b ∙ M .seen v k b;
+        holds = λ v k. rw (open-closing [] words) (sym (ne-eqb (getD marks v 0 / 2) (closed + 1 + 1) (omega (arith, M .small v))));
         small = λ v. omega (arith, M .small v);
         count = zeros-closing words ∙ ap suc (M .count) ∙ sym (add-one closed);
       }
+
+  pub marks-free : MarksFree marks P words
+  unfolding isFreeMark
+  marks-free = record { size = M .size; frees = λ v l k. rw (M .seen v k l, M .says v k) }
 
 pub literal-none : (x : Option Reason) → Literal ≡ literalStep x → x ≡ none
 literal-none none e = refl
@@ -163,23 +199,23 @@ module _ {n v : ℕ} {positive : Bool} {used closed : ℕ} {table : List ℤ} {m
       go true f =
           let h = leb-true k v f in
           let is : n ≡ k = omega (arith, s, small) in
-          rw (length-take-le used table room, is, M .says k (omega (arith, small)), M .holds k (omega (arith, small)))
-      go false f = rw (f, lt-leb n v (omega (arith, s, leb-false k v f, small)))
+          rw (length-take-le used table room, is, M .holds k (omega (arith, small)))
+      go false f = rw (f, lt-leb n v (omega (arith, s, leb-false k v f, small)), and-false (ltb 0 k), and-false (ltb 0 n))
 
   pub literal-post : ClauseTokenPost m v used closed table marks table′ marks′ answer
   literal-post = go judged refl (post .answers)
     where
       go : (o : Option Reason) → judged ≡ o → answer ≡ literalStep o → ClauseTokenPost m v used closed table marks table′ marks′ answer
       go none e a =
-          let f = literal-fine v n (ltb 0 (getD marks n 0)) (eqb (getD marks n 0) (closed + 2)) used (length table) e in
+          let f = literal-fine v n (holdsOpen (getD marks n 0) closed) used (length table) e in
           let is : k ≡ n = omega (arith, s, f .inRange, small) in
           let stored = rw a at (post .stores) in
           let pushed : take (used + 1) table′ ≡ take used table ++ (signed positive n ∷ []) = rw (stored .0) (take-push table used (signed positive n) (f .fits)) in
           rw a (record {
             states = λ p rp c P M. (
               rw pushed (literal-judged p rp c P M ∙ rw (e, is)),
-              rw (pushed, stored .1) (marked-literal marks P (take used table) closed M positive n (omega (arith, f .inRange, small)) (f .isBound)),
-              rw (pushed, open-literal [] (take used table) positive n (marked-proper marks P (take used table) closed M n (f .isBound))),
+              rw (pushed, stored .1) (marked-literal marks P (take used table) closed M positive n (omega (arith, f .inRange, small)) (f .least)),
+              rw (pushed, open-literal [] (take used table) positive n (λ z. omega (arith, f .least, z))),
             );
             stores = (f .fits, rw (stored .1, length-set) size);
           })
@@ -251,16 +287,16 @@ clauses-begin text from v c table marks h =
     }
 
 module _ {text : List ℕ} {from v c : ℕ} {table₀ table : List ℤ} {marks₀ marks : List ℕ} {at used closed start : ℕ} (I : ClausesSoFar text from v c table₀ table marks₀ marks at used closed start) where
-  pub clauses-end : tokensAt text at ≡ [] → (prefixRoom : ℕ) (P : Prefix) → Listed marks₀ P → ClausesPost text from v c prefixRoom P table₀ table (clausesEnd (positionAt text (length text)) (ltb start used) (ltb closed c) used)
+  pub clauses-end : tokensAt text at ≡ [] → (prefixRoom : ℕ) (P : Prefix) → Listed marks₀ P → ClausesPost text from v c prefixRoom P table₀ table marks (clausesEnd (positionAt text (length text)) (ltb start used) (ltb closed c) used)
   unfolding ending
   clauses-end e rp P L =
       let R = I .sofar rp P L in
       go (ltb start used) (ltb closed c) (R .reads ∙ from-end rp (length table₀) text (clauses v c P (take used table)) at e ∙ rw (R .opened, R .marked .count))
     where
-      go : (o m : Bool) → readingFrom rp (length table₀) text (clauses v c P []) from ≡ clausesEnding text o m (read (prefixWords P) (take used table) c) → ClausesPost text from v c rp P table₀ table (clausesEnd (positionAt text (length text)) o m used)
+      go : (o m : Bool) → readingFrom rp (length table₀) text (clauses v c P []) from ≡ clausesEnding text o m (completing rp text (completed v P (take used table)) (take used table) c) → ClausesPost text from v c rp P table₀ table marks (clausesEnd (positionAt text (length text)) o m used)
       go true m e = e
       go false true e = e
-      go false false e = (e, I .room)
+      go false false e = (e, I .room, marks-free marks P (take used table) closed (I .sofar rp P L .marked), refl)
 
   module _ {shows : Shown} {p k : Position} (f : Finds text at shows p k) where
     -- The token at hand goes to a clause, or is one too many.
@@ -270,12 +306,12 @@ module _ {text : List ℕ} {from v c : ℕ} {table₀ table : List ℤ} {marks�
         let R = I .sofar rp P L in
         R .reads ∙ from-token rp (length table₀) text (clauses v c P (take used table)) f ∙ rw (R .marked .count, e)
 
-    pub clauses-over : c ≤ closed → (table′ : List ℤ) (prefixRoom : ℕ) (P : Prefix) → Listed marks₀ P → ClausesPost text from v c prefixRoom P table₀ table′ (NoClauses (refusedAt p Miscount))
-    clauses-over h table′ rp P L =
+    pub clauses-over : c ≤ closed → (table′ : List ℤ) (marks′ : List ℕ) (prefixRoom : ℕ) (P : Prefix) → Listed marks₀ P → ClausesPost text from v c prefixRoom P table₀ table′ marks′ (NoClauses (refusedAt p Miscount))
+    clauses-over h table′ marks′ rp P L =
         clauses-step false (le-ltb closed c h) rp P L ∙ from-refused rp (length table₀) text (f .place-in) Miscount (k .place)
 
     module _ (h : closed < c) where
-      pub clauses-refuse : {r : Reason} {table′ : List ℤ} {marks′ : List ℕ} → ClauseTokenPost (numberOf (f .bytes)) v used closed table marks table′ marks′ (NoStep r) → (prefixRoom : ℕ) (P : Prefix) → Listed marks₀ P → ClausesPost text from v c prefixRoom P table₀ table′ (NoClauses (refusedAt p r))
+      pub clauses-refuse : {r : Reason} {table′ : List ℤ} {marks′ : List ℕ} → ClauseTokenPost (numberOf (f .bytes)) v used closed table marks table′ marks′ (NoStep r) → (prefixRoom : ℕ) (P : Prefix) → Listed marks₀ P → ClausesPost text from v c prefixRoom P table₀ table′ marks′ (NoClauses (refusedAt p r))
       clauses-refuse {r} post rp P L =
           clauses-step true (lt-ltb closed c h) rp P L ∙ rw (← I .same, post .states (p .place) rp c P (I .sofar rp P L .marked)) (from-refused rp (length table) text (f .place-in) r (k .place))
 

@@ -1,25 +1,33 @@
--- Laws of filling and clearing the tables: no marks at first, the stages one after the other, zeros past the used part.
+-- Laws of filling and clearing the tables: no marks at first, the stages one after the other, the completed prefix, zeros past the used part.
 -- Assumes nothing.
-use Prim.Native.Nat.{ℕ, zero, suc, _-_, _≤_}
-use mathlib.Core.Path.{_≡_, refl, ap}
+use Prim.Native.Nat.{ℕ, zero, suc, _+_, _-_, _≤_}
+use mathlib.Core.Path.{_≡_, refl, ap, _∙_}
 use mathlib.Core.Bool.{true, false}
 use mathlib.Core.List.{List, [], _∷_, _++_}
 use native.Mathlib.Nat.{le-of-suc-le-suc, not-suc-le-zero}
 use native.Mathlib.Omega.{arith}
-use lib.ListN.{length, getD, take, replicate, length-replicate}
+use borrow.Author.Tests.{le-leb, lt-leb}
+use lib.ListN.{length, getD, take, replicate, length-replicate, length-append}
 use lib.Seq.{length-take-le}
 use lib.Dec.{leb}
 use lib.IntN.{ℤ, pos}
 use Rattle.formula.specs.Bounds.{variableBound, textBound}
 use Rattle.formula.specs.Clear.{clearFrom}
-use Rattle.formula.specs.Refusal.{refusal}
+use Rattle.formula.specs.Free.{isFree, free, existentials, completed}
+use Rattle.formula.specs.Free.Complete.{isFreeMark, freeWords, CompletionPost}
+use Rattle.formula.specs.Free.Laws.{passing-same}
+use Rattle.formula.specs.Prefix.{prefixOf, prefixWords}
+use Rattle.formula.specs.Prefix.Laws.{prefix-words, words-append}
+use Rattle.formula.specs.Refusal.{refusal, inText}
 use Rattle.formula.specs.Tables.{isIn}
 use Rattle.formula.specs.Token.{firstToken}
-use Rattle.formula.specs.Text.{padded, refused, wantsP, reading, readingFrom, ReadPost}
+use Rattle.formula.specs.Text.{Reading, padded, refused, wantsP, completing, reading, readingFrom, ReadPost}
 use Rattle.formula.specs.Text.Sets.{Listed}
+use Rattle.formula.specs.Text.Clauses.{MarksFree}
 use Rattle.formula.specs.Text.Fill.{FillPost}
-use Rattle.formula.specs.declared.refusal.Reason.the-variants.{Oversized as TooLong}
+use Rattle.formula.specs.declared.refusal.Reason.the-variants.{Oversized as TooLong, NoRoom as Lacks}
 use Rattle.formula.specs.declared.refusal.Refusal.{Refusal}
+use Rattle.formula.specs.declared.free.Completion.the-variants.{Completed, NoRoom}
 use Rattle.formula.specs.declared.read.ReadAnswer.the-variants.{Read, Refused as Unread}
 
 unmarked : (n v : ℕ) → getD {A = ℕ} (replicate n 0) v 0 ≡ 0
@@ -75,3 +83,29 @@ reading-from text prefixRoom clauseRoom e = rw e
 pub reading-long : (text : List ℕ) (prefixRoom clauseRoom : ℕ) → leb (length text) textBound ≡ false → reading text prefixRoom clauseRoom ≡ refused (refusal TooLong 0)
 unfolding reading
 reading-long text prefixRoom clauseRoom e = rw e
+
+-- The words of the completed prefix, by the marks: the free variables' ahead of the listed ones'.
+completed-words :
+    (v used : ℕ) (prefix words : List ℤ) (marks : List ℕ) → v ≤ variableBound → MarksFree marks (prefixOf (take used prefix)) words
+    → prefixWords (completed v (prefixOf (take used prefix)) words) ≡ freeWords marks v ++ take used prefix
+completed-words v used prefix words marks b F =
+    words-append (existentials (free v (prefixOf (take used prefix)) words)) (prefixOf (take used prefix))
+    ∙ rw (prefix-words (take used prefix), passing-same (isFree (prefixOf (take used prefix)) words) (λ n. isFreeMark (getD marks n 0)) v (λ n l h. F .frees n l (omega (arith, b))))
+
+-- What `complete` answers decides what is read.
+module _ (prefixRoom : ℕ) (text : List ℕ) (v c used n : ℕ) (prefix prefix′ clauses′ : List ℤ) (marks : List ℕ) (b : v ≤ variableBound) (h : used ≤ length prefix) (room : length prefix ≡ prefixRoom) (k : n ≤ length clauses′) (F : MarksFree marks (prefixOf (take used prefix)) (take n clauses′)) where
+  abbrev completedReading : Reading
+  completedReading = completing prefixRoom text (completed v (prefixOf (take used prefix)) (take n clauses′)) (take n clauses′) c
+
+  total-length : length (freeWords marks v ++ take used prefix) ≡ length (freeWords marks v) + used
+  total-length = length-append (freeWords marks v) (take used prefix) ∙ rw (length-take-le used prefix h)
+
+  pub fill-completed : (total : ℕ) → length prefix′ ≡ length prefix → CompletionPost marks v used prefix prefix′ (Completed total) → FillPost completedReading prefix′ clauses′ (Read total n c)
+  fill-completed total l post =
+      let fits : leb (length (freeWords marks v ++ take used prefix)) prefixRoom ≡ true = le-leb (length (freeWords marks v ++ take used prefix)) prefixRoom (omega (arith, total-length, post .0, post .1, l, room)) in
+      (rw (completed-words v used prefix (take n clauses′) marks b F, fits, post .2), post .1, k)
+
+  pub fill-crowded : CompletionPost marks v used prefix prefix′ NoRoom → completedReading ≡ refused (inText text (length text) Lacks)
+  fill-crowded post =
+      let short : leb (length (freeWords marks v ++ take used prefix)) prefixRoom ≡ false = lt-leb (length (freeWords marks v ++ take used prefix)) prefixRoom (omega (arith, total-length, post, room)) in
+      rw (completed-words v used prefix (take n clauses′) marks b F, short)

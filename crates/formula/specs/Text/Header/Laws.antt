@@ -1,14 +1,13 @@
 -- Laws of reading the header: what is read from each of its four tokens on. Assumes nothing.
-use Prim.Native.Nat.{ℕ, _+_, _<_, _≤_, min}
-use mathlib.Core.Path.{_≡_, refl, ap, sym, _∙_}
+use Prim.Native.Nat.{ℕ, _<_, _≤_, min}
+use mathlib.Core.Path.{_≡_, refl, ap, _∙_}
 use mathlib.Core.Bool.{Bool, true, false}
 use mathlib.Core.List.{List, [], _∷_}
 use native.Mathlib.Omega.{arith}
 use borrow.Author.Tests.{leb-true, leb-false, lt-leb}
-use lib.ListN.{length, take, drop}
+use lib.ListN.{length}
 use lib.Dec.{leb}
 use Rattle.formula.specs.Bounds.{variableBound, countBound}
-use Rattle.formula.specs.Position.{positionAt}
 use Rattle.formula.specs.Position.Cursor.{PositionIn}
 use Rattle.formula.specs.Refusal.{inText, require}
 use Rattle.formula.specs.Token.{Token, tokensAt, same, pText, cnfText, Number, natural, negative, noNumber, numberOf}
@@ -65,7 +64,7 @@ module _ (prefixRoom clauseRoom : ℕ) (text : List ℕ) where
   -- A state of the header, what it wants and what follows by the token's place and value.
   record Wants (s : State) (wanted : Wanted) (next : (at n : ℕ) → State) : Type 0 where
     steps : (t : Token) → step prefixRoom clauseRoom s t ≡ valued (valueOf wanted (t .bytes) (shown (numberOf (t .bytes)))) (t .place) (next (t .place))
-    ends : ending text s ≡ refused (atEnd text Headless)
+    ends : ending prefixRoom text s ≡ refused (atEnd text Headless)
 
   abbrev pub FieldReads : State → ((at n : ℕ) → State) → ℕ → FieldAnswer → Type 0
   FieldReads s next at (Field n k) = ((p : ℕ) × (readingFrom prefixRoom clauseRoom text s at ≡ readingFrom prefixRoom clauseRoom text (next p n) (k .place))) × PositionIn text k

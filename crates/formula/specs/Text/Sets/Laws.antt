@@ -19,7 +19,7 @@ use Rattle.formula.specs.Prefix.{prefixOf, entryFits, usedAfter, quantif
 use Rattle.formula.specs.Prefix.Laws.{prefix-none, prefix-words, put-entries, put-more, put-within}
 use Rattle.formula.specs.Tables.{isIn, zeros}
 use Rattle.formula.specs.Position.Cursor.{PositionIn}
-use Rattle.formula.specs.Token.{tokensAt, same, aText, eText, Number, natural, negative, noNumber, numberOf}
+use Rattle.formula.specs.Token.{tokensAt, same, aText, eText, Number, natural, numberOf}
 use Rattle.formula.specs.Token.Scan.{tooLarge, shown}
 use Rattle.formula.specs.Token.Laws.{Finds}
 use Rattle.formula.specs.Token.Numbers.{shown-natural, shown-negative, shown-no-number}
