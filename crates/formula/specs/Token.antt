@@ -4,7 +4,8 @@
 pub mod Scan
 pub mod Laws
 pub mod Numbers
-use Prim.Native.Nat.{ℕ, _+_, _*_, _-_}
+use Prim.Native.Nat.{ℕ, _+_, _*_, _-_, _≤_}
+use mathlib.Core.Path.{_≡_}
 use mathlib.Core.Bool.{Bool, true, false, _||_, _&&_, cond}
 use mathlib.Core.List.{List, [], _∷_, _++_}
 use lib.ListN.{drop, length}
@@ -19,6 +20,15 @@ isDigit b = leb 48 b && leb b 57
 
 unfoldable pub isBlank : ℕ → Bool
 isBlank b = eqb b 32 || eqb b 9 || eqb b 13 || eqb b lineFeed
+
+-- Bytes that no blank parts, at least one: a token, wherever blanks stand around it.
+abbrev pub AllSolid : List ℕ → Type 0
+AllSolid [] = Unit {0}
+AllSolid (b ∷ bs) = (isBlank b ≡ false) × AllSolid bs
+
+pub record IsRun (bytes : List ℕ) : Type 0 where
+  pub no-blank : AllSolid bytes
+  pub full : 1 ≤ length bytes
 
 -- Bytes before the first token: at a line's start, further in a line, in a comment; or they are over. A byte that parts
 -- tokens goes on, so does a `c` at a line's start; any other is the first of a token. A comment ends at LF.

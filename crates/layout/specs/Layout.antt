@@ -1,6 +1,7 @@
 -- What a formula's text is (01, "Formula text"), apart from the reader: no state, and no order of tests. A text is comment lines and blanks,
--- then tokens parted by blanks: the header's, those of the quantifier sets, those of the clauses. That these texts and no others are read, to
--- just these tables, are `layout-read` and `read-layout` of Layout/Laws.antt.
+-- then tokens parted by blanks: the header's, those of the quantifier sets, those of the clauses (`Layout`). It is read where its numbers are as 01
+-- has them (`Regular`) and within bounds and room (`Fits`), and then to the tables that it lays out; no other text is read. These are
+-- `layout-read` and `read-layout` of Layout/Laws.antt. Sentences in quotation marks are 01's.
 pub mod Examples
 pub mod Pieces
 pub mod Lead
@@ -13,18 +14,15 @@ use mathlib.Core.Path.{_≡_}
 use mathlib.Core.Bool.{true}
 use mathlib.Core.Logic.{_⊎_}
 use mathlib.Core.List.{List, [], _∷_, _++_, map, flatMap, List·Memᴰ}
-use lib.IntN.{ℤ, natAbs}
+use lib.IntN.{ℤ, pos, natAbs}
 use lib.ListN.{length}
-use Rattle.qbf.specs.Formula.{Quantifier, entry, Prefix, listed}
-use Rattle.formula.specs.Bounds.{variableBound, textBound}
+use Rattle.qbf.specs.Formula.{Quantifier, entry, Prefix, listed, Distinct}
+use Rattle.formula.specs.Bounds.{variableBound, countBound, matrixBound, textBound}
 use Rattle.formula.specs.Decimal.{decimal}
 use Rattle.formula.specs.Free.{completed}
 use Rattle.formula.specs.Position.{lineFeed}
 use Rattle.formula.specs.Prefix.{prefixWords}
-use Rattle.formula.specs.RoundTrip.Scan.{IsRun}
-use Rattle.formula.specs.Tables.{zeros}
-use Rattle.formula.specs.Tables.Proper.{ProperTables}
-use Rattle.formula.specs.Token.{isBlank, pText, cnfText}
+use Rattle.formula.specs.Token.{isBlank, IsRun, pText, cnfText}
 use Rattle.formula.specs.Write.{letterOf, literalText}
 
 -- "Tokens are parted by space, tab, CR or LF." Bytes that are blanks alone.
@@ -51,8 +49,8 @@ abbrev pub tokensIn : List Piece → List (List ℕ)
 tokensIn [] = []
 tokensIn (p ∷ ps) = p .token ∷ tokensIn ps
 
--- "Lines whose first byte is `c` are comments, up to LF .., only before the header's `p`." A line before the header, without its LF, is a
--- comment or holds blanks alone.
+-- "Lines whose first byte is `c` are comments, up to LF or the text's end, only before the header's `p`." A line before the header, without its
+-- LF, is a comment (99 is `c`) or holds blanks alone; one that the text's end closes leaves no header.
 abbrev pub NoFeed : List ℕ → Type 0
 NoFeed [] = Unit {0}
 NoFeed (b ∷ bs) = (b ≡ lineFeed → ⊥) × NoFeed bs
@@ -70,21 +68,8 @@ unfoldable pub leadText : List (List ℕ) → List ℕ → List ℕ
 leadText [] indent = indent
 leadText (l ∷ ls) indent = l ++ (lineFeed ∷ leadText ls indent)
 
--- "quantifier sets (`a` or `e`, positive numbers, 0)"
-pub record QuantifierSet : Type 0 where
-  pub quantifier : Quantifier
-  pub variables : List ℕ
-
-abbrev pub setTokens : QuantifierSet → List (List ℕ)
-setTokens s = (letterOf (s .quantifier) ∷ []) ∷ (map decimal (s .variables) ++ (decimal 0 ∷ []))
-
--- "Then `p cnf V C`, quantifier sets .., then clauses." The words of the clause table, closing zeros among them, are the clauses' tokens. A number
--- is its decimal digits, one below 0 has a minus before them.
-abbrev pub tokensOf : (v c : ℕ) → List QuantifierSet → List ℤ → List (List ℕ)
-tokensOf v c sets words = pText ∷ cnfText ∷ decimal v ∷ decimal c ∷ (flatMap setTokens sets ++ map literalText words)
-
--- The text lays out these numbers, sets and clause words.
-pub record Layout (text : List ℕ) (v c : ℕ) (sets : List QuantifierSet) (words : List ℤ) : Type 0 where
+-- The text has these tokens, in this order, and none beside: lines and blanks, then pieces.
+pub record HasTokens (text : List ℕ) (tokens : List (List ℕ)) : Type 0 where
   pub lines : List (List ℕ)
   pub indent : List ℕ
   pub pieces : List Piece
@@ -92,31 +77,78 @@ pub record Layout (text : List ℕ) (v c : ℕ) (sets : List QuantifierSet) (wor
   pub indented : AllBlank indent × NoFeed indent
   pub parted : Parted pieces
   pub whole : text ≡ leadText lines indent ++ laid pieces
-  pub its-tokens : tokensIn pieces ≡ tokensOf v c sets words
+  pub its-tokens : tokensIn pieces ≡ tokens
 
--- The entries that sets list, in order.
+-- "quantifier sets (`a` or `e`, positive numbers, 0)", "Neighbouring sets of one letter, and a universal last set, are accepted."
+pub record QuantifierSet : Type 0 where
+  pub quantifier : Quantifier
+  pub variables : List ℕ
+
+abbrev pub setTokens : QuantifierSet → List (List ℕ)
+setTokens s = (letterOf (s .quantifier) ∷ []) ∷ (map decimal (s .variables) ++ (decimal 0 ∷ []))
+
+abbrev pub Sets : List QuantifierSet → Type 0
+Sets [] = Unit {0}
+Sets (s ∷ sets) = (1 ≤ length (s .variables)) × ((n : ℕ) → List·Memᴰ n (s .variables) → 1 ≤ n) × Sets sets
+
+-- "Clause words are literals, every clause closed by 0." "A number is 0, or an optional minus and digits that start with 1 to 9."
+abbrev pub clauseTokens : List ℤ → List (List ℕ)
+clauseTokens C = map literalText C ++ (decimal 0 ∷ [])
+
+abbrev pub Clauses : List (List ℤ) → Type 0
+Clauses Cs = (C : List ℤ) → List·Memᴰ C Cs → (w : ℤ) → List·Memᴰ w C → w ≡ pos 0 → ⊥
+
+-- "Then `p cnf V C`, quantifier sets .., then clauses." C is how many clauses there are.
+abbrev pub tokensOf : (v : ℕ) → List QuantifierSet → List (List ℤ) → List (List ℕ)
+tokensOf v sets Cs = pText ∷ cnfText ∷ decimal v ∷ decimal (length Cs) ∷ (flatMap setTokens sets ++ flatMap clauseTokens Cs)
+
+-- The text lays out V, these sets and these clauses.
+pub record Layout (text : List ℕ) (v : ℕ) (sets : List QuantifierSet) (Cs : List (List ℤ)) : Type 0 where
+  pub in-text : HasTokens text (tokensOf v sets Cs)
+  pub its-sets : Sets sets
+  pub its-clauses : Clauses Cs
+
+-- The entries that sets list, in order; the words of clauses.
 abbrev pub setEntries : QuantifierSet → Prefix
 setEntries s = map (λ (n : ℕ). entry n (s .quantifier)) (s .variables)
 
 abbrev pub entriesOf : List QuantifierSet → Prefix
 entriesOf sets = flatMap setEntries sets
 
-abbrev pub Filled : List QuantifierSet → Type 0
-Filled [] = Unit {0}
-Filled (s ∷ sets) = (1 ≤ length (s .variables)) × Filled sets
+abbrev pub closed : List ℤ → List ℤ
+closed C = C ++ (pos 0 ∷ [])
+
+abbrev pub wordsOf : List (List ℤ) → List ℤ
+wordsOf Cs = flatMap closed Cs
 
 -- The prefix table that the text denotes: the sets' entries, and before them the variables that no set binds (02, P2).
-abbrev pub prefixOfSets : (v : ℕ) → List QuantifierSet → List ℤ → List ℤ
-prefixOfSets v sets words = prefixWords (completed v (entriesOf sets) words)
+abbrev pub prefixOfSets : (v : ℕ) → List QuantifierSet → List (List ℤ) → List ℤ
+prefixOfSets v sets Cs = prefixWords (completed v (entriesOf sets) (wordsOf Cs))
 
--- What is laid out is within the bounds, the header's numbers and the room lent, and makes proper tables.
-pub record Fits (text : List ℕ) (v c : ℕ) (sets : List QuantifierSet) (words : List ℤ) (prefixRoom clauseRoom : ℕ) : Type 0 where
+-- No variable is above V (5), listed again (6), or twice in a clause, whatever its signs (8).
+pub record Regular (v : ℕ) (sets : List QuantifierSet) (Cs : List (List ℤ)) : Type 0 where
+  pub listed-range : (n : ℕ) → List·Memᴰ n (listed (entriesOf sets)) → n ≤ v
+  pub literal-range : (w : ℤ) → List·Memᴰ w (wordsOf Cs) → natAbs w ≤ v
+  pub listed-once : Distinct (listed (entriesOf sets))
+  pub once-in-clause : (C : List ℤ) → List·Memᴰ C Cs → Distinct (map natAbs C)
+
+-- "at most 1,024 variables, numbered 1 to 1,024; 8,192 input clauses; 65,536 clause words; .. 1,048,576 bytes of text" (2), and the room lent (3).
+pub record Fits (text : List ℕ) (v : ℕ) (sets : List QuantifierSet) (Cs : List (List ℤ)) (prefixRoom clauseRoom : ℕ) : Type 0 where
   pub short : length text ≤ textBound
-  pub few : v ≤ variableBound
-  pub counted : zeros words ≡ c
-  pub filled : Filled sets
-  pub listed-range : (n : ℕ) → List·Memᴰ n (listed (entriesOf sets)) → (1 ≤ n) × (n ≤ v)
-  pub word-range : (w : ℤ) → List·Memᴰ w words → natAbs w ≤ v
-  pub proper : ProperTables (prefixOfSets v sets words) words
-  pub prefix-room : length (prefixOfSets v sets words) ≤ prefixRoom
-  pub clause-room : length words ≤ clauseRoom
+  pub variables : v ≤ variableBound
+  pub count : length Cs ≤ countBound
+  pub words : length (wordsOf Cs) ≤ matrixBound
+  pub clause-room : length (wordsOf Cs) ≤ clauseRoom
+  pub prefix-room : length (prefixOfSets v sets Cs) ≤ prefixRoom
+
+-- A text that is laid out so, and the tables that it denotes.
+pub record LaidOut (text : List ℕ) (prefix words : List ℤ) (count prefixRoom clauseRoom : ℕ) : Type 0 where
+  pub v : ℕ
+  pub sets : List QuantifierSet
+  pub clauses : List (List ℤ)
+  pub layout : Layout text v sets clauses
+  pub regular : Regular v sets clauses
+  pub fits : Fits text v sets clauses prefixRoom clauseRoom
+  pub its-prefix : prefix ≡ prefixOfSets v sets clauses
+  pub its-words : words ≡ wordsOf clauses
+  pub its-count : count ≡ length clauses

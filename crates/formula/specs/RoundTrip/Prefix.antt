@@ -31,9 +31,9 @@ use Rattle.formula.specs.Tables.Laws.{is-in-absent}
 use Rattle.formula.specs.Decimal.{decimal}
 use Rattle.formula.specs.Write.{headerText, letterOf}
 use Rattle.formula.specs.Write.Stream.{lineEnd, lineTurn, entryText, prefixText}
-use Rattle.formula.specs.Token.{isBlank, same, numberOf}
+use Rattle.formula.specs.Token.{isBlank, IsRun, same, numberOf}
 use Rattle.formula.specs.Text.{State, wantsP, wantsCnf, wantsV, wantsC, betweenSets, inSet, variableReason, step}
-use Rattle.formula.specs.RoundTrip.Scan.{IsRun, decimal-run, decimal-number, Takes, takes-none, takes-append, takes-token}
+use Rattle.formula.specs.RoundTrip.Scan.{decimal-run, decimal-number, Takes, takes-none, takes-append, takes-token}
 
 -- `0`, `p`, `cnf`, `e`, `a`.
 pub zero-run : IsRun (48 ∷ [])

@@ -14,18 +14,9 @@ use Rattle.qbf.specs.Connectives.{and-both, both-and}
 use Rattle.formula.specs.Decimal.{decimal}
 use Rattle.formula.specs.Decimal.Laws.{decimal-induction}
 use Rattle.formula.specs.Position.{lineFeed}
-use Rattle.formula.specs.Token.{isDigit, isBlank, Token, tokensFrom, same, natural, negative, allDigits, valueFrom, isNumeral, numberOf}
+use Rattle.formula.specs.Token.{isDigit, isBlank, AllSolid, IsRun, Token, tokensFrom, same, natural, negative, allDigits, valueFrom, isNumeral, numberOf}
 use Rattle.formula.specs.Token.Numbers.{all-snoc, value-snoc}
 use Rattle.formula.specs.Text.{State, step, run}
-
--- Bytes that no blank parts, at least one: a token, wherever blanks stand around it.
-abbrev pub AllSolid : List ℕ → Type 0
-AllSolid [] = Unit {0}
-AllSolid (b ∷ bs) = (isBlank b ≡ false) × AllSolid bs
-
-pub record IsRun (bytes : List ℕ) : Type 0 where
-  pub no-blank : AllSolid bytes
-  pub full : 1 ≤ length bytes
 
 solid-append : (xs ys : List ℕ) → AllSolid xs → AllSolid ys → AllSolid (xs ++ ys)
 solid-append [] ys a b = b

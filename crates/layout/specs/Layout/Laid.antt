@@ -2,11 +2,12 @@
 use Prim.Native.Nat.{ℕ, zero, suc, _+_, _≤_, _<_}
 use mathlib.Core.Path.{_≡_, refl, ap, sym, _∙_}
 use mathlib.Core.Bool.{Bool, true, false}
+use mathlib.Core.Logic.{_⊎_, inl, inr}
 use mathlib.Core.Option.{Option, none, some}
-use mathlib.Core.List.{List, [], _∷_, _++_, map, flatMap, append-assoc, append-nil, map-append}
+use mathlib.Core.List.{List, [], _∷_, _++_, map, flatMap, append-assoc, append-nil, map-append, List·Memᴰ, List·Memᴰ·not-nil, List·Memᴰ·append-cases, List·Memᴰ·eq-of-singleton}
 use native.Mathlib.Omega.{arith}
 use lib.Dec.{leb, ltb}
-use lib.IntN.{ℤ, pos}
+use lib.IntN.{ℤ, pos, natAbs}
 use lib.ListN.{length, length-append}
 use Rattle.qbf.specs.Formula.{Quantifier, existential, universal, entry, Prefix, listed}
 use Rattle.formula.specs.Bounds.{variableBound, countBound}
@@ -37,13 +38,14 @@ use Rattle.formula.specs.Text.{
   step,
   run,
 }
+use Rattle.formula.specs.Text.Clauses.Laws.{signed-magnitude}
 use Rattle.formula.specs.Text.Laws.{literal-fine, closing-fine}
 use Rattle.formula.specs.Token.{Token, same, pText, cnfText, eText, aText, Number, natural, negative, noNumber, numberOf}
 use Rattle.formula.specs.Word.{signed}
 use Rattle.formula.specs.Write.{letterOf, literalText}
 use Rattle.formula.specs.declared.refusal.Reason.{Reason}
 use Rattle.formula.specs.declared.refusal.Reason.the-variants.{Headless, Oversized, BadToken, Miscount}
-use Rattle.layout.specs.Layout.{QuantifierSet, setTokens, setEntries, entriesOf, Filled}
+use Rattle.layout.specs.Layout.{QuantifierSet, setTokens, Sets, setEntries, entriesOf}
 use Rattle.layout.specs.Layout.Numbers.{same-bytes, natural-is, negative-is}
 use Rattle.layout.specs.Layout.Pieces.{bytesOf}
 
@@ -55,21 +57,23 @@ pub record SetsTold (v c : ℕ) (P : Prefix) (done : List (List ℕ)) : Type 0 w
   pub sets : List QuantifierSet
   pub told : done ≡ headerTokens v c ++ flatMap setTokens sets
   pub entries : P ≡ entriesOf sets
-  pub filled : Filled sets
+  pub its-sets : Sets sets
 
 pub record SetTold (v c : ℕ) (q : Quantifier) (full : Bool) (P : Prefix) (done : List (List ℕ)) : Type 0 where
   pub sets : List QuantifierSet
   pub variables : List ℕ
   pub told : done ≡ headerTokens v c ++ (flatMap setTokens sets ++ ((letterOf q ∷ []) ∷ map decimal variables))
   pub entries : P ≡ entriesOf sets ++ map (λ (n : ℕ). entry n q) variables
-  pub filled : Filled sets
+  pub its-sets : Sets sets
   pub some-listed : full ≡ true → 1 ≤ length variables
+  pub positive : (n : ℕ) → List·Memᴰ n variables → 1 ≤ n
 
 pub record ClausesTold (clauseRoom v c : ℕ) (P : Prefix) (words : List ℤ) (done : List (List ℕ)) : Type 0 where
   pub sets : List QuantifierSet
   pub told : done ≡ headerTokens v c ++ (flatMap setTokens sets ++ map literalText words)
   pub entries : P ≡ entriesOf sets
-  pub filled : Filled sets
+  pub its-sets : Sets sets
+  pub range : (w : ℤ) → List·Memᴰ w words → natAbs w ≤ v
   pub room : length words ≤ clauseRoom
 
 abbrev pub Told : (clauseRoom : ℕ) → State → List (List ℕ) → Type 0
@@ -85,22 +89,17 @@ Told clauseRoom (stopped at r) done = Unit {0}
 -- Before the first clause token the reader is still among the sets.
 pub sets-told : (clauseRoom v c : ℕ) (P : Prefix) (done : List (List ℕ)) → SetsTold v c P done → ClausesTold clauseRoom v c P [] done
 sets-told clauseRoom v c P done T =
-    record { sets = T .sets; told = T .told ∙ ap {B = List (List ℕ)} (λ r. headerTokens v c ++ r) (sym (append-nil (flatMap setTokens (T .sets)))); entries = T .entries; filled = T .filled; room = omega arith }
+    record { sets = T .sets; told = T .told ∙ ap {B = List (List ℕ)} (λ r. headerTokens v c ++ r) (sym (append-nil (flatMap setTokens (T .sets)))); entries = T .entries; its-sets = T .its-sets; range = λ w m. absurd (List·Memᴰ·not-nil m); room = omega arith }
 
--- Lists of sets, one more.
-sets-snoc : (sets : List QuantifierSet) (s : QuantifierSet) → flatMap setTokens (sets ++ (s ∷ [])) ≡ flatMap setTokens sets ++ setTokens s
+-- One more: in a list of lists joined, in a list of sets.
+flat-snoc : {A B : Type 0} (f : A → List B) (xs : List A) (x : A) → flatMap f (xs ++ (x ∷ [])) ≡ flatMap f xs ++ f x
 unfolding flatMap
-sets-snoc [] s = append-nil (setTokens s)
-sets-snoc (t ∷ sets) s = rw (sets-snoc sets s) (sym (append-assoc (setTokens t) (flatMap setTokens sets) (setTokens s)))
+flat-snoc f [] x = append-nil (f x)
+flat-snoc f (y ∷ xs) x = rw (flat-snoc f xs x) (sym (append-assoc (f y) (flatMap f xs) (f x)))
 
-entries-snoc : (sets : List QuantifierSet) (s : QuantifierSet) → entriesOf (sets ++ (s ∷ [])) ≡ entriesOf sets ++ setEntries s
-unfolding flatMap
-entries-snoc [] s = append-nil (setEntries s)
-entries-snoc (t ∷ sets) s = rw (entries-snoc sets s) (sym (append-assoc (setEntries t) (entriesOf sets) (setEntries s)))
-
-filled-snoc : (sets : List QuantifierSet) (s : QuantifierSet) → Filled sets → 1 ≤ length (s .variables) → Filled (sets ++ (s ∷ []))
-filled-snoc [] s f h = (h, tt)
-filled-snoc (t ∷ sets) s f h = (f .0, filled-snoc sets s (f .1) h)
+sets-snoc : (sets : List QuantifierSet) (s : QuantifierSet) → Sets sets → 1 ≤ length (s .variables) → ((n : ℕ) → List·Memᴰ n (s .variables) → 1 ≤ n) → Sets (sets ++ (s ∷ []))
+sets-snoc [] s h l k = (l, k, tt)
+sets-snoc (t ∷ sets) s h l k = (h .0, h .1, sets-snoc sets s (h .2) l k)
 
 -- A token behind three parts.
 behind : (A B C : List (List ℕ)) (t : List ℕ) → (A ++ (B ++ C)) ++ (t ∷ []) ≡ A ++ (B ++ (C ++ (t ∷ [])))
@@ -127,23 +126,28 @@ module _ (prefixRoom clauseRoom : ℕ) where
       let s : QuantifierSet = record { quantifier = q; variables = T .variables } in
       record {
         sets = T .sets ++ (s ∷ []);
-        told = rw (e, T .told) (behind (headerTokens v c) (flatMap setTokens (T .sets)) ((letterOf q ∷ []) ∷ map decimal (T .variables)) (decimal 0) ∙ ap {B = List (List ℕ)} (λ r. headerTokens v c ++ r) (sym (sets-snoc (T .sets) s)));
-        entries = T .entries ∙ sym (entries-snoc (T .sets) s);
-        filled = filled-snoc (T .sets) s (T .filled) (T .some-listed refl);
+        told = rw (e, T .told) (behind (headerTokens v c) (flatMap setTokens (T .sets)) ((letterOf q ∷ []) ∷ map decimal (T .variables)) (decimal 0) ∙ ap {B = List (List ℕ)} (λ r. headerTokens v c ++ r) (sym (flat-snoc setTokens (T .sets) s)));
+        entries = T .entries ∙ sym (flat-snoc setEntries (T .sets) s);
+        its-sets = sets-snoc (T .sets) s (T .its-sets) (T .some-listed refl) (T .positive);
       }
 
   list-told :
-      (v c : ℕ) (q : Quantifier) (full : Bool) (P : Prefix) (done : List (List ℕ)) (bytes : List ℕ) (n : ℕ) → SetTold v c q full P done → bytes ≡ decimal n
+      (v c : ℕ) (q : Quantifier) (full : Bool) (P : Prefix) (done : List (List ℕ)) (bytes : List ℕ) (n : ℕ) → SetTold v c q full P done → bytes ≡ decimal n → 1 ≤ n
       → SetTold v c q true (P ++ (entry n q ∷ [])) (done ++ (bytes ∷ []))
-  list-told v c q full P done bytes n T e =
+  list-told v c q full P done bytes n T e l =
       record {
         sets = T .sets;
         variables = T .variables ++ (n ∷ []);
         told = rw (e, T .told, map-append decimal (T .variables) (n ∷ [])) (behind (headerTokens v c) (flatMap setTokens (T .sets)) ((letterOf q ∷ []) ∷ map decimal (T .variables)) (decimal n));
         entries = rw (T .entries, map-append (λ (k : ℕ). entry k q) (T .variables) (n ∷ [])) (append-assoc (entriesOf (T .sets)) (map (λ (k : ℕ). entry k q) (T .variables)) (entry n q ∷ []));
-        filled = T .filled;
+        its-sets = T .its-sets;
         some-listed = λ h. omega (arith, length-append (T .variables) (n ∷ []));
+        positive = λ m k. own m (List·Memᴰ·append-cases (T .variables) k);
       }
+    where
+      own : (m : ℕ) → List·Memᴰ m (T .variables) ⊎ List·Memᴰ m (n ∷ []) → 1 ≤ m
+      own m (inl k) = T .positive m k
+      own m (inr k) = omega (arith, l, List·Memᴰ·eq-of-singleton k)
 
   set-told :
       (at v c : ℕ) (q : Quantifier) (full : Bool) (P : Prefix) (done : List (List ℕ)) (bytes : List ℕ) (m : Number) → numberOf bytes ≡ m → SetTold v c q full P done
@@ -152,29 +156,36 @@ module _ (prefixRoom clauseRoom : ℕ) where
       require-told full at BadToken (betweenSets v c P) (done ++ (bytes ∷ [])) (λ f. close-told v c q P done bytes (rw f at T) (natural-is bytes 0 e))
   set-told at v c q full P done bytes (natural (suc n)) e T =
       unless-told at (variableReason v (suc n) (isIn (suc n) (listed P)) (entryFits prefixRoom (length (prefixWords P)))) (inSet v c q true (P ++ (entry (suc n) q ∷ []))) (done ++ (bytes ∷ []))
-      (λ x. list-told v c q full P done bytes (suc n) T (natural-is bytes (suc n) e))
+      (λ x. list-told v c q full P done bytes (suc n) T (natural-is bytes (suc n) e) (omega arith))
   set-told at v c q full P done bytes (negative n) e T = tt
   set-told at v c q full P done bytes noNumber e T = tt
 
   -- A token of a clause.
   word-told :
-      (v c : ℕ) (P : Prefix) (words : List ℤ) (done : List (List ℕ)) (bytes : List ℕ) (w : ℤ) → ClausesTold clauseRoom v c P words done → bytes ≡ literalText w → length words < clauseRoom
+      (v c : ℕ) (P : Prefix) (words : List ℤ) (done : List (List ℕ)) (bytes : List ℕ) (w : ℤ) → ClausesTold clauseRoom v c P words done → bytes ≡ literalText w → natAbs w ≤ v → length words < clauseRoom
       → ClausesTold clauseRoom v c P (words ++ (w ∷ [])) (done ++ (bytes ∷ []))
-  word-told v c P words done bytes w T e h =
+  word-told v c P words done bytes w T e l h =
       record {
         sets = T .sets;
         told = rw (e, T .told, map-append literalText words (w ∷ [])) (behind (headerTokens v c) (flatMap setTokens (T .sets)) (map literalText words) (literalText w));
         entries = T .entries;
-        filled = T .filled;
+        its-sets = T .its-sets;
+        range = λ u m. own u (List·Memᴰ·append-cases words m);
         room = omega (arith, h, length-append words (w ∷ []));
       }
+    where
+      own : (u : ℤ) → List·Memᴰ u words ⊎ List·Memᴰ u (w ∷ []) → natAbs u ≤ v
+      own u (inl k) = T .range u k
+      own u (inr k) = rw (List·Memᴰ·eq-of-singleton k) l
 
   literal-told :
       (at v c : ℕ) (P : Prefix) (words : List ℤ) (done : List (List ℕ)) (bytes : List ℕ) (positive : Bool) (n : ℕ) → ClausesTold clauseRoom v c P words done → bytes ≡ literalText (signed positive n)
       → Told clauseRoom (putLiteral prefixRoom clauseRoom at v c P words positive n) (done ++ (bytes ∷ []))
   literal-told at v c P words done bytes positive n T e =
       unless-told at (literalReason v n (isIn n (openClause words)) (length words) clauseRoom) (clauses v c P (words ++ (signed positive n ∷ []))) (done ++ (bytes ∷ []))
-      (λ x. word-told v c P words done bytes (signed positive n) T e (literal-fine v n (isIn n (openClause words)) (length words) clauseRoom x .fits))
+      (λ x.
+      let f = literal-fine v n (isIn n (openClause words)) (length words) clauseRoom x in
+      word-told v c P words done bytes (signed positive n) T e (rw (signed-magnitude positive n) (f .inRange)) (f .fits))
 
   minus-text : (n : ℕ) → 1 ≤ n → 45 ∷ decimal n ≡ literalText (signed false n)
   unfolding literalText
@@ -190,7 +201,7 @@ module _ (prefixRoom clauseRoom : ℕ) where
       → Told clauseRoom (clauseToken prefixRoom clauseRoom at v c P words m) (done ++ (bytes ∷ []))
   clause-told at v c P words done bytes (natural zero) e T =
       unless-told at (closingReason (length words) clauseRoom) (clauses v c P (words ++ (pos 0 ∷ []))) (done ++ (bytes ∷ []))
-      (λ x. word-told v c P words done bytes (pos 0) T (natural-is bytes 0 e ∙ plain-text 0) (closing-fine (length words) clauseRoom x .fits))
+      (λ x. word-told v c P words done bytes (pos 0) T (natural-is bytes 0 e ∙ plain-text 0) (omega arith) (closing-fine (length words) clauseRoom x .fits))
   clause-told at v c P words done bytes (natural (suc n)) e T = literal-told at v c P words done bytes true (suc n) T (natural-is bytes (suc n) e ∙ plain-text (suc n))
   clause-told at v c P words done bytes (negative n) e T =
       let k = negative-is bytes n e in
@@ -213,8 +224,9 @@ module _ (prefixRoom clauseRoom : ℕ) where
         variables = [];
         told = rw (e, T .told) (append-assoc (headerTokens v c) (flatMap setTokens (T .sets)) ((letterOf q ∷ []) ∷ []));
         entries = T .entries ∙ sym (append-nil (entriesOf (T .sets)));
-        filled = T .filled;
+        its-sets = T .its-sets;
         some-listed = λ f. let z : _≡_ {A = ℕ} 0 1 = cc in absurd (omega arith);
+        positive = λ n m. absurd (List·Memᴰ·not-nil m);
       }
 
   opens-told :
@@ -233,7 +245,7 @@ module _ (prefixRoom clauseRoom : ℕ) where
       number-told variableBound (t .place) (numberOf (t .bytes)) wantsC (done ++ (t .bytes ∷ [])) (λ n e. rw (h, natural-is (t .bytes) n e))
   step-told (wantsC v) t done h =
       number-told countBound (t .place) (numberOf (t .bytes)) (λ c. betweenSets v c []) (done ++ (t .bytes ∷ []))
-      (λ c e. record { sets = []; told = rw (h, natural-is (t .bytes) c e); entries = refl; filled = tt })
+      (λ c e. record { sets = []; told = rw (h, natural-is (t .bytes) c e); entries = refl; its-sets = tt })
   step-told (betweenSets v c P) t done h =
       opens-told v c P done (t .bytes) (same (t .bytes) eText) (same (t .bytes) aText) (clausesToken prefixRoom clauseRoom (t .place) v c P [] (numberOf (t .bytes))) refl refl h
       (clauses-told (t .place) v c P [] done (t .bytes) (sets-told clauseRoom v c P done h))

@@ -2,7 +2,7 @@
 use Prim.Native.Nat.{ℕ, _+_, _*_, _-_, _/_, _%_, _≤_}
 use mathlib.Core.Path.{_≡_, refl, ap, sym, _∙_}
 use mathlib.Core.Bool.{Bool, true, false, _&&_, cond, false≢true}
-use mathlib.Core.List.{List, [], _∷_, _++_, append-assoc}
+use mathlib.Core.List.{List, [], _∷_, _++_, append-assoc, append-nil}
 use native.Mathlib.Omega.{arith}
 use borrow.Author.Tests.{eqb-true, leb-true, ltb-true}
 use lib.Dec.{eqb, leb, ltb}
@@ -33,11 +33,7 @@ decimal-one m b h l k =
 
 decimal-more : (m : ℕ) (bs : List ℕ) → 1 ≤ m → allDigits bs ≡ true → decimal (valueFrom m bs) ≡ decimal m ++ bs
 unfolding allDigits valueFrom
-decimal-more m [] h e = sym (append-nothing (decimal m))
-  where
-    append-nothing : (xs : List ℕ) → xs ++ [] ≡ xs
-    append-nothing [] = refl
-    append-nothing (x ∷ xs) = ap {B = List ℕ} (λ r. x ∷ r) (append-nothing xs)
+decimal-more m [] h e = sym (append-nil (decimal m))
 decimal-more m (b ∷ bs) h e =
     let k = and-both (isDigit b) (allDigits bs) e in
     let d = digit-range b (k .0) in

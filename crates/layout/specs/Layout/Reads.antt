@@ -1,51 +1,41 @@
--- Texts that are laid out are read: the tokens of the header, of the sets and of the clause words, each from state to state of the reader,
+-- Texts that are laid out are read: the tokens of the header, of the sets and of the clauses, each from state to state of the reader,
 -- wherever they stand. Assumes nothing.
 use Prim.Native.Nat.{ℕ, zero, suc, _+_, _≤_, _<_}
 use mathlib.Core.Path.{_≡_, refl, ap, sym, _∙_, subst}
 use mathlib.Core.Bool.{Bool, true, false}
 use mathlib.Core.Logic.{_⊎_, inl, inr}
-use mathlib.Core.Option.{none}
-use mathlib.Core.List.{List, [], _∷_, _++_, map, flatMap, append-assoc, append-nil, List·Memᴰ, List·Memᴰ·head, List·Memᴰ·tail, List·Memᴰ·not-nil, List·Memᴰ·cases-cons}
+use mathlib.Core.List.{List, [], _∷_, _++_, map, flatMap, append-assoc, append-nil, List·Memᴰ, List·Memᴰ·head, List·Memᴰ·tail, List·Memᴰ·not-nil, List·Memᴰ·cases-cons, Memᴰ·cast, Memᴰ·append-left, Memᴰ·append-right}
 use native.Mathlib.Omega.{arith}
 use borrow.Author.Tests.{le-leb, lt-ltb, ne-eqb}
 use lib.IntN.{ℤ, pos, negsuc, natAbs}
 use lib.ListN.{length, length-append}
-use Rattle.qbf.specs.Formula.{Quantifier, existential, universal, Entry, entry, Prefix, listed, Distinct}
+use Rattle.qbf.specs.Formula.{Quantifier, existential, universal, entry, Prefix, listed, Distinct}
 use Rattle.formula.specs.Bounds.{variableBound, countBound, matrixBound}
 use Rattle.formula.specs.Decimal.{decimal}
 use Rattle.formula.specs.Decimal.Laws.{decimal-small}
+use Rattle.formula.specs.Decode.Laws.{magnitude-positive}
+use Rattle.formula.specs.Free.Laws.{listed-append}
 use Rattle.formula.specs.Prefix.{prefixWords, entryFits}
 use Rattle.formula.specs.Prefix.Laws.{words-append, entry-room}
 use Rattle.formula.specs.RoundTrip.Scan.{decimal-number, minus-number, decimal-unlike}
-use Rattle.formula.specs.RoundTrip.Clauses.{literal-passes, begun-closes, open-word, zeros-word, Among, among-sets, among-clauses, nothing-open}
-use Rattle.formula.specs.Tables.{isIn, zeros, clausesRefusal}
+use Rattle.formula.specs.RoundTrip.Clauses.{open-word, zeros-word, Among, among-clauses}
+use Rattle.formula.specs.Tables.{isIn, zeros}
 use Rattle.formula.specs.Tables.Laws.{is-in-absent}
-use Rattle.formula.specs.Text.{State, wantsP, wantsCnf, wantsV, wantsC, betweenSets, inSet, clauses, openFrom, openClause, isOpen, variableReason, literalReason, closingReason, step, run}
+use Rattle.formula.specs.Text.{State, wantsP, wantsCnf, wantsV, wantsC, betweenSets, inSet, clauses, openClause, variableReason, literalReason, closingReason, step, run}
 use Rattle.formula.specs.Text.Clauses.Laws.{open-closing, zeros-closing}
 use Rattle.formula.specs.Token.{Token, same, pText, cnfText}
-use Rattle.formula.specs.Word.{wordOf}
 use Rattle.formula.specs.Write.{letterOf, literalText}
-use Rattle.layout.specs.Layout.{QuantifierSet, setTokens, setEntries, entriesOf, Filled}
+use Rattle.layout.specs.Layout.{QuantifierSet, setTokens, Sets, clauseTokens, Clauses, setEntries, entriesOf, closed, wordsOf}
 use Rattle.layout.specs.Layout.Pieces.{bytesOf}
 
--- A variable that stands behind others, in a list without repetition, is not among them.
-distinct-absent : (P : Prefix) (x : Entry) (Q : Prefix) → Distinct (listed (P ++ (x ∷ Q))) → List·Memᴰ (x .variable) (listed P) → ⊥
-distinct-absent P x Q d m = go P d m
+-- A number that stands behind others, in a list without repetition, is not among them.
+distinct-absent : (xs : List ℕ) (n : ℕ) (ys : List ℕ) → Distinct (xs ++ (n ∷ ys)) → List·Memᴰ n xs → ⊥
+distinct-absent [] n ys d m = List·Memᴰ·not-nil m
+distinct-absent (x ∷ xs) n ys d m = go (List·Memᴰ·cases-cons m) (distinct-absent xs n ys (d .1))
   where
-    behind : (R : Prefix) → List·Memᴰ (x .variable) (listed (R ++ (x ∷ Q)))
-    behind [] = List·Memᴰ·head refl
-    behind (y ∷ R) = List·Memᴰ·tail (behind R)
-
-    go : (R : Prefix) → Distinct (listed (R ++ (x ∷ Q))) → List·Memᴰ (x .variable) (listed R) → ⊥
-    go [] d m = nothing m
-      where
-        nothing : List·Memᴰ (x .variable) [] → ⊥
-        nothing m = List·Memᴰ·not-nil m
-    go (y ∷ R) d m = first (List·Memᴰ·cases-cons m) (λ k. go R (d .1) k)
-      where
-        first : (x .variable ≡ y .variable) ⊎ List·Memᴰ (x .variable) (listed R) → (List·Memᴰ (x .variable) (listed R) → ⊥) → ⊥
-        first (inl e) later = d .0 (subst (λ (n : ℕ). List·Memᴰ n (listed (R ++ (x ∷ Q)))) e (behind R))
-        first (inr k) later = later k
+    go : (n ≡ x) ⊎ List·Memᴰ n xs → (List·Memᴰ n xs → ⊥) → ⊥
+    go (inl e) later = d .0 (Memᴰ·cast (sym e) (Memᴰ·append-right xs (List·Memᴰ·head refl)))
+    go (inr k) later = later k
 
 module _ (prefixRoom clauseRoom : ℕ) where
   -- The tokens take the reader from state to state.
@@ -88,7 +78,7 @@ module _ (prefixRoom clauseRoom : ℕ) where
   variables-walk v c q filled P [] r d h = ap (λ (Q : Prefix). inSet v c q filled Q) (sym (append-nil P))
   variables-walk v c q filled P (n ∷ ns) r d h =
       let own = r n (List·Memᴰ·head refl) in
-      let fresh : isIn n (listed P) ≡ false = is-in-absent n (listed P) (distinct-absent P (entry n q) (entriesWith q ns) d) in
+      let fresh : isIn n (listed P) ≡ false = is-in-absent n (listed P) (distinct-absent (listed P) n (listed (entriesWith q ns)) (subst Distinct (listed-append P (entry n q ∷ entriesWith q ns)) d)) in
       let long = ap {B = ℕ} (λ (ws : List ℤ). length ws) (words-append P (entry n q ∷ entriesWith q ns)) ∙ length-append (prefixWords P) (prefixWords (entry n q ∷ entriesWith q ns)) in
       let fits : entryFits prefixRoom (length (prefixWords P)) ≡ true = entry-room prefixRoom (length (prefixWords P)) (entry n q) (entriesWith q ns) (omega (arith, long, h)) in
       let on : (P ++ (entry n q ∷ [])) ++ entriesWith q ns ≡ P ++ (entry n q ∷ entriesWith q ns) = append-assoc P (entry n q ∷ []) (entriesWith q ns) in
@@ -123,16 +113,10 @@ module _ (prefixRoom clauseRoom : ℕ) where
 
 -- What entries list, in parts.
 member-left : (A B : Prefix) {n : ℕ} → List·Memᴰ n (listed A) → List·Memᴰ n (listed (A ++ B))
-member-left [] B m = absurd (List·Memᴰ·not-nil m)
-member-left (x ∷ A) B {n} m = go (List·Memᴰ·cases-cons m) (λ k. member-left A B k)
-  where
-    go : (n ≡ x .variable) ⊎ List·Memᴰ n (listed A) → (List·Memᴰ n (listed A) → List·Memᴰ n (listed (A ++ B))) → List·Memᴰ n (listed ((x ∷ A) ++ B))
-    go (inl e) later = List·Memᴰ·head e
-    go (inr k) later = List·Memᴰ·tail (later k)
+member-left A B m = rw (listed-append A B) (Memᴰ·append-left (listed B) m)
 
 member-right : (A B : Prefix) {n : ℕ} → List·Memᴰ n (listed B) → List·Memᴰ n (listed (A ++ B))
-member-right [] B m = m
-member-right (x ∷ A) B m = List·Memᴰ·tail (member-right A B m)
+member-right A B m = rw (listed-append A B) (Memᴰ·append-right (listed A) m)
 
 distinct-left : (A B : Prefix) → Distinct (listed (A ++ B)) → Distinct (listed A)
 distinct-left [] B d = tt
@@ -144,7 +128,7 @@ listed-with q (n ∷ ns) = ap {B = List ℕ} (λ r. n ∷ r) (listed-with q ns)
 
 module _ (prefixRoom clauseRoom : ℕ) where
   pub sets-walk :
-      (v c : ℕ) (P : Prefix) (sets : List QuantifierSet) → Filled sets → ((n : ℕ) → List·Memᴰ n (listed (entriesOf sets)) → (1 ≤ n) × (n ≤ v)) → Distinct (listed (P ++ entriesOf sets))
+      (v c : ℕ) (P : Prefix) (sets : List QuantifierSet) → Sets sets → ((n : ℕ) → List·Memᴰ n (listed (entriesOf sets)) → n ≤ v) → Distinct (listed (P ++ entriesOf sets))
       → length (prefixWords (P ++ entriesOf sets)) ≤ prefixRoom → Walks prefixRoom clauseRoom (betweenSets v c P) (flatMap setTokens sets) (betweenSets v c (P ++ entriesOf sets))
   unfolding flatMap
   sets-walk v c P [] f r d h = ap (λ (Q : Prefix). betweenSets v c Q) (sym (append-nil P))
@@ -154,8 +138,8 @@ module _ (prefixRoom clauseRoom : ℕ) where
       let room : length (prefixWords ((P ++ setEntries s) ++ entriesOf sets)) ≤ prefixRoom = subst (λ (Q : Prefix). length (prefixWords Q) ≤ prefixRoom) (sym on) h in
       let part = ap {B = ℕ} (λ (ws : List ℤ). length ws) (words-append (P ++ setEntries s) (entriesOf sets)) ∙ length-append (prefixWords (P ++ setEntries s)) (prefixWords (entriesOf sets)) in
       walks-append prefixRoom clauseRoom (betweenSets v c P) (betweenSets v c (P ++ setEntries s)) (betweenSets v c (P ++ (setEntries s ++ entriesOf sets))) (setTokens s) (flatMap setTokens sets)
-      (set-walk prefixRoom clauseRoom v c P s (f .0) (λ n m. r n (member-left (setEntries s) (entriesOf sets) (subst (λ (ns : List ℕ). List·Memᴰ n ns) (sym (listed-with (s .quantifier) (s .variables))) m))) (distinct-left (P ++ setEntries s) (entriesOf sets) apart) (omega (arith, part, room)))
-      (subst (λ (Q : Prefix). Walks prefixRoom clauseRoom (betweenSets v c (P ++ setEntries s)) (flatMap setTokens sets) (betweenSets v c Q)) on (sets-walk v c (P ++ setEntries s) sets (f .1) (λ n m. r n (member-right (setEntries s) (entriesOf sets) m)) apart room))
+      (set-walk prefixRoom clauseRoom v c P s (f .0) (λ n m. (f .1 n m, r n (member-left (setEntries s) (entriesOf sets) (rw (listed-with (s .quantifier) (s .variables)) m)))) (distinct-left (P ++ setEntries s) (entriesOf sets) apart) (omega (arith, part, room)))
+      (subst (λ (Q : Prefix). Walks prefixRoom clauseRoom (betweenSets v c (P ++ setEntries s)) (flatMap setTokens sets) (betweenSets v c Q)) on (sets-walk v c (P ++ setEntries s) sets (f .2) (λ n m. r n (member-right (setEntries s) (entriesOf sets) m)) apart room))
 
 module _ (prefixRoom clauseRoom v c : ℕ) (P : Prefix) where
   zero-unlike : (w : ℕ) → 57 < w → same (decimal 0) (w ∷ []) ≡ false
@@ -164,8 +148,8 @@ module _ (prefixRoom clauseRoom v c : ℕ) (P : Prefix) where
 
   closing-step :
       (s : State) (done : List ℤ) → Among prefixRoom clauseRoom v c P s done → zeros done < c → length done < matrixBound → length done < clauseRoom
-      → (at : ℕ) → step prefixRoom clauseRoom s (record { bytes = literalText (pos 0); place = at }) ≡ clauses v c P (done ++ (pos 0 ∷ []))
-  unfolding literalText closingReason
+      → (at : ℕ) → step prefixRoom clauseRoom s (record { bytes = decimal 0; place = at }) ≡ clauses v c P (done ++ (pos 0 ∷ []))
+  unfolding closingReason
   closing-step s done a z m r at =
       a .steps (decimal 0) at (zero-unlike 101 (omega arith)) (zero-unlike 97 (omega arith))
       ∙ rw (decimal-number 0, lt-ltb (zeros done) c z, lt-ltb (length done) matrixBound m, lt-ltb (length done) clauseRoom r)
@@ -183,81 +167,79 @@ module _ (prefixRoom clauseRoom v c : ℕ) (P : Prefix) where
       a .steps (45 ∷ decimal (suc n)) at refl refl
       ∙ rw (minus-number (suc n) (omega arith), lt-ltb (zeros done) c z, lt-ltb 0 (suc n) (omega arith), le-leb (suc n) v h, lt-ltb (length done) matrixBound m, f, lt-ltb (length done) clauseRoom r)
 
-  -- The words are read to the end, and no clause is left open.
-  pub record WordsRead (s : State) (tokens : List (List ℕ)) (all : List ℤ) : Type 0 where
+  -- Words are read: no clause is left open, and so many are closed.
+  pub record WordsRead (s : State) (tokens : List (List ℕ)) (all : List ℤ) (closings : ℕ) : Type 0 where
     pub after : State
     pub walks : Walks prefixRoom clauseRoom s tokens after
     pub among : Among prefixRoom clauseRoom v c P after all
-    pub shut : isOpen (openClause all) ≡ false
+    pub shut : openClause all ≡ []
+    pub count : zeros all ≡ closings
 
-  module _ (known : ℕ → Bool) where
-    record Left (at : ℕ) (done ws : List ℤ) : Type 0 where
-      passes : clausesRefusal known at (openClause done) ws ≡ none
-      range : (w : ℤ) → List·Memᴰ w ws → natAbs w ≤ v
-      count : zeros done + zeros ws ≡ c
-      words : length done + length ws ≤ matrixBound
-      room : length done + length ws ≤ clauseRoom
-
-    word-read : (s : State) (done : List ℤ) (w : ℤ) (ws : List ℤ) → ((at : ℕ) → step prefixRoom clauseRoom s (record { bytes = literalText w; place = at }) ≡ clauses v c P (done ++ (w ∷ []))) → WordsRead (clauses v c P (done ++ (w ∷ []))) (map literalText ws) ((done ++ (w ∷ [])) ++ ws) → WordsRead s (map literalText (w ∷ ws)) (done ++ (w ∷ ws))
-    word-read s done w ws g r =
-        let e : (done ++ (w ∷ [])) ++ ws ≡ done ++ (w ∷ ws) = append-assoc done (w ∷ []) ws in
-        record {
-          after = r .after;
-          walks = (clauses v c P (done ++ (w ∷ [])), g, r .walks);
-          among = rw e at (r .among);
-          shut = rw e at (r .shut);
-        }
-
-    literal-left :
-        (at : ℕ) (s : State) (done : List ℤ) (w : ℤ) (ws : List ℤ) → 1 ≤ natAbs w → zeros (w ∷ ws) ≡ zeros ws → Among prefixRoom clauseRoom v c P s done → Left at done (w ∷ ws)
-        → ((at : ℕ) → step prefixRoom clauseRoom s (record { bytes = literalText w; place = at }) ≡ clauses v c P (done ++ (w ∷ []))) × Left (at + 1) (done ++ (w ∷ [])) ws
-    unfolding clausesRefusal
-    literal-left at s done w ws l z a h =
-        let q = literal-passes known at (openClause done) (λ seen. clausesRefusal known (at + 1) seen ws) w l (h .passes) in
-        let k : 1 ≤ zeros ws = begun-closes known (at + 1) (natAbs w) (openClause done) ws (q .later) in (
-          literal-step s done w a (omega (arith, h .count, z, k)) (omega (arith, h .words)) (omega (arith, h .room)) l (h .range w (List·Memᴰ·head refl)) (q .new),
-          record {
-            passes = rw (open-word done w l) (q .later);
-            range = λ u m. h .range u (List·Memᴰ·tail m);
-            count = rw (zeros-word done w l) (omega (arith, h .count, z));
-            words = rw length-append (omega (arith, h .words));
-            room = rw length-append (omega (arith, h .room));
-          },
-        )
-
-    closing-left :
-        (at : ℕ) (s : State) (done ws : List ℤ) → Among prefixRoom clauseRoom v c P s done → Left at done (pos 0 ∷ ws)
-        → ((at : ℕ) → step prefixRoom clauseRoom s (record { bytes = literalText (pos 0); place = at }) ≡ clauses v c P (done ++ (pos 0 ∷ []))) × Left (at + 1) (done ++ (pos 0 ∷ [])) ws
-    unfolding clausesRefusal wordOf zeros
-    closing-left at s done ws a h = (
-      closing-step s done a (omega (arith, h .count)) (omega (arith, h .words)) (omega (arith, h .room)),
+  -- A clause whose variables are none of the open clause's: its literals, then its 0.
+  clause-walk :
+      (s : State) (done C : List ℤ) → Among prefixRoom clauseRoom v c P s done → zeros done < c → length done + length (closed C) ≤ matrixBound → length done + length (closed C) ≤ clauseRoom
+      → ((w : ℤ) → List·Memᴰ w C → (1 ≤ natAbs w) × (natAbs w ≤ v)) → Distinct (map natAbs C) → ((n : ℕ) → List·Memᴰ n (openClause done) → List·Memᴰ n (map natAbs C) → ⊥)
+      → WordsRead s (clauseTokens C) (done ++ closed C) (suc (zeros done))
+  clause-walk s done [] a z m r h d f =
       record {
-        passes = rw (open-closing [] done) (h .passes);
-        range = λ u m. h .range u (List·Memᴰ·tail m);
-        count = rw (zeros-closing done) (omega (arith, h .count));
-        words = rw length-append (omega (arith, h .words));
-        room = rw length-append (omega (arith, h .room));
-      },
-    )
+        after = clauses v c P (done ++ (pos 0 ∷ []));
+        walks = (clauses v c P (done ++ (pos 0 ∷ [])), closing-step s done a z (omega (arith, m)) (omega (arith, r)), refl);
+        among = among-clauses prefixRoom clauseRoom v c P (done ++ (pos 0 ∷ []));
+        shut = open-closing [] done;
+        count = zeros-closing done;
+      }
+  clause-walk s done (w ∷ C) a z m r h d f =
+      let own = h w (List·Memᴰ·head refl) in
+      let next : List ℤ = done ++ (w ∷ []) in
+      let long : length next ≡ length done + 1 = length-append done (w ∷ []) in
+      let W = clause-walk (clauses v c P next) next C (among-clauses prefixRoom clauseRoom v c P next) (rw (zeros-word done w (own .0)) z) (omega (arith, m, long)) (omega (arith, r, long)) (λ u k. h u (List·Memᴰ·tail k)) (d .1) (λ n k i. apart n (List·Memᴰ·cases-cons (rw (open-word done w (own .0)) at k)) i) in
+      let e : next ++ closed C ≡ done ++ (w ∷ closed C) = append-assoc done (w ∷ []) (closed C) in
+      record {
+        after = W .after;
+        walks = (clauses v c P next, literal-step s done w a z (omega (arith, m)) (omega (arith, r)) (own .0) (own .1) (is-in-absent (natAbs w) (openClause done) (λ k. f (natAbs w) k (List·Memᴰ·head refl))), W .walks);
+        among = rw e at (W .among);
+        shut = rw e at (W .shut);
+        count = rw (← e) (W .count ∙ ap suc (zeros-word done w (own .0)));
+      }
+    where
+      apart : (n : ℕ) → (n ≡ natAbs w) ⊎ List·Memᴰ n (openClause done) → List·Memᴰ n (map natAbs C) → ⊥
+      apart n (inl e) i = d .0 (Memᴰ·cast (sym e) i)
+      apart n (inr k) i = f n k (List·Memᴰ·tail i)
 
-    words-walk : (at : ℕ) (s : State) (done ws : List ℤ) → Among prefixRoom clauseRoom v c P s done → Left at done ws → WordsRead s (map literalText ws) (done ++ ws)
-    unfolding clausesRefusal zeros
-    words-walk at s done [] a h =
-        rw append-nil (record { after = s; walks = refl; among = a; shut = nothing-open prefixRoom clauseRoom v c P at (openClause done) (h .passes) })
-    words-walk at s done (pos zero ∷ ws) a h =
-        let t = closing-left at s done ws a h in
-        word-read s done (pos 0) ws (t .0) (words-walk (at + 1) (clauses v c P (done ++ (pos 0 ∷ []))) (done ++ (pos 0 ∷ [])) ws (among-clauses prefixRoom clauseRoom v c P (done ++ (pos 0 ∷ []))) (t .1))
-    words-walk at s done (pos (suc n) ∷ ws) a h =
-        let t = literal-left at s done (pos (suc n)) ws (omega arith) refl a h in
-        word-read s done (pos (suc n)) ws (t .0) (words-walk (at + 1) (clauses v c P (done ++ (pos (suc n) ∷ []))) (done ++ (pos (suc n) ∷ [])) ws (among-clauses prefixRoom clauseRoom v c P (done ++ (pos (suc n) ∷ []))) (t .1))
-    words-walk at s done (negsuc n ∷ ws) a h =
-        let t = literal-left at s done (negsuc n) ws (omega arith) refl a h in
-        word-read s done (negsuc n) ws (t .0) (words-walk (at + 1) (clauses v c P (done ++ (negsuc n ∷ []))) (done ++ (negsuc n ∷ [])) ws (among-clauses prefixRoom clauseRoom v c P (done ++ (negsuc n ∷ []))) (t .1))
+  -- Clauses that are left to read, and what is known of them.
+  pub record Left (done : List ℤ) (Cs : List (List ℤ)) : Type 0 where
+    pub shut : openClause done ≡ []
+    pub count : zeros done + length Cs ≡ c
+    pub words : length done + length (wordsOf Cs) ≤ matrixBound
+    pub room : length done + length (wordsOf Cs) ≤ clauseRoom
+    pub its-clauses : Clauses Cs
+    pub range : (w : ℤ) → List·Memᴰ w (wordsOf Cs) → natAbs w ≤ v
+    pub once : (C : List ℤ) → List·Memᴰ C Cs → Distinct (map natAbs C)
 
-    -- All clause words, from the end of the sets on.
-    pub clauses-walk :
-        (ws : List ℤ) → clausesRefusal known 0 [] ws ≡ none → ((w : ℤ) → List·Memᴰ w ws → natAbs w ≤ v) → zeros ws ≡ c → length ws ≤ matrixBound → length ws ≤ clauseRoom
-        → WordsRead (betweenSets v c P) (map literalText ws) ws
-    unfolding openFrom zeros
-    clauses-walk ws h r z m k =
-        words-walk 0 (betweenSets v c P) [] ws (among-sets prefixRoom clauseRoom v c P) (record { passes = h; range = r; count = omega (arith, z); words = omega (arith, m); room = omega (arith, k) })
+  pub clauses-walk : (s : State) (done : List ℤ) (Cs : List (List ℤ)) → Among prefixRoom clauseRoom v c P s done → Left done Cs → WordsRead s (flatMap clauseTokens Cs) (done ++ wordsOf Cs) c
+  unfolding flatMap
+  clauses-walk s done [] a h = rw append-nil (record { after = s; walks = refl; among = a; shut = h .shut; count = omega (arith, h .count) })
+  clauses-walk s done (C ∷ Cs) a h =
+      let long = length-append (closed C) (wordsOf Cs) in
+      let first : List·Memᴰ C (C ∷ Cs) = List·Memᴰ·head refl in
+      let one = clause-walk s done C a (omega (arith, h .count)) (omega (arith, h .words, long)) (omega (arith, h .room, long)) (λ w m. (magnitude-positive w (h .its-clauses C first w m), h .range w (Memᴰ·append-left (wordsOf Cs) (Memᴰ·append-left (pos 0 ∷ []) m)))) (h .once C first) (λ n k i. List·Memᴰ·not-nil (rw (h .shut) at k)) in
+      let more = length-append done (closed C) in
+      let left : Left (done ++ closed C) Cs =
+      record {
+        shut = one .shut;
+        count = omega (arith, one .count, h .count);
+        words = omega (arith, h .words, long, more);
+        room = omega (arith, h .room, long, more);
+        its-clauses = λ D m. h .its-clauses D (List·Memᴰ·tail m);
+        range = λ w m. h .range w (Memᴰ·append-right (closed C) m);
+        once = λ D m. h .once D (List·Memᴰ·tail m);
+      } in
+      let rest = clauses-walk (one .after) (done ++ closed C) Cs (one .among) left in
+      let e : (done ++ closed C) ++ wordsOf Cs ≡ done ++ (closed C ++ wordsOf Cs) = append-assoc done (closed C) (wordsOf Cs) in
+      record {
+        after = rest .after;
+        walks = walks-append prefixRoom clauseRoom s (one .after) (rest .after) (clauseTokens C) (flatMap clauseTokens Cs) (one .walks) (rest .walks);
+        among = rw e at (rest .among);
+        shut = rw e at (rest .shut);
+        count = rw (← e) (rest .count);
+      }
