@@ -1,6 +1,7 @@
 /* qdr: the two programs on files of any name and with all the room that the bounds of the specification ask for.
  *
- *     qdr check FORMULA PROOF     prints `accepted V C steps empty` or `refused number word place line column`
+ *     qdr check FORMULA PROOF     prints `accepted V C steps empty` or `refused number word place line column`, and behind
+ *                                 that of a blocked reduction the variable that blocks it and its block
  *     qdr deps FORMULA            prints each universal and its dependents, or the refused line
  *
  * Here files are read and room is lent; every byte on standard output was put there by a proved function (qdr.h).
@@ -28,7 +29,7 @@ struct file {
 };
 
 /* The room lent. A step has at least four words, so `starts` holds every clause and step within the bounds. */
-static int32_t prefix[QDR_MAX_VARIABLES];
+static int32_t prefix[QDR_MAX_PREFIX_WORDS];
 static int32_t clauses[QDR_MAX_CLAUSE_WORDS];
 static int32_t steps[QDR_MAX_STEP_WORDS];
 static uint8_t scratch[QDR_SCRATCH_LENGTH];
@@ -97,7 +98,7 @@ static int print(const uint8_t *text, size_t length) {
 /* The line for a formula and a proof; files of any length are taken, and the bounds on their contents refuse. */
 static int check(const struct file *formula, const struct file *proof) {
     size_t length = qdr_check_line(formula->bytes, formula->length, proof->bytes, proof->length, SIZE_MAX,
-                                   prefix, QDR_MAX_VARIABLES, clauses, QDR_MAX_CLAUSE_WORDS,
+                                   prefix, QDR_MAX_PREFIX_WORDS, clauses, QDR_MAX_CLAUSE_WORDS,
                                    steps, QDR_MAX_STEP_WORDS, scratch, QDR_SCRATCH_LENGTH,
                                    starts, QDR_MAX_NUMBERED, line, QDR_LINE_LENGTH);
     if (length == 0) {
@@ -108,7 +109,7 @@ static int check(const struct file *formula, const struct file *proof) {
 
 static int deps(const struct file *formula) {
     size_t length = qdr_dependency_lines(formula->bytes, formula->length, SIZE_MAX,
-                                         prefix, QDR_MAX_VARIABLES, clauses, QDR_MAX_CLAUSE_WORDS,
+                                         prefix, QDR_MAX_PREFIX_WORDS, clauses, QDR_MAX_CLAUSE_WORDS,
                                          scratch, QDR_SCRATCH_LENGTH, lines, QDR_LINES_LENGTH);
     return print(lines, length);
 }

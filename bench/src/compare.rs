@@ -1,15 +1,14 @@
 //! Compares a library's answers with the reference's on many inputs: the answer, and the contents of every
 //! buffer lent. Counts what was seen for each entry, and stops at the first difference.
 
+mod drawn;
 mod expected;
 #[cfg(proved)]
 mod proved;
 
 use std::fmt;
 
-#[cfg(any(proved, test))]
-use crate::generate::empty;
-use crate::generate::{batch, edges, Case, Random};
+use crate::generate::{batch, edges, empty, Case, Random};
 
 pub use expected::reference_answer;
 #[cfg(proved)]
@@ -85,24 +84,45 @@ fn entry(case: &Case) -> usize {
     }
 }
 
-/// How often each entry gave each number, 0 being acceptance.
-#[derive(Default)]
-pub struct Seen([[usize; UNFIT + 1]; ENTRIES.len()]);
+/// How often each entry gave each number, 0 being acceptance, and drew what it is to draw beyond numbers.
+pub struct Seen {
+    numbers: [[usize; UNFIT + 1]; ENTRIES.len()],
+    drawn: [Vec<(&'static str, usize)>; ENTRIES.len()],
+}
 
 impl Seen {
-    pub fn inputs(&self) -> usize {
-        self.0.iter().flatten().sum()
+    fn new() -> Seen {
+        let none = |case: &Case| drawn::due(case).into_iter().map(|kind| (kind, 0)).collect();
+        Seen {
+            numbers: Default::default(),
+            drawn: empty().each_ref().map(none),
+        }
     }
 
-    /// The refusals that an entry can give and no input drew, as `entry number`.
+    fn count(&mut self, case: &Case, number: usize) {
+        let entry = entry(case);
+        self.numbers[entry][number] += 1;
+        let kinds = drawn::drawn(case, number);
+        for (kind, count) in &mut self.drawn[entry] {
+            *count += usize::from(kinds.contains(kind));
+        }
+    }
+
+    pub fn inputs(&self) -> usize {
+        self.numbers.iter().flatten().sum()
+    }
+
+    /// The refusals that an entry can give, and what else it is to draw, that no input drew, as `entry number`.
     pub fn missing(&self) -> Vec<String> {
         let mut missing = Vec::new();
-        for (counts, (name, refusals)) in self.0.iter().zip(ENTRIES) {
+        for (at, (name, refusals)) in ENTRIES.iter().enumerate() {
             for &number in refusals.iter().chain(&[0]) {
-                if counts[number] == 0 {
+                if self.numbers[at][number] == 0 {
                     missing.push(format!("{name} {number}"));
                 }
             }
+            let kinds = self.drawn[at].iter().filter(|(_, count)| *count == 0);
+            missing.extend(kinds.map(|(kind, _)| format!("{name} {kind}")));
         }
         missing
     }
@@ -115,7 +135,7 @@ impl fmt::Display for Seen {
             "{:<17}{:>8} {:>9}  refused, number: inputs (21: a line that does not fit)",
             "entry", "inputs", "accepted"
         )?;
-        for (counts, (name, _)) in self.0.iter().zip(ENTRIES) {
+        for (counts, (name, _)) in self.numbers.iter().zip(ENTRIES) {
             let inputs: usize = counts.iter().sum();
             write!(f, "{name:<17}{inputs:>8} {:>9} ", counts[0])?;
             for (number, count) in counts.iter().enumerate().skip(1) {
@@ -124,6 +144,11 @@ impl fmt::Display for Seen {
                 }
             }
             writeln!(f)?;
+        }
+        for (kinds, (name, _)) in self.drawn.iter().zip(ENTRIES) {
+            for (kind, count) in kinds {
+                writeln!(f, "{name:<17}{count:>8}  {kind}")?;
+            }
         }
         Ok(())
     }
@@ -162,7 +187,7 @@ pub fn compare(
 ) -> Result<Seen, Box<Difference>> {
     let mut random = Random::new(seed);
     let mut filling = Random::new(seed + 1);
-    let mut seen = Seen::default();
+    let mut seen = Seen::new();
     while seen.inputs() < inputs {
         for case in batch(&mut random) {
             compare_one(&library, case, &mut filling, &mut seen)?;
@@ -180,12 +205,10 @@ fn compare_one(
     filling: &mut Random,
     seen: &mut Seen,
 ) -> Result<(), Box<Difference>> {
-    let (drawn, expected) = reference_answer(&case);
+    let (number, expected) = reference_answer(&case);
     let found = library(&case, filling);
-    let entry = entry(&case);
-    agreed(case, expected, found)?;
-    seen.0[entry][drawn] += 1;
-    Ok(())
+    seen.count(&case, number);
+    agreed(case, expected, found)
 }
 
 /// Runs each entry once with every table empty and no room in any buffer, and answers how many. The library is
@@ -217,6 +240,7 @@ fn agreed(case: Case, expected: Answer, found: Answer) -> Result<(), Box<Differe
 #[cfg(test)]
 mod tests {
     use super::*;
+    use crate::reference::prefix::Entry;
 
     /// The reference against itself: the inputs draw every refusal of every entry.
     #[test]
@@ -228,7 +252,7 @@ mod tests {
     }
 
     /// What the specification says where every table is empty and no buffer has room, by the reference: what is
-    /// returned, and the words of `out`, which are a refusal's place, line and column first.
+    /// returned, and the words of `out`, which are a refusal's place, line, column, variable and block.
     const EMPTY: [(u64, [u64; 5]); 9] = [
         (0, [0; 5]),
         (1, [0, 1, 1, 0, 0]),
@@ -275,6 +299,54 @@ mod tests {
         }
     }
 
+    /// A library that names another dependent than the leftmost, or another block, is found out.
+    #[test]
+    fn faults_in_what_blocks_are_found() {
+        type Choice = fn(&[Entry]) -> Option<&Entry>;
+        let choices: [Choice; 7] = [
+            |found| found.first(),
+            |found| found.last(),
+            |found| found.iter().min_by_key(|entry| entry.variable),
+            |found| found.iter().max_by_key(|entry| entry.variable),
+            |found| found.iter().max_by_key(|entry| entry.block),
+            |found| found.iter().min_by_key(|entry| entry.block),
+            |found| found.iter().min_by_key(|e| (e.block, e.variable)),
+        ];
+        for choose in choices {
+            let faulty = |case: &Case, _: &mut Random| {
+                let (number, mut answer) = reference_answer(case);
+                if let (Case::Check { tables, steps, .. }, 17) = (case, number) {
+                    let found = drawn::dependents(tables, steps);
+                    let entry = choose(&found).expect("a dependent blocks");
+                    answer.out[3] = entry.variable as u64;
+                    answer.out[4] = entry.block as u64;
+                }
+                answer
+            };
+            assert!(compare(faulty, 1, 20_000).is_err());
+        }
+    }
+
+    /// The leftmost dependent is the one of the least block, and of that block the one whose entry comes first.
+    #[test]
+    fn the_leftmost_is_named() {
+        let leftmost = |case: &Case, _: &mut Random| {
+            let (number, mut answer) = reference_answer(case);
+            if let (Case::Check { tables, steps, .. }, 17) = (case, number) {
+                let found = drawn::dependents(tables, steps);
+                let places = tables.entries();
+                let place = |entry: &&Entry| places.iter().position(|other| other == *entry);
+                let entry = found.iter().min_by_key(place).expect("a dependent blocks");
+                assert!(found.iter().all(|other| other.block >= entry.block));
+                answer.out[3] = entry.variable as u64;
+                answer.out[4] = entry.block as u64;
+            }
+            answer
+        };
+        let run = compare(leftmost, 2, 20_000);
+        run.unwrap_or_else(|difference| panic!("{difference}"));
+    }
+
     /// A library with one fault is found out, whichever part of the answer the fault is in.
     #[test]
     fn faults_are_found() {
@@ -312,13 +384,35 @@ mod tests {
                 }
             },
         ];
-        for fault in faults {
-            let faulty = |case: &Case, _: &mut Random| {
-                let (_, mut answer) = reference_answer(case);
-                fault(case, &mut answer);
-                answer
-            };
-            assert!(compare(faulty, 1, 20_000).is_err());
-        }
+        assert_eq!(faults.map(is_found), [true; 8]);
+    }
+
+    /// Whether a library is found out that has the reference's answers but for this fault.
+    fn is_found(fault: fn(&Case, &mut Answer)) -> bool {
+        let faulty = |case: &Case, _: &mut Random| {
+            let (_, mut answer) = reference_answer(case);
+            fault(case, &mut answer);
+            answer
+        };
+        compare(faulty, 1, 20_000).is_err()
+    }
+
+    /// A library that leaves out either of the two numbers of a blocked reduction is found out.
+    #[test]
+    fn blocked_without_a_number_is_found() {
+        let faults: [fn(&Case, &mut Answer); 3] = [
+            |_, answer| answer.out[3] *= u64::from(answer.returned != 17),
+            |_, answer| answer.out[4] *= u64::from(answer.returned != 17),
+            |case, answer| {
+                // A blocked line without its last number.
+                if let (7, Some(Buffer::Bytes(line))) = (entry(case), answer.buffers.last_mut()) {
+                    if line.starts_with(b"refused 17") {
+                        let end = line.iter().rposition(|&byte| byte == b' ');
+                        line[end.unwrap_or(0)..].fill(0);
+                    }
+                }
+            },
+        ];
+        assert_eq!(faults.map(is_found), [true; 3]);
     }
 }

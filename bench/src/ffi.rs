@@ -1,5 +1,5 @@
-//! The proved library's C functions as safe calls. Those that return a refusal's number fill `out`, a
-//! refusal's place, line and column first; the two that print return how many bytes they printed.
+//! The proved library's C functions as safe calls. Those that return a refusal's number fill `out`, with a
+//! refusal's place, line, column, variable and block; the two that print return how many bytes they printed.
 #![allow(clippy::too_many_arguments)]
 
 /// The words of `out`.

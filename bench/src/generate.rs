@@ -1,24 +1,25 @@
 //! Seeded inputs for every entry, short and long, valid and damaged. Here: the generator of numbers,
 //! formulas drawn by shape, and what an input is. The files below draw each kind of input.
 
+mod blocked;
 pub mod chains;
 pub mod derive;
 mod edges;
 mod files;
 mod lines;
 pub mod long;
-mod proofs;
+mod prefixes;
+pub mod proofs;
 mod tables;
 mod texts;
 
 use std::fmt;
 
+use crate::reference::prefix::{entries, records, Entry};
 use crate::reference::program::Room;
 use crate::reference::{MAX_CLAUSES, MAX_CLAUSE_WORDS, MAX_VARIABLE};
 
-pub use edges::edges;
-#[cfg(any(proved, test))]
-pub use edges::empty;
+pub use edges::{edges, empty};
 
 /// Marsaglia's xorshift, multiplied at the end.
 pub struct Random(u64);
@@ -66,6 +67,33 @@ pub struct Tables {
 }
 
 impl Tables {
+    /// Tables with the prefix given in short: v existential, -v universal.
+    pub fn new(short: &[i32], clauses: Vec<i32>) -> Tables {
+        Tables {
+            prefix: records(short),
+            clauses,
+        }
+    }
+
+    /// The entries of the prefix.
+    pub fn entries(&self) -> Vec<Entry> {
+        entries(&self.prefix)
+    }
+
+    /// Makes the variables at those places universal for which `universal` says so, and the others existential.
+    pub fn quantify(&mut self, universal: impl Fn(usize) -> bool) {
+        let sign = |place| if universal(place) { -1 } else { 1 };
+        let entries = self.entries().into_iter().enumerate();
+        let short = entries.map(|(place, entry)| sign(place) * entry.variable);
+        self.prefix = records(&short.collect::<Vec<i32>>());
+    }
+
+    /// The numbers of the universal variables, in prefix order.
+    pub fn universals(&self) -> Vec<i32> {
+        let universals = self.entries().into_iter().filter(Entry::is_universal);
+        universals.map(|entry| entry.variable).collect()
+    }
+
     /// The number of closed clauses.
     pub fn count(&self) -> usize {
         self.clauses.iter().filter(|&&word| word == 0).count()
@@ -151,7 +179,7 @@ impl Shape {
         if random.one_in(3) {
             numbers.sort();
         }
-        let prefix: Vec<i32> = numbers
+        let short: Vec<i32> = numbers
             .iter()
             .map(|&v| {
                 if random.below(8) < self.universal {
@@ -166,7 +194,7 @@ impl Shape {
             let length = random.between(self.shortest, self.longest);
             push_clause(random, &mut numbers, length, &mut clauses);
         }
-        Tables { prefix, clauses }
+        Tables::new(&short, clauses)
     }
 }
 
@@ -297,15 +325,16 @@ impl fmt::Display for Tables {
 
 /// Some inputs of one kind, drawn together where they share a formula.
 pub fn batch(random: &mut Random) -> Vec<Case> {
-    match random.below(19) {
-        0 => tables::tables_batch(random),
-        1 => texts::cut_texts(random),
-        2..=5 => texts::text_batch(random),
-        6 => tables::write_batch(random),
-        7..=8 => tables::row_batch(random),
-        9 => files::file_batch(random),
-        10..=14 => proofs::proof_batch(random),
-        15..=17 => lines::line_batch(random),
+    match random.below(22) {
+        0 | 1 => tables::tables_batch(random),
+        2 => texts::cut_texts(random),
+        3..=6 => texts::text_batch(random),
+        7 => tables::write_batch(random),
+        8 | 9 => tables::row_batch(random),
+        10 => files::file_batch(random),
+        11..=15 => proofs::proof_batch(random),
+        16 => blocked::blocked_batch(random),
+        17..=20 => lines::line_batch(random),
         _ => tables::game_batch(random),
     }
 }

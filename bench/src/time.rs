@@ -16,7 +16,8 @@ use crate::reference::tables::check_tables;
 use crate::reference::text::read;
 use crate::reference::write::write;
 use crate::reference::{
-    MAX_CLAUSES, MAX_CLAUSE_WORDS, MAX_STEP_WORDS, MAX_TEXT, MAX_VARIABLE, ROW_BYTES, SCRATCH_BYTES,
+    MAX_CLAUSES, MAX_CLAUSE_WORDS, MAX_PREFIX_WORDS, MAX_STEP_WORDS, MAX_TEXT, MAX_VARIABLE,
+    ROW_BYTES, SCRATCH_BYTES,
 };
 
 /// The best and the median of some runs, in milliseconds.
@@ -170,15 +171,15 @@ fn full_tables(random: &mut Random) -> Tables {
     let mut tables = shape.tables(random);
     let mut universal: Vec<bool> = (0..MAX_VARIABLE).map(|place| place % 2 == 0).collect();
     random.shuffle(&mut universal);
-    for (word, universal) in tables.prefix.iter_mut().zip(universal) {
-        *word *= if universal { -1 } else { 1 };
-    }
+    tables.quantify(|place| universal[place]);
     tables
 }
 
 fn time_tables(tables: &Tables) {
     time_check_tables("check_tables, clauses of 7, 65,536 words", tables);
-    let wide: Vec<i32> = tables.prefix[..1023].iter().copied().chain([0]).collect();
+    let entries = tables.entries();
+    let variables = entries[..1023].iter().map(|entry| entry.variable);
+    let wide: Vec<i32> = variables.chain([0]).collect();
     let wide = Tables {
         prefix: tables.prefix.clone(),
         clauses: wide.repeat(64),
@@ -230,7 +231,7 @@ fn spread(text: &[u8]) -> Vec<u8> {
 
 fn time_read(name: &str, text: &[u8]) {
     #[cfg(proved)]
-    let (mut prefix, mut clauses) = (vec![0; MAX_VARIABLE], vec![0; MAX_CLAUSE_WORDS]);
+    let (mut prefix, mut clauses) = (vec![0; MAX_PREFIX_WORDS], vec![0; MAX_CLAUSE_WORDS]);
     report(
         name,
         RUNS,
@@ -240,14 +241,18 @@ fn time_read(name: &str, text: &[u8]) {
             &mut clauses,
             &mut [0; 5]
         )),
-        &mut [("", reference!(read(text, MAX_VARIABLE, MAX_CLAUSE_WORDS)))],
+        &mut [(
+            "",
+            reference!(read(text, MAX_PREFIX_WORDS, MAX_CLAUSE_WORDS)),
+        )],
     );
 }
 
 /// Every row, against a search by worklist and, where that is of interest, one by passes.
 pub fn time_rows(name: &str, runs: Runs, tables: &Tables, with_passes: bool) {
     let Tables { prefix, clauses } = tables;
-    let universals = || prefix.iter().filter(|&&word| word < 0).map(|word| -word);
+    let universals = tables.universals();
+    let universals = || universals.iter().copied();
     let by_worklist = &mut || {
         for variable in universals() {
             black_box(row(prefix, clauses, variable, ROW_BYTES, SCRATCH_BYTES)).ok();
@@ -356,9 +361,7 @@ fn time_games(random: &mut Random) {
         longest: 10,
     };
     let mut drawn = shape.tables(random);
-    for (place, word) in drawn.prefix.iter_mut().enumerate() {
-        *word *= if place % 2 == 1 { -1 } else { 1 };
-    }
+    drawn.quantify(|place| place % 2 == 1);
     time_game("evaluate, 16 variables, 1,000 clauses", &drawn);
     // Nothing ends early: each play is lost, by the last clause but one or the last.
     let shape = Shape {

@@ -130,19 +130,31 @@ fn numbered<T>(
     out: impl Fn(&T) -> [u64; 3],
     buffers: Vec<Buffer>,
 ) -> (usize, Answer) {
-    let (number, [a, b, c]) = match answer {
-        Ok(value) => (0, out(value)),
-        Err(refusal) => (
-            refusal.reason.number(),
-            [refusal.place, refusal.line, refusal.column].map(|n| n as u64),
-        ),
+    let (number, out) = match answer {
+        Ok(value) => {
+            let [a, b, c] = out(value);
+            (0, [a, b, c, 0, 0])
+        }
+        Err(refusal) => (refusal.reason.number(), refused(refusal)),
     };
     let answer = Answer {
         returned: number.into(),
-        out: [a, b, c, 0, 0],
+        out,
         buffers,
     };
     (number as usize, answer)
+}
+
+/// The words of `out` after a refusal.
+fn refused(refusal: &Refusal) -> [u64; 5] {
+    let [variable, block] = refusal.blocker;
+    let Refusal {
+        place,
+        line,
+        column,
+        ..
+    } = *refusal;
+    [place, line, column, variable, block].map(|number| number as u64)
 }
 
 /// The answer of an entry that prints, its buffer of so many bytes last.

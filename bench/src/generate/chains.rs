@@ -35,10 +35,8 @@ pub fn chain(random: &mut Random, universals: i32, existentials: i32, order: Ord
             links = halves(0).chain(halves(1)).collect();
         }
     }
-    Tables {
-        prefix: (1..=last).map(|v| if v < first { -v } else { v }).collect(),
-        clauses: links.concat(),
-    }
+    let short: Vec<i32> = (1..=last).map(|v| if v < first { -v } else { v }).collect();
+    Tables::new(&short, links.concat())
 }
 
 /// So many reductions, of the first two universals by turns, each of which leaves {x1}.

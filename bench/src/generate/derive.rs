@@ -61,15 +61,15 @@ impl Derivation {
         let count = check_tables(&tables.prefix, &tables.clauses).map_or(0, |c| c.clauses);
         let known = tables.clauses.split(|&word| word == 0).take(count);
         let mut rows = vec![None; ROW_BYTES];
-        for &word in tables.prefix.iter().filter(|&&word| word < 0) {
+        for variable in tables.universals() {
             let row = row(
                 &tables.prefix,
                 &tables.clauses,
-                -word,
+                variable,
                 ROW_BYTES,
                 SCRATCH_BYTES,
             );
-            rows[-word as usize] = row.ok();
+            rows[variable as usize] = row.ok();
         }
         Derivation {
             known: known.map(|clause| clause.to_vec()).collect(),

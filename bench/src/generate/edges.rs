@@ -3,52 +3,37 @@
 use super::chains::{chain, reductions, Order};
 use super::derive::long_derivation;
 use super::lines::edge_lines;
+use super::prefixes::{edge_prefixes, edge_sets, every_room, full_prefix, small_prefixes};
 use super::proofs::check_case;
 use super::texts::{spell, tokens};
 use super::{push_clause, Case, Random, Shape, Tables};
 use crate::reference::file::write_proof;
-#[cfg(any(proved, test))]
 use crate::reference::program::Room;
 use crate::reference::{
-    MAX_CLAUSES, MAX_CLAUSE_WORDS, MAX_STEP_WORDS, MAX_TEXT, MAX_VARIABLE, ROW_BYTES, SCRATCH_BYTES,
+    MAX_CLAUSES, MAX_CLAUSE_WORDS, MAX_PREFIX_WORDS, MAX_STEP_WORDS, MAX_TEXT, ROW_BYTES,
+    SCRATCH_BYTES,
 };
 
 pub fn edges(random: &mut Random) -> Vec<Case> {
     let mut cases = Vec::new();
     for tables in edge_tables(random) {
-        cases.push(Case::CheckTables {
-            tables: tables.clone(),
-        });
-        cases.push(Case::Write {
-            tables: tables.clone(),
-            room: 400_000,
-        });
-        cases.push(Case::Evaluate {
-            tables: tables.clone(),
-        });
-        for variable in [1, 1024] {
-            cases.push(Case::Row {
-                tables: tables.clone(),
-                variable,
-                row_room: 2000,
-                scratch_room: SCRATCH_BYTES,
-            });
-        }
         let plain: Vec<String> = tokens(random, &tables);
         cases.push(Case::Read {
             text: spell(random, &plain),
-            prefix_room: MAX_VARIABLE,
+            prefix_room: MAX_PREFIX_WORDS,
             clause_room: MAX_CLAUSE_WORDS + 1,
         });
-        for room in [SCRATCH_BYTES, SCRATCH_BYTES - 1] {
-            cases.push(Case::Check {
-                tables: tables.clone(),
-                steps: vec![1, 1, 2, 1, 0],
-                scratch_room: room,
-                starts_room: MAX_CLAUSES + 1,
-            });
+        cases.extend(of_tables(&tables));
+    }
+    for prefix in edge_prefixes(random) {
+        for clauses in [vec![1, 0], vec![2000], vec![0; MAX_CLAUSES + 1]] {
+            let prefix = prefix.clone();
+            cases.extend(of_tables(&Tables { prefix, clauses }));
         }
     }
+    cases.extend(small_prefixes());
+    cases.extend(edge_sets(random));
+    cases.extend(every_room());
     cases.extend(edge_texts());
     cases.extend(edge_proofs(random));
     cases.extend(edge_chains(random));
@@ -56,8 +41,36 @@ pub fn edges(random: &mut Random) -> Vec<Case> {
     cases
 }
 
+/// Every entry that takes tables, on these.
+fn of_tables(tables: &Tables) -> Vec<Case> {
+    let tables = || tables.clone();
+    let row = |variable| Case::Row {
+        tables: tables(),
+        variable,
+        row_room: 2000,
+        scratch_room: SCRATCH_BYTES,
+    };
+    let check = |scratch_room| Case::Check {
+        tables: tables(),
+        steps: vec![1, 1, 2, 1, 0],
+        scratch_room,
+        starts_room: MAX_CLAUSES + 1,
+    };
+    vec![
+        Case::CheckTables { tables: tables() },
+        Case::Write {
+            tables: tables(),
+            room: 400_000,
+        },
+        Case::Evaluate { tables: tables() },
+        row(1),
+        row(1024),
+        check(SCRATCH_BYTES),
+        check(SCRATCH_BYTES - 1),
+    ]
+}
+
 /// Each entry once, with every table empty and no room in any buffer.
-#[cfg(any(proved, test))]
 pub fn empty() -> [Case; 9] {
     let tables = Tables {
         prefix: vec![],
@@ -118,11 +131,8 @@ pub fn empty() -> [Case; 9] {
 
 /// Tables at each bound, one past it, and with a fault found only after all of it.
 fn edge_tables(random: &mut Random) -> Vec<Tables> {
-    let full: Vec<i32> = (1..=1024)
-        .map(|v| if random.one_in(2) { -v } else { v })
-        .collect();
-    let mut over = full.clone();
-    over.push(3);
+    let full = full_prefix(random);
+    let over = [&full[..], &[3]].concat();
     let mut words = Vec::new();
     let mut numbers: Vec<i32> = (1..=1024).collect();
     for _ in 0..MAX_CLAUSES {
@@ -150,11 +160,8 @@ fn edge_tables(random: &mut Random) -> Vec<Tables> {
         (&over, vec![]),
         (&over, vec![0]),
     ];
-    all.map(|(prefix, clauses)| Tables {
-        prefix: prefix.clone(),
-        clauses,
-    })
-    .to_vec()
+    all.map(|(short, clauses)| Tables::new(short, clauses))
+        .to_vec()
 }
 
 fn edge_texts() -> Vec<Case> {
@@ -187,7 +194,7 @@ fn edge_texts() -> Vec<Case> {
         .flat_map(|text| {
             [MAX_CLAUSE_WORDS, MAX_CLAUSE_WORDS + 9, 5].map(|clause_room| Case::Read {
                 text: text.clone(),
-                prefix_room: MAX_VARIABLE,
+                prefix_room: MAX_PREFIX_WORDS,
                 clause_room,
             })
         })
@@ -229,10 +236,7 @@ fn edge_proofs(random: &mut Random) -> Vec<Case> {
         }
     }
     // The shortest steps, as many as fit, on clauses that give the empty clause at once.
-    let tables = Tables {
-        prefix: vec![1, -2],
-        clauses: vec![1, 0, -1, 0, 2, 0],
-    };
+    let tables = Tables::new(&[1, -2], vec![1, 0, -1, 0, 2, 0]);
     let step = [2, 3, 2, 0];
     for words in [MAX_STEP_WORDS, MAX_STEP_WORDS + 1] {
         let steps: Vec<i32> = step.iter().copied().cycle().take(words).collect();

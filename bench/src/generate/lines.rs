@@ -1,7 +1,9 @@
 //! Inputs of the two programs: the bytes of a formula and of a proof file, each whole or damaged, with room
 //! about what they need, for the line too.
 
+use super::blocked::blocked;
 use super::files::{damage_file, note};
+use super::prefixes::prefix_room;
 use super::proofs::{damage_steps, lawful, step_places};
 use super::tables::{damaged_tables, room};
 use super::texts::{damage_bytes, damage_tokens, spell, tokens};
@@ -11,7 +13,11 @@ use crate::reference::program::{check_line, dependency_lines, printed, Room, LIN
 use crate::reference::{MAX_STEP_WORDS, MAX_TEXT, SCRATCH_BYTES};
 
 pub fn line_batch(random: &mut Random) -> Vec<Case> {
-    let (tables, steps) = lawful(random);
+    let (tables, steps) = if random.one_in(3) {
+        blocked(random)
+    } else {
+        lawful(random)
+    };
     let mut cases = Vec::new();
     for turn in 0..8 {
         let (mut tables, mut steps) = (tables.clone(), steps.clone());
@@ -61,12 +67,12 @@ fn drawn_room(
     match random.below(30) {
         0 => lent.file = random.pick(&[formula, proof]).saturating_sub(1),
         1 => lent.file = random.pick(&[formula, proof]),
-        2 => lent.prefix = room(random, tables.prefix.len()),
-        3 => lent.clauses = room(random, tables.clauses.len()),
-        4 => lent.steps = room(random, steps.len()),
-        5 => lent.scratch = random.pick(&[0, SCRATCH_BYTES / 2, SCRATCH_BYTES - 1]),
-        6 => lent.starts = random.below(lent.starts + 1),
-        7..=12 => lent.file = 65_536,
+        2 | 3 => lent.prefix = prefix_room(random, tables.prefix.len()),
+        4 => lent.clauses = room(random, tables.clauses.len()),
+        5 => lent.steps = room(random, steps.len()),
+        6 => lent.scratch = random.pick(&[0, SCRATCH_BYTES / 2, SCRATCH_BYTES - 1]),
+        7 => lent.starts = random.below(lent.starts + 1),
+        8..=13 => lent.file = 65_536,
         _ => lent.file = usize::MAX,
     }
     lent

@@ -36,11 +36,11 @@ const CLOSING: usize = 8 + 7 + 6 + 5;
 
 /// The clauses: the start, a link for each x, one clause against x1 and against each z, and two for each b.
 fn ring() -> Tables {
-    let mut prefix: Vec<i32> = (1..A).collect();
-    prefix.extend((A..X).map(|a| -a));
-    prefix.extend(X..B);
-    prefix.extend((B..W).map(|b| -b));
-    prefix.push(W);
+    let mut short: Vec<i32> = (1..A).collect();
+    short.extend((A..X).map(|a| -a));
+    short.extend(X..B);
+    short.extend((B..W).map(|b| -b));
+    short.push(W);
     let mut clauses: Vec<i32> = (1..A).chain([X, A, 0]).collect();
     for link in 0..RING {
         clauses.extend([-(X + link), X + (link + 1) % RING]);
@@ -53,7 +53,7 @@ fn ring() -> Tables {
     for b in B..W {
         clauses.extend([b, W, 0, -b, -W, 0]);
     }
-    Tables { prefix, clauses }
+    Tables::new(&short, clauses)
 }
 
 /// The universal literal of a link, if it has one: every fourth has, an a and a b by turns, each b in both signs.
@@ -187,11 +187,13 @@ mod tests {
     #[test]
     fn rows() {
         let ring = ring();
-        for word in ring.prefix.iter().filter(|&&word| word < 0) {
-            let row = row(&ring.prefix, &ring.clauses, -word, 1025, 8200).unwrap();
+        let universals = ring.universals();
+        assert_eq!(universals.len() as i32, OUTER + INNER);
+        for variable in universals {
+            let row = row(&ring.prefix, &ring.clauses, variable, 1025, 8200).unwrap();
             let dependents: Vec<i32> = (0..1025).filter(|&v| row[v as usize] == 1).collect();
-            let expected = if -word < X { vec![] } else { vec![W] };
-            assert_eq!(dependents, expected, "{word}");
+            let expected = if variable < X { vec![] } else { vec![W] };
+            assert_eq!(dependents, expected, "{variable}");
         }
     }
 }

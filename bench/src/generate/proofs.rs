@@ -22,6 +22,19 @@ pub fn step_places(steps: &[i32]) -> Vec<usize> {
     places
 }
 
+/// The numbered clauses: those of the tables, and what each step states.
+pub fn numbered<'a>(tables: &'a Tables, steps: &'a [i32]) -> Vec<&'a [i32]> {
+    let input = tables.clauses.split(|&word| word == 0);
+    let mut clauses: Vec<&[i32]> = input.take(tables.count()).collect();
+    let places = step_places(steps);
+    for (turn, &at) in places.iter().enumerate() {
+        let head = if steps[at] == 1 { 4 } else { 3 };
+        let end = places.get(turn + 1).copied().unwrap_or(steps.len());
+        clauses.push(steps.get(at + head..end - 1).unwrap_or(&[]));
+    }
+    clauses
+}
+
 /// A formula, mostly tight, and a lawful derivation.
 pub fn lawful(random: &mut Random) -> (Tables, Vec<i32>) {
     let shape = match random.below(60) {
@@ -137,7 +150,8 @@ fn wild_step(random: &mut Random, tables: &Tables, derived: usize) -> Vec<i32> {
         return vec![2, far, literal, 0];
     }
     if random.one_in(2) {
-        let universal = left.iter().find(|l| tables.prefix.contains(&-l.abs()));
+        let universals = tables.universals();
+        let universal = left.iter().find(|l| universals.contains(&l.abs()));
         let reduced = *universal.unwrap_or(&literal);
         let mut step = vec![2, i, reduced];
         step.extend(left.iter().filter(|&&l| l != reduced));

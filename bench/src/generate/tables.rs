@@ -1,6 +1,7 @@
 //! Inputs made of tables: for the check of tables, writing, rows and games. Damage changes words here and
 //! there, repeats them, or cuts a table off.
 
+use super::prefixes::damage_prefix;
 use super::{Case, Random, Shape, Tables};
 use crate::reference::write::write;
 use crate::reference::{ROW_BYTES, SCRATCH_BYTES};
@@ -47,12 +48,7 @@ pub fn damaged_tables(random: &mut Random, tables: &Tables) -> Tables {
             0 => {
                 clauses.pop();
             }
-            1 => repeat_word(random, prefix),
-            2 => damage_words(random, prefix),
-            3 => {
-                let place = random.below(prefix.len() + 1);
-                prefix.truncate(place);
-            }
+            1..=3 => damage_prefix(random, prefix),
             4 | 5 => repeat_in_clause(random, clauses),
             6 => {
                 let place = random.below(clauses.len() + 1);
@@ -62,14 +58,6 @@ pub fn damaged_tables(random: &mut Random, tables: &Tables) -> Tables {
         }
     }
     tables
-}
-
-/// Writes some word again, or its opposite, at another place.
-fn repeat_word(random: &mut Random, words: &mut Vec<i32>) {
-    if !words.is_empty() {
-        let word = random.pick(words).wrapping_mul(random.pick(&[1, -1]));
-        words.insert(random.below(words.len() + 1), word);
-    }
 }
 
 /// Repeats or opposes a literal one to three words after it.
@@ -119,10 +107,12 @@ pub fn write_batch(random: &mut Random) -> Vec<Case> {
             room: room(random, length.map_or(0, |text| text.len())),
         });
     }
-    cases.push(Case::Write {
-        tables: damaged_tables(random, &tables),
-        room: random.below(400),
-    });
+    for _ in 0..4 {
+        cases.push(Case::Write {
+            tables: damaged_tables(random, &tables),
+            room: random.below(400),
+        });
+    }
     cases
 }
 
@@ -139,10 +129,11 @@ pub fn buffer(random: &mut Random, least: usize) -> usize {
 
 pub fn row_batch(random: &mut Random) -> Vec<Case> {
     let tables = Shape::any(random).tables(random);
-    let mut variables: Vec<i32> = tables.prefix.iter().map(|word| -word).collect();
-    random.shuffle(&mut variables);
-    variables.retain(|&variable| variable > 0 || random.one_in(8));
-    variables.truncate(10);
+    let mut entries = tables.entries();
+    random.shuffle(&mut entries);
+    entries.retain(|entry| entry.is_universal() || random.one_in(8));
+    entries.truncate(10);
+    let mut variables: Vec<i32> = entries.iter().map(|entry| entry.variable).collect();
     variables.push(odd_word(random));
     let mut cases: Vec<Case> = variables
         .iter()
@@ -157,12 +148,14 @@ pub fn row_batch(random: &mut Random) -> Vec<Case> {
             scratch_room: buffer(random, SCRATCH_BYTES),
         })
         .collect();
-    cases.push(Case::Row {
-        tables: damaged_tables(random, &tables),
-        variable: variables[0],
-        row_room: buffer(random, ROW_BYTES),
-        scratch_room: buffer(random, SCRATCH_BYTES),
-    });
+    for _ in 0..3 {
+        cases.push(Case::Row {
+            tables: damaged_tables(random, &tables),
+            variable: variables[0],
+            row_room: buffer(random, ROW_BYTES),
+            scratch_room: buffer(random, SCRATCH_BYTES),
+        });
+    }
     cases
 }
 
@@ -181,7 +174,7 @@ pub fn game_batch(random: &mut Random) -> Vec<Case> {
         }
         shape.largest = shape.largest.max(shape.variables);
         let tables = shape.tables(random);
-        if random.one_in(6) {
+        if random.one_in(2) {
             let tables = damaged_tables(random, &tables);
             cases.push(Case::Evaluate { tables });
         }

@@ -1,8 +1,11 @@
 //! Texts: formulas spelled with odd spacing and comments, then damaged by tokens or by bytes, or cut at
 //! every byte.
 
+use super::prefixes::prefix_room;
 use super::tables::{damaged_tables, room};
 use super::{Case, Random, Shape, Tables};
+use crate::reference::prefix::ENTRY_WORDS;
+use crate::reference::text::read;
 use crate::reference::MAX_VARIABLE;
 
 const BLANKS: [&str; 10] = [
@@ -51,7 +54,8 @@ const ODD_TOKENS: [&str; 36] = [
 
 /// The tokens of a formula's text, header first; sets may be split or lack variables, V and C may be off.
 pub fn tokens(random: &mut Random, tables: &Tables) -> Vec<String> {
-    let largest = tables.prefix.iter().map(|w| w.unsigned_abs()).max();
+    let records = tables.prefix.chunks_exact(ENTRY_WORDS);
+    let largest = records.clone().map(|entry| entry[0].unsigned_abs()).max();
     let largest = largest.unwrap_or(0) as usize;
     let count = tables.count();
     let (declared, stated) = match random.below(20) {
@@ -67,11 +71,11 @@ pub fn tokens(random: &mut Random, tables: &Tables) -> Vec<String> {
     tokens.push(stated.to_string());
     let mut open: Option<bool> = None;
     let lacking = random.one_in(4);
-    for &word in &tables.prefix {
+    for entry in records {
         if lacking && random.one_in(3) {
             continue;
         }
-        let universal = word < 0;
+        let universal = entry[1] == 2;
         if open != Some(universal) || random.one_in(8) {
             if open.is_some() {
                 tokens.push("0".to_string());
@@ -79,7 +83,7 @@ pub fn tokens(random: &mut Random, tables: &Tables) -> Vec<String> {
             tokens.push(if universal { "a" } else { "e" }.to_string());
             open = Some(universal);
         }
-        tokens.push(word.unsigned_abs().to_string());
+        tokens.push(entry[0].unsigned_abs().to_string());
     }
     if open.is_some() {
         tokens.push("0".to_string());
@@ -155,10 +159,13 @@ pub fn damage_bytes(random: &mut Random, text: &mut Vec<u8>) {
     }
 }
 
+/// Room near what the text needs, or near what the tables have if it is not read.
 fn read_case(random: &mut Random, tables: &Tables, text: Vec<u8>) -> Case {
+    let reading = read(&text, usize::MAX, usize::MAX);
+    let prefix = reading.map_or(tables.prefix.len(), |reading| reading.prefix.len());
     Case::Read {
         text,
-        prefix_room: room(random, tables.prefix.len()),
+        prefix_room: prefix_room(random, prefix),
         clause_room: room(random, tables.clauses.len()),
     }
 }

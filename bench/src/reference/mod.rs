@@ -4,6 +4,7 @@
 
 pub mod file;
 pub mod play;
+pub mod prefix;
 pub mod program;
 pub mod row;
 pub mod steps;
@@ -15,6 +16,7 @@ pub mod write;
 mod positions;
 
 pub const MAX_VARIABLE: usize = 1024;
+pub const MAX_PREFIX_WORDS: usize = 3072;
 pub const MAX_CLAUSES: usize = 8192;
 pub const MAX_CLAUSE_WORDS: usize = 65_536;
 pub const MAX_STEP_WORDS: usize = 1_048_576;
@@ -85,17 +87,20 @@ impl Reason {
             place,
             line: 0,
             column: 0,
+            blocker: [0, 0],
         }
     }
 }
 
-/// Line and column are those of a place in a text, else 0.
+/// Line and column are those of a place in a text, else 0. The blocker is the variable that blocks a reduction and
+/// its block; it is zeros unless the reason is that.
 #[derive(Clone, Copy, Debug, PartialEq, Eq)]
 pub struct Refusal {
     pub reason: Reason,
     pub place: usize,
     pub line: usize,
     pub column: usize,
+    pub blocker: [usize; 2],
 }
 
 impl Refusal {

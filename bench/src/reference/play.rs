@@ -1,23 +1,20 @@
 //! The game of a small formula, played in full: every position is settled from the two after it, and a
 //! position with nothing left to set from the clauses.
 
+use super::prefix::{entries, Entry, Quantifier};
 use super::tables::check_tables;
 use super::{Reason, Refusal, MAX_PLAYED, ROW_BYTES};
 
 /// Whether the formula is true.
 pub fn evaluate(prefix: &[i32], clauses: &[i32]) -> Result<bool, Refusal> {
-    check_tables(prefix, clauses)?;
-    if prefix.len() > MAX_PLAYED {
-        return Err(Reason::Oversized.at(0));
-    }
-    let mut depth_of = [0; ROW_BYTES];
-    for (depth, &word) in prefix.iter().enumerate() {
-        depth_of[word.unsigned_abs() as usize] = depth;
-    }
     let mut game = Game {
-        prefix,
+        entries: played(prefix, clauses)?,
         clauses: Vec::new(),
     };
+    let mut depth_of = [0; ROW_BYTES];
+    for (depth, entry) in game.entries.iter().enumerate() {
+        depth_of[entry.variable as usize] = depth;
+    }
     let mut masks = Masks::default();
     for &word in clauses {
         let bit = 1 << depth_of[word.unsigned_abs() as usize];
@@ -30,45 +27,51 @@ pub fn evaluate(prefix: &[i32], clauses: &[i32]) -> Result<bool, Refusal> {
     Ok(game.holds(0, 0))
 }
 
-/// A clause as sets of prefix places, one bit each.
+/// The entries of tables that are played in full.
+fn played(prefix: &[i32], clauses: &[i32]) -> Result<Vec<Entry>, Refusal> {
+    if check_tables(prefix, clauses)?.variables > MAX_PLAYED {
+        return Err(Reason::Oversized.at(0));
+    }
+    Ok(entries(prefix))
+}
+
+/// A clause as sets of entries, one bit each.
 #[derive(Default)]
 struct Masks {
     positive: u32,
     negative: u32,
 }
 
-struct Game<'a> {
-    prefix: &'a [i32],
+struct Game {
+    entries: Vec<Entry>,
     clauses: Vec<Masks>,
 }
 
-impl Game<'_> {
-    /// Whether the position is true, `values` having the values of the places below `depth`.
+impl Game {
+    /// Whether the position is true, `values` having the values of the entries below `depth`.
     fn holds(&self, depth: usize, values: u32) -> bool {
-        match self.prefix.get(depth) {
-            Some(1..) => {
-                self.holds(depth + 1, values) || self.holds(depth + 1, values | 1 << depth)
-            }
-            Some(_) => self.holds(depth + 1, values) && self.holds(depth + 1, values | 1 << depth),
-            None => self
+        let Some(entry) = self.entries.get(depth) else {
+            return self
                 .clauses
                 .iter()
-                .all(|clause| values & clause.positive | !values & clause.negative != 0),
+                .all(|clause| values & clause.positive | !values & clause.negative != 0);
+        };
+        let after = |bit: u32| self.holds(depth + 1, values | bit << depth);
+        match entry.quantifier {
+            Quantifier::Existential => after(0) || after(1),
+            Quantifier::Universal => after(0) && after(1),
         }
     }
 }
 
 /// The same answer from the clause words themselves, literal by literal: what the masks are worth.
 pub fn evaluate_by_words(prefix: &[i32], clauses: &[i32]) -> Result<bool, Refusal> {
-    check_tables(prefix, clauses)?;
-    if prefix.len() > MAX_PLAYED {
-        return Err(Reason::Oversized.at(0));
-    }
-    Ok(holds_by_words(prefix, clauses, &mut [false; ROW_BYTES]))
+    let entries = played(prefix, clauses)?;
+    Ok(holds_by_words(&entries, clauses, &mut [false; ROW_BYTES]))
 }
 
-fn holds_by_words(left: &[i32], clauses: &[i32], values: &mut [bool; ROW_BYTES]) -> bool {
-    let Some((&word, rest)) = left.split_first() else {
+fn holds_by_words(left: &[Entry], clauses: &[i32], values: &mut [bool; ROW_BYTES]) -> bool {
+    let Some((entry, rest)) = left.split_first() else {
         // Without leaving a clause early: the unforeseen branch would cost more than the words.
         let mut satisfied = false;
         for &word in clauses {
@@ -82,10 +85,10 @@ fn holds_by_words(left: &[i32], clauses: &[i32], values: &mut [bool; ROW_BYTES])
         }
         return true;
     };
-    let variable = word.unsigned_abs() as usize;
+    let variable = entry.variable as usize;
     values[variable] = false;
     let first = holds_by_words(rest, clauses, values);
-    if first == (word > 0) {
+    if first != entry.is_universal() {
         return first;
     }
     values[variable] = true;
@@ -94,8 +97,13 @@ fn holds_by_words(left: &[i32], clauses: &[i32], values: &mut [bool; ROW_BYTES])
 
 #[cfg(test)]
 mod tests {
+    use super::super::prefix::records;
     use super::*;
     use crate::generate::{Random, Shape};
+
+    fn evaluate(short: &[i32], clauses: &[i32]) -> Result<bool, Refusal> {
+        super::evaluate(&records(short), clauses)
+    }
 
     #[test]
     fn small_games() {
@@ -124,7 +132,7 @@ mod tests {
         for _ in 0..4000 {
             let tables = Shape::tight(&mut random).tables(&mut random);
             let (prefix, clauses) = (&tables.prefix, &tables.clauses);
-            let answer = evaluate(prefix, clauses);
+            let answer = super::evaluate(prefix, clauses);
             assert_eq!(answer, evaluate_by_words(prefix, clauses));
             lost += usize::from(answer == Ok(false));
         }

@@ -1,11 +1,12 @@
-//! The specification's known positions, a to l and the unlettered ones, and the proofs of outside solvers
-//! where QDR_OUTSIDE_PROOFS names their folder.
+//! The specification's known positions, a to l and the unlettered ones, with prefixes given in short, and the proofs
+//! of outside solvers where QDR_OUTSIDE_PROOFS names their folder.
 
 use std::fs;
 use std::io::Write;
 use std::path::Path;
 
 use super::file::write_proof;
+use super::prefix::records;
 use super::program::{self, printed, Room};
 use super::row::row;
 use super::steps::{check, Rows, Verdict};
@@ -19,8 +20,8 @@ const STEPS: [i32; 27] = [
     2, 1, 2, 3, 0, 2, 2, -2, 4, 0, 1, 6, 3, 4, 1, 0, 1, 5, 4, 3, -1, 0, 1, 7, 8, 1, 0,
 ];
 
-fn dependents(prefix: &[i32], clauses: &[i32], variable: i32) -> Vec<usize> {
-    let row = row(prefix, clauses, variable, 1025, 8200).unwrap();
+fn dependents(short: &[i32], clauses: &[i32], variable: i32) -> Vec<usize> {
+    let row = row(&records(short), clauses, variable, 1025, 8200).unwrap();
     (0..1025).filter(|&v| row[v] == 1).collect()
 }
 
@@ -34,8 +35,8 @@ fn dependency_lines(formula: &[u8]) -> String {
 }
 
 /// The empty clause and the number of steps, or the refusal's number and place.
-fn judged(prefix: &[i32], clauses: &[i32], steps: &[i32]) -> Result<(usize, usize), (u32, usize)> {
-    match check(prefix, clauses, steps, 8200, 1000, Rows::Kept) {
+fn judged(short: &[i32], clauses: &[i32], steps: &[i32]) -> Result<(usize, usize), (u32, usize)> {
+    match check(&records(short), clauses, steps, 8200, 1000, Rows::Kept) {
         Ok(Verdict { empty, steps }) => Ok((empty, steps)),
         Err(refusal) => Err((refusal.reason.number(), refusal.place)),
     }
@@ -57,6 +58,8 @@ fn c_d_both_rows_hold_3() {
     assert_eq!(dependents(&prefix, &clauses, 2), vec![3]);
     let steps = [2, 1, 1, 2, -3, 0];
     assert_eq!(judged(&prefix, &clauses, &steps), Err((17, 3)));
+    let refusal = check(&records(&prefix), &clauses, &steps, 8200, 3, Rows::Kept).unwrap_err();
+    assert_eq!(refusal.blocker, [3, 2]);
 }
 
 #[test]
@@ -90,30 +93,31 @@ fn l_one_path_is_not_enough() {
 
 #[test]
 fn texts() {
-    let refusal = read(b"p cnf 2 1\ne 1 2 0\n1,2 0\n", 1024, 1024).unwrap_err();
+    let refusal = read(b"p cnf 2 1\ne 1 2 0\n1,2 0\n", 3072, 1024).unwrap_err();
     assert_eq!((refusal.reason.number(), refusal.place), (4, 18));
     assert_eq!((refusal.line, refusal.column), (3, 1));
-    let reading = read(b"p cnf 2 1\ne 1 2 0\n1\n2 0\n", 1024, 1024).unwrap();
-    assert_eq!(reading.prefix, vec![1, 2]);
+    let reading = read(b"p cnf 2 1\ne 1 2 0\n1\n2 0\n", 3072, 1024).unwrap();
+    assert_eq!(reading.prefix, vec![1, 1, 1, 2, 1, 1]);
     assert_eq!(reading.clauses, vec![1, 2, 0]);
 }
 
 #[test]
 fn bounds() {
-    let prefix: Vec<i32> = (1..=1025).collect();
-    assert!(check_tables(&prefix[..1024], &[]).is_ok());
+    let short: Vec<i32> = (1..=1025).collect();
+    let prefix = records(&short);
+    assert!(check_tables(&prefix[..3072], &[]).is_ok());
     assert_eq!(
         check_tables(&prefix, &[]).unwrap_err().reason.number(),
         2,
         "1,025 variables"
     );
-    assert!(row(&[-1], &[], 1, 1025, 8200).is_ok());
-    assert!(row(&[-1], &[], 1, 1025, 8199).is_err());
+    assert!(row(&records(&[-1]), &[], 1, 1025, 8200).is_ok());
+    assert!(row(&records(&[-1]), &[], 1, 1025, 8199).is_err());
 }
 
 #[test]
 fn programs_on_the_example() {
-    let formula = write(&PREFIX, &CLAUSES, 1000).unwrap();
+    let formula = write(&records(&PREFIX), &CLAUSES, 1000).unwrap();
     let file = write_proof(b"", &STEPS, 4);
     assert_eq!(file.len(), 120);
     assert_eq!(file[108..112], [108, 0, 0, 0]);
@@ -133,12 +137,18 @@ fn programs_refuse() {
     );
     assert_eq!(dependency_lines(&long), "refused 2 oversized 0 0 0\n");
     let formula = b"p cnf 0 0";
-    assert_eq!(check_line(formula, Vec::new), "refused 11 no trailer 0 0 0\n");
+    assert_eq!(
+        check_line(formula, Vec::new),
+        "refused 11 no trailer 0 0 0\n"
+    );
     assert_eq!(check_line(formula, || long), "refused 2 oversized 0 0 0\n");
     assert_eq!(dependency_lines(formula), "");
     let formula = b"p cnf 3 2 a 1 2 0 e 3 0 1 2 -3 0 -1 -2 3 0";
     let file = write_proof(b"note", &[2, 1, 1, 2, -3, 0], 2);
-    assert_eq!(check_line(formula, || file), "refused 17 blocked 3 0 0\n");
+    assert_eq!(
+        check_line(formula, || file),
+        "refused 17 blocked 3 0 0 3 2\n"
+    );
     assert_eq!(dependency_lines(formula), "1: 3\n2: 3\n");
 }
 

@@ -1,12 +1,14 @@
 //! The two programs: what they print for a formula's text and a proof file, with the room they are lent.
 
 use super::file::read_proof;
+use super::prefix::{entries, Entry, ENTRY_WORDS};
 use super::row::Occurrences;
 use super::steps::{check, Rows};
 use super::tables::Counts;
 use super::text::{read, Reading};
 use super::{
-    Reason, Refusal, MAX_CLAUSES, MAX_CLAUSE_WORDS, MAX_STEP_WORDS, MAX_VARIABLE, SCRATCH_BYTES,
+    Reason, Refusal, MAX_CLAUSES, MAX_CLAUSE_WORDS, MAX_PREFIX_WORDS, MAX_STEP_WORDS, MAX_VARIABLE,
+    SCRATCH_BYTES,
 };
 
 /// The longest file that is taken, and the lengths of the tables and of the scratch.
@@ -24,7 +26,7 @@ impl Room {
     /// What the specification gives the two programs.
     pub const PROGRAMS: Room = Room {
         file: 65_536,
-        prefix: MAX_VARIABLE,
+        prefix: MAX_PREFIX_WORDS,
         clauses: 16_384,
         steps: 16_384,
         scratch: SCRATCH_BYTES,
@@ -34,7 +36,7 @@ impl Room {
     /// What suffices for every formula and proof within the bounds: a step has four words at least.
     pub const FULL: Room = Room {
         file: usize::MAX,
-        prefix: MAX_VARIABLE,
+        prefix: MAX_PREFIX_WORDS,
         clauses: MAX_CLAUSE_WORDS,
         steps: MAX_STEP_WORDS,
         scratch: SCRATCH_BYTES,
@@ -46,12 +48,16 @@ impl Room {
 /// dependent, and there are no more pairs of a universal and an existential than 512 times 512.
 pub const LINES_BYTES: usize = 6 * MAX_VARIABLE + 5 * (MAX_VARIABLE / 2) * (MAX_VARIABLE / 2);
 
-/// What a program prints for an answer.
+/// What a program prints for an answer. A blocked reduction alone has numbers behind its column.
 pub fn printed(answer: Result<String, Refusal>) -> String {
     answer.unwrap_or_else(|refusal| {
         let (number, word) = (refusal.reason.number(), refusal.reason.word());
         let (place, line, column) = (refusal.place, refusal.line, refusal.column);
-        format!("refused {number} {word} {place} {line} {column}\n")
+        let blocker = match (refusal.reason, refusal.blocker) {
+            (Reason::Blocked, [variable, block]) => format!(" {variable} {block}"),
+            _ => String::new(),
+        };
+        format!("refused {number} {word} {place} {line} {column}{blocker}\n")
     })
 }
 
@@ -78,7 +84,7 @@ pub fn check_line<P: AsRef<[u8]>>(
     )?;
     Ok(format!(
         "accepted {} {} {} {}\n",
-        reading.prefix.len(),
+        reading.prefix.len() / ENTRY_WORDS,
         reading.count,
         verdict.steps,
         verdict.empty
@@ -91,18 +97,19 @@ pub fn dependency_lines(room: Room, formula: &[u8]) -> Result<String, Refusal> {
     if room.scratch < SCRATCH_BYTES {
         return Err(Reason::NoRoom.at(0));
     }
+    let entries = entries(&reading.prefix);
     let counts = Counts {
-        variables: reading.prefix.len(),
+        variables: entries.len(),
         clauses: reading.count,
     };
     let occurrences = Occurrences::of(&reading.clauses, counts);
     let mut lines = String::new();
-    for &word in reading.prefix.iter().filter(|&&word| word < 0) {
-        let row = occurrences.row(&reading.prefix, -word);
-        lines += &format!("{}:", -word);
-        for &word in &reading.prefix {
-            if row[word.unsigned_abs() as usize] == 1 {
-                lines += &format!(" {word}");
+    for universal in entries.iter().filter(|entry| entry.is_universal()) {
+        let row = occurrences.row(&entries, universal.variable);
+        lines += &format!("{}:", universal.variable);
+        for Entry { variable, .. } in &entries {
+            if row[*variable as usize] == 1 {
+                lines += &format!(" {variable}");
             }
         }
         lines.push('\n');

@@ -1,6 +1,7 @@
 //! Dependency rows. A search along resolution paths from a literal of the universal variable visits
 //! each clause at most twice: the first entry reaches every literal but itself, a second one that too.
 
+use super::prefix::{entries, Entry};
 use super::tables::{check_tables, Counts};
 use super::{literal_index, Reason, Refusal, LITERALS, ROW_BYTES, SCRATCH_BYTES};
 
@@ -15,23 +16,29 @@ pub fn row(
     scratch_room: usize,
 ) -> Result<Row, Refusal> {
     let counts = check_tables(prefix, clauses)?;
-    if variable <= 0 || !prefix.contains(&-variable) {
-        return Err(Reason::NotUniversal.at(0));
-    }
+    let entries = with_universal(prefix, variable)?;
     if row_room < ROW_BYTES || scratch_room < SCRATCH_BYTES {
         return Err(Reason::NoRoom.at(0));
     }
-    Ok(Occurrences::of(clauses, counts).row(prefix, variable))
+    Ok(Occurrences::of(clauses, counts).row(&entries, variable))
+}
+
+/// The entries of an admitted prefix, one of which must be a universal of this number.
+fn with_universal(prefix: &[i32], variable: i32) -> Result<Vec<Entry>, Refusal> {
+    let entries = entries(prefix);
+    let asked = |entry: &Entry| entry.is_universal() && entry.variable == variable;
+    if entries.iter().any(asked) {
+        Ok(entries)
+    } else {
+        Err(Reason::NotUniversal.at(0))
+    }
 }
 
 /// The same row by passes over the clause words until nothing changes. It needs no occurrences and is the
 /// faster way to a single row of a dense formula; a long chain of clauses can cost it a pass a link.
 pub fn row_by_passes(prefix: &[i32], clauses: &[i32], variable: i32) -> Result<Row, Refusal> {
     check_tables(prefix, clauses)?;
-    if variable <= 0 || !prefix.contains(&-variable) {
-        return Err(Reason::NotUniversal.at(0));
-    }
-    let scope = Scope::of(prefix, variable);
+    let scope = Scope::of(&with_universal(prefix, variable)?, variable);
     Ok(scope.row(variable, |start| {
         let (reached, _) = reached_by_passes(clauses, start, &scope);
         reached
@@ -40,7 +47,7 @@ pub fn row_by_passes(prefix: &[i32], clauses: &[i32], variable: i32) -> Result<R
 
 /// How many passes the longer of the two searches takes, the last of which changes nothing.
 pub fn passes(prefix: &[i32], clauses: &[i32], variable: i32) -> usize {
-    let scope = Scope::of(prefix, variable);
+    let scope = Scope::of(&entries(prefix), variable);
     let passes = |start| reached_by_passes(clauses, start, &scope).1;
     passes(variable).max(passes(-variable))
 }
@@ -52,13 +59,15 @@ struct Scope {
 }
 
 impl Scope {
-    fn of(prefix: &[i32], variable: i32) -> Scope {
-        let place = prefix.iter().position(|&word| word == -variable);
-        let right = &prefix[place.map_or(prefix.len(), |place| place + 1)..];
-        let variables: Vec<i32> = right.iter().copied().filter(|&word| word > 0).collect();
+    fn of(entries: &[Entry], variable: i32) -> Scope {
+        let right = entries
+            .iter()
+            .skip_while(|entry| entry.variable != variable);
+        let existentials = right.filter(|entry| !entry.is_universal());
+        let variables: Vec<i32> = existentials.map(|entry| entry.variable).collect();
         let mut holds = [false; ROW_BYTES];
-        for &word in &variables {
-            holds[word as usize] = true;
+        for &variable in &variables {
+            holds[variable as usize] = true;
         }
         Scope { variables, holds }
     }
@@ -154,8 +163,8 @@ impl<'a> Occurrences<'a> {
     }
 
     /// The row of a universal variable of the prefix.
-    pub fn row(&self, prefix: &[i32], variable: i32) -> Row {
-        let scope = Scope::of(prefix, variable);
+    pub fn row(&self, entries: &[Entry], variable: i32) -> Row {
+        let scope = Scope::of(entries, variable);
         scope.row(variable, |start| self.reached(start, &scope))
     }
 
@@ -208,6 +217,7 @@ const FINISHED: i32 = i32::MAX;
 
 #[cfg(test)]
 mod tests {
+    use super::super::prefix::records;
     use super::*;
     use crate::generate::{Random, Shape};
 
@@ -248,20 +258,19 @@ mod tests {
                 shape = Shape::tight(&mut random);
             }
             let tables = shape.tables(&mut random);
-            for (place, &word) in tables.prefix.iter().enumerate() {
-                if word > 0 {
+            let (prefix, clauses) = (&tables.prefix, &tables.clauses);
+            for place in (0..prefix.len()).step_by(3) {
+                if prefix[place + 1] == 1 {
                     continue;
                 }
-                let right: Vec<i32> = tables.prefix[place + 1..]
-                    .iter()
-                    .copied()
-                    .filter(|&word| word > 0)
-                    .collect();
-                let positive = joined(&tables.clauses, -word, &right);
-                let negative = joined(&tables.clauses, word, &right);
-                let row = row(&tables.prefix, &tables.clauses, -word, 1025, 8200).unwrap();
-                let passes = row_by_passes(&tables.prefix, &tables.clauses, -word);
-                assert_eq!(passes, Ok(row));
+                let right = prefix[place + 3..].chunks(3);
+                let right = right.filter(|words| words[1] == 1);
+                let right: Vec<i32> = right.map(|words| words[0]).collect();
+                let universal = prefix[place];
+                let positive = joined(clauses, universal, &right);
+                let negative = joined(clauses, -universal, &right);
+                let row = row(prefix, clauses, universal, 1025, 8200).unwrap();
+                assert_eq!(row_by_passes(prefix, clauses, universal), Ok(row));
                 for variable in 0..1025 {
                     let both = |sign: i32| {
                         positive.contains(&(sign * variable))
@@ -279,7 +288,14 @@ mod tests {
     #[test]
     fn refusals_in_order() {
         let refused = |clauses: &[i32], variable, row_room, scratch_room| {
-            row(&[1, -2], clauses, variable, row_room, scratch_room).map_err(|r| r.reason.number())
+            let answer = row(
+                &records(&[1, -2]),
+                clauses,
+                variable,
+                row_room,
+                scratch_room,
+            );
+            answer.map_err(|r| r.reason.number())
         };
         assert_eq!(refused(&[3], 1, 0, 0), Err(7));
         for variable in [0, 1, -2, 3, 1025, i32::MAX, i32::MIN] {

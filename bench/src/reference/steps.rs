@@ -1,8 +1,9 @@
 //! The check of a proof on tables and step words. A step's result is built by marks, one for each
 //! literal, and ticked off against what the step states; no mark is ever wiped, each step has its own.
 
+use super::prefix::{bindings, entries, Entry, Quantifier};
 use super::row::{Occurrences, Row};
-use super::tables::{bindings, check_tables, Binding, Counts};
+use super::tables::{check_tables, Counts};
 use super::{literal_index, Reason, Refusal, LITERALS, MAX_STEP_WORDS, MAX_VARIABLE, ROW_BYTES};
 
 #[derive(Clone, Copy, Debug, PartialEq, Eq)]
@@ -46,7 +47,7 @@ pub fn check(
         if starts_room < number {
             return Err(Reason::NoRoom.at(number));
         }
-        run.judge(&step).map_err(|reason| reason.at(number))?;
+        run.judge(&step).map_err(|fault| fault.at(number))?;
         run.known.push(step.stated);
         at = next;
     }
@@ -83,9 +84,31 @@ impl<'a> Step<'a> {
     }
 }
 
+/// Why a step is refused, and with a blocked reduction what blocks it.
+struct Fault {
+    reason: Reason,
+    blocker: [usize; 2],
+}
+
+impl From<Reason> for Fault {
+    fn from(reason: Reason) -> Fault {
+        let blocker = [0, 0];
+        Fault { reason, blocker }
+    }
+}
+
+impl Fault {
+    fn at(self, place: usize) -> Refusal {
+        Refusal {
+            blocker: self.blocker,
+            ..self.reason.at(place)
+        }
+    }
+}
+
 struct Run<'a> {
-    prefix: &'a [i32],
-    bindings: [Binding; ROW_BYTES],
+    entries: Vec<Entry>,
+    bindings: [Option<Quantifier>; ROW_BYTES],
     occurrences: Occurrences<'a>,
     rows: Rows,
     kept: Vec<Option<Box<Row>>>,
@@ -97,7 +120,7 @@ struct Run<'a> {
 
 impl<'a> Run<'a> {
     fn new(
-        prefix: &'a [i32],
+        prefix: &[i32],
         clauses: &'a [i32],
         steps: &'a [i32],
         counts: Counts,
@@ -105,9 +128,10 @@ impl<'a> Run<'a> {
     ) -> Run<'a> {
         let mut known = Vec::with_capacity(counts.clauses + steps.len() / 8);
         known.extend(clauses.split(|&word| word == 0).take(counts.clauses));
+        let entries = entries(prefix);
         Run {
-            prefix,
-            bindings: bindings(prefix),
+            bindings: bindings(&entries),
+            entries,
             occurrences: Occurrences::of(clauses, counts),
             rows,
             kept: vec![None; ROW_BYTES],
@@ -117,7 +141,7 @@ impl<'a> Run<'a> {
         }
     }
 
-    fn judge(&mut self, step: &Step) -> Result<(), Reason> {
+    fn judge(&mut self, step: &Step) -> Result<(), Fault> {
         self.mark += 2;
         let size = match step.rule {
             Rule::Resolve { i, j, pivot } => {
@@ -132,7 +156,7 @@ impl<'a> Run<'a> {
         if self.states(step.stated, size) {
             Ok(())
         } else {
-            Err(Reason::Misstated)
+            Err(Reason::Misstated.into())
         }
     }
 
@@ -142,14 +166,14 @@ impl<'a> Run<'a> {
         clause.copied().ok_or(Reason::NotEarlier)
     }
 
-    fn binding(&self, literal: i32) -> Binding {
+    fn binding(&self, literal: i32) -> Option<Quantifier> {
         let variable = literal.unsigned_abs() as usize;
-        *self.bindings.get(variable).unwrap_or(&Binding::Free)
+        *self.bindings.get(variable)?
     }
 
     /// Marks the resolvent and counts its literals.
     fn resolve(&mut self, left: &[i32], right: &[i32], pivot: i32) -> Result<usize, Reason> {
-        if pivot <= 0 || self.binding(pivot) != Binding::Existential {
+        if pivot <= 0 || self.binding(pivot) != Some(Quantifier::Existential) {
             return Err(Reason::WrongPivot);
         }
         let mark = self.mark;
@@ -183,18 +207,18 @@ impl<'a> Run<'a> {
     }
 
     /// Marks the reduced clause and counts its literals.
-    fn reduce(&mut self, clause: &[i32], reduced: i32) -> Result<usize, Reason> {
-        if self.binding(reduced) != Binding::Universal || !clause.contains(&reduced) {
-            return Err(Reason::WrongPivot);
+    fn reduce(&mut self, clause: &[i32], reduced: i32) -> Result<usize, Fault> {
+        if self.binding(reduced) != Some(Quantifier::Universal) || !clause.contains(&reduced) {
+            return Err(Reason::WrongPivot.into());
         }
         let variable = reduced.unsigned_abs() as usize;
         let row = match self.kept[variable].take() {
             Some(row) => row,
-            None => Box::new(self.occurrences.row(self.prefix, variable as i32)),
+            None => Box::new(self.occurrences.row(&self.entries, variable as i32)),
         };
-        let blocked = |literal: &i32| row[literal.unsigned_abs() as usize] == 1;
-        if clause.iter().any(blocked) {
-            return Err(Reason::Blocked);
+        let depends = |literal: &i32| row[literal.unsigned_abs() as usize] == 1;
+        if clause.iter().any(depends) {
+            return Err(self.blocked(clause, &row));
         }
         if self.rows == Rows::Kept {
             self.kept[variable] = Some(row);
@@ -205,6 +229,19 @@ impl<'a> Run<'a> {
             }
         }
         Ok(clause.len() - 1)
+    }
+
+    /// Names the first entry from the left whose variable is in the clause and in the row.
+    fn blocked(&self, clause: &[i32], row: &Row) -> Fault {
+        let blocks = |entry: &&Entry| {
+            let held = clause.contains(&entry.variable) || clause.contains(&-entry.variable);
+            held && row[entry.variable as usize] == 1
+        };
+        let leftmost = self.entries.iter().find(blocks);
+        Fault {
+            reason: Reason::Blocked,
+            blocker: leftmost.map_or([0, 0], |e| [e.variable, e.block].map(|n| n as usize)),
+        }
     }
 
     /// Whether these are the marked literals, each once. A literal ticked gets the mark's successor.
@@ -224,14 +261,46 @@ impl<'a> Run<'a> {
 
 #[cfg(test)]
 mod tests {
+    use super::super::prefix::records;
     use super::*;
     use crate::generate::derive::derivation;
     use crate::generate::{Random, Shape};
     use crate::reference::play;
 
-    fn refused(prefix: &[i32], clauses: &[i32], steps: &[i32]) -> (u32, usize) {
-        let refusal = check(prefix, clauses, steps, 8200, 100, Rows::Kept).unwrap_err();
+    fn refusal(short: &[i32], clauses: &[i32], steps: &[i32]) -> Refusal {
+        check(&records(short), clauses, steps, 8200, 100, Rows::Kept).unwrap_err()
+    }
+
+    fn refused(short: &[i32], clauses: &[i32], steps: &[i32]) -> (u32, usize) {
+        let refusal = refusal(short, clauses, steps);
+        assert_eq!(refusal.blocker, [0, 0]);
         (refusal.reason.number(), refusal.place)
+    }
+
+    /// 9, 2, 7 and 4 stand with 6 and their opposites with -6, so that they depend on it; 8 and 10 have no opposite,
+    /// 3 is left of it, 5 a universal. Of the first clause's dependents 4 stands first, 2 is the smallest number,
+    /// and the entry of 9 is the leftmost.
+    #[test]
+    fn the_leftmost_dependent_blocks() {
+        let short = [3, -6, 8, 9, -5, 2, 7, -1, 4, 10];
+        let clauses = [
+            [4, 3, -2, 8, 7, 6, 5, -9, 0],
+            [-4, 3, 2, 10, -7, -6, 5, 9, 0],
+        ];
+        let blocker = |clauses: &[i32], steps: &[i32]| {
+            let refusal = refusal(&short, clauses, steps);
+            assert_eq!((refusal.reason.number(), refusal.line), (17, 0));
+            (refusal.place, refusal.blocker)
+        };
+        let both = clauses.concat();
+        assert_eq!(blocker(&both, &[2, 1, 6, 0]), (3, [9, 3]));
+        assert_eq!(blocker(&both, &[2, 2, -6, 0]), (3, [9, 3]));
+        // Clauses that hold fewer of them, and one derived that has lost 9.
+        let fewer = [&both[..], &[4, 6, 7, 0, 6, -4, 0, 9, 3, 0]].concat();
+        assert_eq!(blocker(&fewer, &[2, 3, 6, 0]), (6, [7, 5]));
+        assert_eq!(blocker(&fewer, &[2, 4, 6, 0]), (6, [4, 7]));
+        let derived = [1, 5, 1, 9, 4, 3, -2, 8, 7, 6, 5, 0, 2, 6, 6, 0];
+        assert_eq!(blocker(&fewer, &derived), (7, [2, 5]));
     }
 
     #[test]
@@ -269,7 +338,8 @@ mod tests {
     #[test]
     fn room() {
         let refused = |steps: &[i32], scratch, starts| {
-            let answer = check(&[-1], &[1, 0, -1, 0], steps, scratch, starts, Rows::Kept);
+            let prefix = records(&[-1]);
+            let answer = check(&prefix, &[1, 0, -1, 0], steps, scratch, starts, Rows::Kept);
             answer.map_err(|r| (r.reason.number(), r.place))
         };
         let right = [2, 1, 1, 0, 2, 2, -1, 0];

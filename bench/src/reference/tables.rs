@@ -1,7 +1,10 @@
-//! The check of tables: lengths and clause count, then the prefix words, then the clause words, each
-//! from the left; and which quantifier binds each variable of admitted tables.
+//! The check of tables: lengths and clause count, then whether the prefix is in threes, then its entries word by
+//! word, then the clause words, each from the left.
 
-use super::{Reason, Refusal, MAX_CLAUSES, MAX_CLAUSE_WORDS, MAX_VARIABLE, ROW_BYTES};
+use super::prefix::{Quantifier, ENTRY_WORDS};
+use super::{
+    Reason, Refusal, MAX_CLAUSES, MAX_CLAUSE_WORDS, MAX_PREFIX_WORDS, MAX_VARIABLE, ROW_BYTES,
+};
 
 #[derive(Clone, Copy, Debug, PartialEq, Eq)]
 pub struct Counts {
@@ -10,7 +13,7 @@ pub struct Counts {
 }
 
 pub fn check_tables(prefix: &[i32], clauses: &[i32]) -> Result<Counts, Refusal> {
-    if prefix.len() > MAX_VARIABLE || clauses.len() > MAX_CLAUSE_WORDS {
+    if prefix.len() > MAX_PREFIX_WORDS || clauses.len() > MAX_CLAUSE_WORDS {
         return Err(Reason::Oversized.at(0));
     }
     let count = clauses.iter().filter(|&&word| word == 0).count();
@@ -18,15 +21,44 @@ pub fn check_tables(prefix: &[i32], clauses: &[i32]) -> Result<Counts, Refusal> 
         return Err(Reason::Oversized.at(0));
     }
     let mut seen = Seen::new();
-    for (place, &word) in prefix.iter().enumerate() {
-        let variable = word.unsigned_abs() as usize;
+    check_prefix(prefix, &mut seen)?;
+    check_clauses(clauses, &mut seen)?;
+    Ok(Counts {
+        variables: prefix.len() / ENTRY_WORDS,
+        clauses: count,
+    })
+}
+
+/// Whole entries alone, and of each entry the variable, the quantifier and the block.
+fn check_prefix(prefix: &[i32], seen: &mut Seen) -> Result<(), Refusal> {
+    if !prefix.len().is_multiple_of(ENTRY_WORDS) {
+        return Err(Reason::Unfinished.at(prefix.len()));
+    }
+    let mut last = None;
+    let mut blocks = 0;
+    for (index, entry) in prefix.chunks_exact(ENTRY_WORDS).enumerate() {
+        let place = ENTRY_WORDS * index;
+        let variable = usize::try_from(entry[0]).unwrap_or(0);
         if variable == 0 || variable > MAX_VARIABLE {
             return Err(Reason::OutOfRange.at(place));
         }
         if !seen.bind(variable) {
             return Err(Reason::BoundTwice.at(place));
         }
+        let quantifier = Quantifier::of(entry[1]);
+        if quantifier.is_none() {
+            return Err(Reason::OutOfRange.at(place + 1));
+        }
+        blocks += i32::from(quantifier != last);
+        last = quantifier;
+        if entry[2] != blocks {
+            return Err(Reason::BoundTwice.at(place + 2));
+        }
     }
+    Ok(())
+}
+
+fn check_clauses(clauses: &[i32], seen: &mut Seen) -> Result<(), Refusal> {
     for (place, &word) in clauses.iter().enumerate() {
         if word == 0 {
             seen.next_clause();
@@ -41,10 +73,7 @@ pub fn check_tables(prefix: &[i32], clauses: &[i32]) -> Result<Counts, Refusal> 
     if clauses.last().is_some_and(|&word| word != 0) {
         return Err(Reason::Unfinished.at(clauses.len()));
     }
-    Ok(Counts {
-        variables: prefix.len(),
-        clauses: count,
-    })
+    Ok(())
 }
 
 /// For each variable: 0 unbound, 1 bound, else the mark of the last clause that holds it.
@@ -90,28 +119,9 @@ impl Seen {
     }
 }
 
-#[derive(Clone, Copy, Debug, PartialEq, Eq)]
-pub enum Binding {
-    Free,
-    Existential,
-    Universal,
-}
-
-/// The binding of each variable number under an admitted prefix.
-pub fn bindings(prefix: &[i32]) -> [Binding; ROW_BYTES] {
-    let mut bindings = [Binding::Free; ROW_BYTES];
-    for &word in prefix {
-        bindings[word.unsigned_abs() as usize] = if word > 0 {
-            Binding::Existential
-        } else {
-            Binding::Universal
-        };
-    }
-    bindings
-}
-
 #[cfg(test)]
 mod tests {
+    use super::super::prefix::records;
     use super::*;
 
     fn refused(prefix: &[i32], clauses: &[i32]) -> (u32, usize) {
@@ -120,35 +130,82 @@ mod tests {
     }
 
     #[test]
+    fn each_word_of_an_entry() {
+        for variable in [0, -1, -1024, 1025, i32::MAX, i32::MIN] {
+            assert_eq!(refused(&[variable, 0, 0], &[5]), (5, 0), "{variable}");
+            let second = [1, 1, 1, variable, 3, 9];
+            assert_eq!(refused(&second, &[]), (5, 3), "{variable}");
+        }
+        assert_eq!(refused(&[1, 1, 1, 1, 3, 9], &[]), (6, 3));
+        assert_eq!(refused(&[2, 1, 1, 1, 1, 1, 2, 2, 2, 0, 0, 0], &[]), (6, 6));
+        for quantifier in [0, 3, -1, -2, i32::MAX, i32::MIN] {
+            let second = [1, 1, 1, 2, quantifier, 0, 2, 1, 1];
+            assert_eq!(refused(&second, &[]), (5, 4), "{quantifier}");
+        }
+        for block in [0, 1, 2, 4, -3, i32::MAX, i32::MIN] {
+            let fourth = [3, 1, 1, 1, 2, 2, 2, 2, 2, 4, 1, block, 9, 9, 9];
+            assert_eq!(refused(&fourth, &[0, 1]), (6, 11), "{block}");
+        }
+        for first in [[1, 1, 0], [1, 2, 0], [1, 1, 2], [1, 2, 2], [1, 1, -1]] {
+            assert_eq!(refused(&first, &[]), (6, 2));
+        }
+    }
+
+    /// The same block while the quantifier stays, one more where it changes.
+    #[test]
+    fn blocks() {
+        let mut words = records(&[5, -3, -4, 1, -2, 7]);
+        assert!(check_tables(&words, &[]).is_ok());
+        for (place, due) in [(2, 1), (5, 2), (8, 2), (11, 3), (14, 4), (17, 5)] {
+            assert_eq!(words[place], due);
+            for wrong in [due - 1, due + 1] {
+                words[place] = wrong;
+                assert_eq!(refused(&words, &[]), (6, place));
+            }
+            words[place] = due;
+        }
+        words[7] = 1;
+        assert_eq!(refused(&words, &[]), (6, 8));
+        words[8] = 3;
+        assert!(check_tables(&words, &[]).is_ok());
+    }
+
+    #[test]
+    fn whole_entries() {
+        assert_eq!(refused(&[1], &[5]), (9, 1));
+        assert_eq!(refused(&[0, 0], &[]), (9, 2));
+        assert_eq!(refused(&[1, 1, 1, 1], &[]), (9, 4));
+        assert_eq!(refused(&[1, 1, 1, 2, 1], &[0]), (9, 5));
+    }
+
+    #[test]
     fn each_refusal_at_its_word() {
-        assert_eq!(refused(&[1, 1, 0], &[]), (6, 1));
-        assert_eq!(refused(&[1, -1], &[]), (6, 1));
-        assert_eq!(refused(&[1, 0, 1], &[]), (5, 1));
-        assert_eq!(refused(&[1025], &[]), (5, 0));
-        assert_eq!(refused(&[i32::MIN], &[]), (5, 0));
+        let refused = |short: &[i32], clauses: &[i32]| refused(&records(short), clauses);
+        assert_eq!(refused(&[1, 1, 0], &[]), (6, 3));
+        assert_eq!(refused(&[1, -1], &[]), (6, 3));
         assert_eq!(refused(&[1], &[1, 1, 2000, 0]), (8, 1));
         assert_eq!(refused(&[1, 2], &[1, 2, -2, -1, 0]), (8, 2));
         assert_eq!(refused(&[1], &[1, 0, i32::MIN]), (5, 2));
         assert_eq!(refused(&[1], &[1, 0, -1025]), (5, 2));
         assert_eq!(refused(&[1], &[1, 0, 2]), (7, 2));
         assert_eq!(refused(&[1], &[1, 0, -1]), (9, 3));
-        assert_eq!(refused(&[0], &[5]), (5, 0));
     }
 
     #[test]
     fn bounds() {
-        let prefix: Vec<i32> = (1..=1025).collect();
-        assert!(check_tables(&prefix[..1024], &[]).is_ok());
-        assert_eq!(refused(&prefix, &[]), (2, 0));
-        assert_eq!(
-            check_tables(&[], &[0; 8192]),
-            Ok(Counts {
-                variables: 0,
-                clauses: 8192
-            })
-        );
+        let short: Vec<i32> = (1..=1025).collect();
+        let prefix = records(&short);
+        let counts = |variables, clauses| Ok(Counts { variables, clauses });
+        assert_eq!(check_tables(&prefix[..3072], &[]), counts(1024, 0));
+        for length in [3073, 3074, 3075] {
+            assert_eq!(refused(&prefix[..length], &[]), (2, 0));
+        }
+        for length in [3070, 3071] {
+            assert_eq!(refused(&prefix[..length], &[1025]), (9, length));
+        }
+        assert_eq!(check_tables(&[], &[0; 8192]), counts(0, 8192));
         assert_eq!(refused(&[0], &[0; 8193]), (2, 0));
-        assert_eq!(refused(&[1], &[1; 65_537]), (2, 0));
-        assert_eq!(refused(&[1], &[1; 65_536]), (8, 1));
+        assert_eq!(refused(&prefix[..3], &[1; 65_537]), (2, 0));
+        assert_eq!(refused(&prefix[..3], &[1; 65_536]), (8, 1));
     }
 }

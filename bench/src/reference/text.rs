@@ -1,7 +1,8 @@
 //! Reading a formula's text in one pass: comments, the header, quantifier sets, clauses. Tokens are judged
 //! from the left; the first wrong one refuses. Every place is a byte of the text. Variables that no set lists
-//! are put before the prefix at the end.
+//! are put before the prefix at the end. The reader lists the prefix in short; records are made of it last.
 
+use super::prefix::{records, ENTRY_WORDS};
 use super::tables::Seen;
 use super::{Reason, Refusal, MAX_CLAUSES, MAX_CLAUSE_WORDS, MAX_TEXT, MAX_VARIABLE, ROW_BYTES};
 
@@ -24,29 +25,30 @@ fn read_tokens(text: &[u8], prefix_room: usize, clause_room: usize) -> Result<Re
     let mut tokens = Tokens { text, at: 0 };
     let (largest, count) = tokens.header()?;
     let mut seen = Seen::new();
-    let room = prefix_room;
-    let (prefix, first) = tokens.sets(largest, count, &mut seen, room)?;
+    let room = prefix_room / ENTRY_WORDS;
+    let (listed, first) = tokens.sets(largest, count, &mut seen, room)?;
     let room = clause_room;
     let clauses = tokens.clauses(first, largest, count, &mut seen, room)?;
-    let mut completed = unlisted(&prefix, &clauses);
-    completed.extend(prefix);
-    if completed.len() > prefix_room {
+    let mut completed = unlisted(&listed, &clauses);
+    completed.extend(listed);
+    let prefix = records(&completed);
+    if prefix.len() > prefix_room {
         return Err(Reason::NoRoom.at(text.len()));
     }
     Ok(Reading {
-        prefix: completed,
+        prefix,
         clauses,
         count,
     })
 }
 
-/// The variables that occur in a clause and not in the prefix, rising.
-fn unlisted(prefix: &[i32], clauses: &[i32]) -> Vec<i32> {
+/// The variables that occur in a clause and that no set lists, rising.
+fn unlisted(listed: &[i32], clauses: &[i32]) -> Vec<i32> {
     let mut free = [false; ROW_BYTES];
     for word in clauses {
         free[word.unsigned_abs() as usize] = true;
     }
-    for word in prefix {
+    for word in listed {
         free[word.unsigned_abs() as usize] = false;
     }
     (1..ROW_BYTES as i32)
@@ -184,7 +186,7 @@ impl Tokens<'_> {
         Reason::Unfinished.at(self.text.len())
     }
 
-    /// The prefix words of the sets, and the token after them.
+    /// The variables of the sets in short, for a table of so many entries, and the token after them.
     fn sets(
         &mut self,
         largest: usize,
@@ -192,19 +194,19 @@ impl Tokens<'_> {
         seen: &mut Seen,
         room: usize,
     ) -> Result<(Vec<i32>, Option<Token>), Refusal> {
-        let mut prefix = Vec::with_capacity(largest.min(room));
+        let mut listed = Vec::with_capacity(largest.min(room));
         while let Some(token) = self.next() {
             let sign = match token.kind {
                 Kind::Letter(b'a') => -1,
                 Kind::Letter(b'e') => 1,
                 _ if count == 0 => return Err(Reason::Miscount.at(token.place)),
-                _ => return Ok((prefix, Some(token))),
+                _ => return Ok((listed, Some(token))),
             };
-            let before = prefix.len();
+            let before = listed.len();
             loop {
                 let token = self.next().ok_or_else(|| self.unfinished())?;
                 let variable = match token.kind {
-                    Kind::Number(0) if prefix.len() > before => break,
+                    Kind::Number(0) if listed.len() > before => break,
                     Kind::Number(value) if value > 0 => value as usize,
                     _ => return Err(Reason::BadToken.at(token.place)),
                 };
@@ -214,13 +216,13 @@ impl Tokens<'_> {
                 if !seen.bind(variable) {
                     return Err(Reason::BoundTwice.at(token.place));
                 }
-                if prefix.len() == room {
+                if listed.len() == room {
                     return Err(Reason::NoRoom.at(token.place));
                 }
-                prefix.push(sign * variable as i32);
+                listed.push(sign * variable as i32);
             }
         }
-        Ok((prefix, None))
+        Ok((listed, None))
     }
 
     /// The words of so many clauses, from this token on, and then the end.
@@ -276,18 +278,18 @@ mod tests {
     use super::*;
 
     fn refused(text: &str) -> (u32, usize) {
-        let refusal = read(text.as_bytes(), 1024, 65_536).unwrap_err();
+        let refusal = read(text.as_bytes(), 3072, 65_536).unwrap_err();
         (refusal.reason.number(), refusal.place)
     }
 
     fn tables(text: &str) -> (Vec<i32>, Vec<i32>, usize) {
-        let reading = read(text.as_bytes(), 1024, 65_536).unwrap();
+        let reading = read(text.as_bytes(), 3072, 65_536).unwrap();
         (reading.prefix, reading.clauses, reading.count)
     }
 
     #[test]
     fn a_line_end_closes_nothing() {
-        let expected = (vec![1, 2], vec![1, 2, 0], 1);
+        let expected = (vec![1, 1, 1, 2, 1, 1], vec![1, 2, 0], 1);
         assert_eq!(tables("p cnf 2 1\ne 1 2 0\n1\n2 0\n"), expected);
         assert_eq!(tables("p\ncnf\r\n2\t1 e 1 0 e 2 0 1 2 0"), expected);
     }
@@ -327,7 +329,20 @@ mod tests {
         assert_eq!(refused("p cnf 2 0\ne 1 0 x"), (10, 16));
         assert_eq!(refused("p cnf 2 0\n0"), (10, 10));
         assert_eq!(refused("p cnf 2 0\ne x"), (4, 12));
-        assert_eq!(tables("p cnf 2 0\na 2 0 a 1 0\n").0, vec![-2, -1]);
+    }
+
+    /// Neighbouring sets of one letter share a block, and so do added variables and a first set of existentials.
+    #[test]
+    fn blocks() {
+        let prefix = |text| tables(text).0;
+        assert_eq!(prefix("p cnf 2 0\na 2 0 a 1 0\n"), [2, 2, 1, 1, 2, 1]);
+        let text = "p cnf 9 0 e 9 0 a 3 0 a 5 4 0 e 1 0 e 2 0 a 8 0";
+        assert_eq!(prefix(text), records(&[9, -3, -5, -4, 1, 2, -8]));
+        assert_eq!(prefix(text)[18..], [8, 2, 4]);
+        let text = "p cnf 3 1\na 2 0\n3 -2 1 0";
+        assert_eq!(prefix(text), [1, 1, 1, 3, 1, 1, 2, 2, 2]);
+        let text = "p cnf 3 1\ne 2 0 a 1 0\n3 -2 1 0";
+        assert_eq!(prefix(text), [3, 1, 1, 2, 1, 1, 1, 2, 2]);
     }
 
     #[test]
@@ -347,22 +362,29 @@ mod tests {
     #[test]
     fn free_variables() {
         let prefix = |text| tables(text).0;
-        assert_eq!(prefix("p cnf 3 1\n3 -1 0\n"), vec![1, 3]);
-        assert_eq!(prefix("p cnf 4 2\na 3 0\n4 -2 0 3 2 0\n"), vec![2, 4, -3]);
-        assert_eq!(prefix("p cnf 4 1\ne 2 4 0\n-1 2 0\n"), vec![1, 2, 4]);
+        let expected = |short| records(short);
+        assert_eq!(prefix("p cnf 3 1\n3 -1 0\n"), expected(&[1, 3]));
+        let text = "p cnf 4 2\na 3 0\n4 -2 0 3 2 0\n";
+        assert_eq!(prefix(text), expected(&[2, 4, -3]));
+        let text = "p cnf 4 1\ne 2 4 0\n-1 2 0\n";
+        assert_eq!(prefix(text), expected(&[1, 2, 4]));
         assert_eq!(refused("p cnf 2 1\ne 1 0\n2 1 -2 0\n"), (8, 20));
         assert_eq!(refused("p cnf 2 1\n3 0\n"), (5, 10));
         let text = b"p cnf 3 1\ne 1 0\n2 3 0\n";
-        assert!(read(text, 3, 9).is_ok());
+        assert!(read(text, 9, 9).is_ok());
+        for room in [3, 5, 6, 8] {
+            let crowded = read(text, room, 9).unwrap_err();
+            assert_eq!((crowded.reason, crowded.place), (Reason::NoRoom, 22));
+            assert_eq!((crowded.line, crowded.column), (4, 1));
+            assert_eq!(read(&text[..19], room, 9).unwrap_err().reason.number(), 9);
+        }
         let crowded = read(text, 2, 9).unwrap_err();
-        assert_eq!((crowded.reason, crowded.place), (Reason::NoRoom, 22));
-        assert_eq!((crowded.line, crowded.column), (4, 1));
-        assert_eq!(read(&text[..19], 2, 9).unwrap_err().reason.number(), 9);
+        assert_eq!((crowded.reason, crowded.place), (Reason::NoRoom, 12));
     }
 
     #[test]
     fn lines_and_columns() {
-        let told = |text: &[u8]| read(text, 1024, 65_536).map_err(|r| (r.line, r.column));
+        let told = |text: &[u8]| read(text, 3072, 65_536).map_err(|r| (r.line, r.column));
         assert_eq!(told(b""), Err((1, 1)));
         assert_eq!(told(b"p cnf 2 1\ne 1 2 0\n1,2 0\n"), Err((3, 1)));
         assert_eq!(told(b"c \xff\r\n\rp cnf 1 1\r\n\tx 0"), Err((3, 2)));
@@ -375,13 +397,23 @@ mod tests {
     fn room() {
         let text = b"p cnf 2 1\ne 1 2 0\n1 2 0\n";
         let place = |prefix, clauses| read(text, prefix, clauses).map_err(|r| r.place);
-        assert!(place(2, 3).is_ok());
-        assert_eq!(place(1, 3), Err(14));
-        assert_eq!(place(0, 0), Err(12));
-        assert_eq!(place(2, 2), Err(22));
-        assert_eq!(place(2, 0), Err(18));
+        assert!(place(6, 3).is_ok());
+        assert!(place(7, 3).is_ok());
+        assert_eq!(
+            [5, 4, 3].map(|words| place(words, 3)),
+            [const { Err(14) }; 3]
+        );
+        assert_eq!(
+            [2, 1, 0].map(|words| place(words, 0)),
+            [const { Err(12) }; 3]
+        );
+        assert_eq!(place(6, 2), Err(22));
+        assert_eq!(place(6, 0), Err(18));
         let text = b"p cnf 2 1\ne 1 2 0\n1 1 0\n";
-        assert_eq!(read(text, 2, 1).map_err(|r| r.reason), Err(Reason::Clash));
+        assert_eq!(read(text, 6, 1).map_err(|r| r.reason), Err(Reason::Clash));
+        let twice = b"p cnf 2 1\ne 1 1 0\n";
+        let answer = read(twice, 3, 1).map_err(|r| r.reason);
+        assert_eq!(answer, Err(Reason::BoundTwice));
     }
 
     #[test]

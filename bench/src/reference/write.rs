@@ -1,20 +1,22 @@
 //! Writing a formula: the header, a line for each run of one quantifier, a line for each clause.
 
+use super::prefix::entries;
 use super::tables::check_tables;
 use super::{Reason, Refusal};
 
 /// The formula's text, refused where it is longer than the room for it.
 pub fn write(prefix: &[i32], clauses: &[i32], room: usize) -> Result<Vec<u8>, Refusal> {
     let counts = check_tables(prefix, clauses)?;
-    let largest = prefix.iter().map(|word| word.unsigned_abs()).max();
-    let mut text = Text::new(HEADER + SET_WORD * prefix.len() + LITERAL * clauses.len());
+    let entries = entries(prefix);
+    let largest = entries.iter().map(|entry| entry.variable).max();
+    let mut text = Text::new(HEADER + SET_WORD * entries.len() + LITERAL * clauses.len());
     text.push(b"p cnf ");
-    text.push_number(largest.unwrap_or(0), b' ');
+    text.push_number(largest.unwrap_or(0) as u32, b' ');
     text.push_number(counts.clauses as u32, b'\n');
-    for run in prefix.chunk_by(|a, b| (*a > 0) == (*b > 0)) {
-        text.push(if run[0] > 0 { b"e " } else { b"a " });
-        for word in run {
-            text.push_number(word.unsigned_abs(), b' ');
+    for run in entries.chunk_by(|a, b| a.quantifier == b.quantifier) {
+        text.push(if run[0].is_universal() { b"a " } else { b"e " });
+        for entry in run {
+            text.push_number(entry.variable as u32, b' ');
         }
         text.push(b"0\n");
     }
@@ -85,11 +87,13 @@ static DIGIT_PAIRS: [u16; 100] = {
 
 #[cfg(test)]
 mod tests {
+    use super::super::prefix::records;
     use super::*;
 
     #[test]
     fn lines() {
-        let text = write(&[10, 2, -3, 4, 1024], &[10, -1024, 0, 0], 100).unwrap();
+        let prefix = records(&[10, 2, -3, 4, 1024]);
+        let text = write(&prefix, &[10, -1024, 0, 0], 100).unwrap();
         let expected = "p cnf 1024 2\ne 10 2 0\na 3 0\ne 4 1024 0\n10 -1024 0\n0\n";
         assert_eq!(text, expected.as_bytes());
         assert_eq!(write(&[], &[], 10).unwrap(), b"p cnf 0 0\n");
@@ -110,11 +114,11 @@ mod tests {
     /// Sets of one variable are the longest way to write a prefix.
     #[test]
     fn room_for_the_longest() {
-        let prefix: Vec<i32> = (1..=1024)
+        let short: Vec<i32> = (1..=1024)
             .map(|v| if v % 2 == 0 { v } else { -v })
             .collect();
         let clauses = [-1024, 0].repeat(8192);
-        let text = write(&prefix, &clauses, usize::MAX).unwrap();
+        let text = write(&records(&short), &clauses, usize::MAX).unwrap();
         assert_eq!(text.iter().filter(|&&byte| byte == b'\n').count(), 9217);
     }
 }

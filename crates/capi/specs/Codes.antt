@@ -1,10 +1,12 @@
 -- What a C function tells of an answer: a code, 0 or the refusal's number of 01, and the five numbers put into `out`. An answer
--- tells up to three numbers; a refusal tells its place, line and column, and has words for a variable and a block, which are 0.
+-- tells up to three numbers; a refusal tells its place, line and column, and 17 the variable and the block of what blocks.
 -- A number that is not used is 0. What a function promises is `Tells`: what the entry promises of its answer, and the answer told.
 use Prim.Native.Nat.{ℕ}
 use mathlib.Core.Path.{_≡_}
 use mathlib.Core.List.{List, [], _∷_}
-use Rattle.formula.specs.Refusal.{number}
+use Rattle.formula.specs.Refusal.{numbers, number}
+use Rattle.formula.specs.declared.refusal.Numbers.{Numbers}
+use Rattle.formula.specs.declared.refusal.Numbers.the-variants.{Alone, Blocked}
 use Rattle.formula.specs.declared.refusal.Refusal.{Refusal}
 use Rattle.formula.specs.declared.tables.TablesAnswer.{TablesAnswer}
 use Rattle.formula.specs.declared.tables.TablesAnswer.the-variants.{Admitted, Refused as TablesRefused}
@@ -28,8 +30,13 @@ pub record Code : Type 0 where
 abbrev pub accepted : ℕ → ℕ → ℕ → Code
 accepted a b c = record { code = 0; numbers = a ∷ b ∷ c ∷ 0 ∷ 0 ∷ [] }
 
+-- The variable and the block of what blocks.
+abbrev pub blocking : Numbers → List ℕ
+blocking (Alone n) = 0 ∷ 0 ∷ []
+blocking (Blocked b) = b .variable .0 ∷ b .block ∷ []
+
 abbrev pub refused : Refusal → Code
-refused r = record { code = number (r .reason); numbers = r .place ∷ r .line ∷ r .column ∷ 0 ∷ 0 ∷ [] }
+refused r = record { code = number (r .reason); numbers = r .place ∷ r .line ∷ r .column ∷ blocking (numbers (r .reason)) }
 
 -- A code is told: it is returned, and its numbers are left in `out`.
 pub record Told (told : Code) (returned : ℕ) (out : List ℕ) : Type 0 where

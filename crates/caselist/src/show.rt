@@ -1,5 +1,7 @@
 // Printing: bytes, numbers, the words of a table, the dependents of a row, refusals; and whether a buffer was left clear, that is
 // wholly 0.
+use formula::refusal::Numbers;
+use formula::refusal::Reason;
 use formula::refusal::Refusal;
 use formula::word::Word;
 
@@ -76,7 +78,20 @@ pub fn dependents(row: &[u8]) {
     }
 }
 
-// A refusal: its number, its place, its line and its column.
+// What blocks, its variable and its block; nothing where the reason is not 17.
+fn blocking(reason: Reason) {
+    match reason.numbers() {
+        Numbers::Alone(_) => (),
+        Numbers::Blocked(blocker) => {
+            say(b" ");
+            number(blocker.variable.0);
+            say(b" ");
+            number(blocker.block);
+        }
+    }
+}
+
+// A refusal: its number, its place, its line and its column; behind them, with 17, what blocks.
 pub fn refused(r: Refusal) {
     let reason = r.reason;
     say(b"refused ");
@@ -87,6 +102,7 @@ pub fn refused(r: Refusal) {
     number(r.line);
     say(b" ");
     number(r.column);
+    blocking(reason);
 }
 
 // Is the table wholly 0?

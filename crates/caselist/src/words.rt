@@ -1,8 +1,9 @@
-// The words that a field writes: decimal numbers of 32 bits with a sign, parted by single spaces.
+// The words that a field writes: decimal numbers of 32 bits with a sign, parted by one space, or by two, which part the records of a prefix.
 use crate::fields::after;
 use crate::fields::find;
 use crate::fields::part;
-ghost use Prim.Native.Nat.{_≤_};
+ghost use Prim.Native.Nat.{_≤_, _<_};
+ghost use lib.ListN.{length};
 
 // The digit that a byte writes, 0 for what is none.
 fn digit(byte: u8) -> u32
@@ -66,6 +67,19 @@ pub fn word(text: &[u8]) -> i32 {
     positive(magnitude(text, 0))
 }
 
+// Where the next word begins, behind one space or two. It is further on, so that whoever goes from word to word comes to the end.
+fn next_word(text: &[u8], from: usize) -> usize
+    ensures { λ r. ⌜ ((from < length (now (text .entry))) → from < r) ⌝ }
+{
+    let at = after(text, b' ', from);
+    if at < text.len() {
+        if text[at] == b' ' {
+            return at + 1;
+        }
+    }
+    at
+}
+
 // Puts the words to the table's start and answers how many they are; words that find no room are left out.
 pub fn words(text: &[u8], table: &mut [i32]) -> usize {
     let mut n = 0;
@@ -76,7 +90,7 @@ pub fn words(text: &[u8], table: &mut [i32]) -> usize {
         }
         table[n] = word(part(text, at, find(text, b' ', at)));
         n += 1;
-        at = after(text, b' ', at);
+        at = next_word(text, at);
     }
     n
 }

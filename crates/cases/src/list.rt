@@ -1,5 +1,6 @@
 // A list of cases of one kind, taken apart and run one after the other. The fields of a case are its name; for a text the text;
-// for anything else the prefix, the clauses and, for a row, the variable asked for.
+// for anything else the prefix, the clauses and, for a row, the variable asked for. The records of a prefix, variable, quantifier and
+// block, have two spaces between them.
 use crate::games;
 use crate::rows;
 use crate::tables;
@@ -13,8 +14,9 @@ use caselist::words::words;
 ghost use Prim.Native.Nat.{_≤_, _<_};
 ghost use lib.ListN.{length};
 
+// Of a text, how many words its prefix has room for.
 pub enum Kind {
-    Text,
+    Text(usize),
     Tables,
     Written,
     Game,
@@ -24,7 +26,7 @@ pub enum Kind {
 // A case of tables; `rest` is what stands after them in the list.
 fn judge(kind: Kind, name: &[u8], prefix: &[i32], clauses: &[i32], rest: &[u8]) {
     match kind {
-        Kind::Text => (),
+        Kind::Text(_) => (),
         Kind::Tables => tables::case(name, prefix, clauses),
         Kind::Written => written::case(name, prefix, clauses),
         Kind::Game => games::case(name, prefix, clauses),
@@ -38,7 +40,7 @@ fn behind(kind: Kind, list: &[u8], at: usize) -> usize
 {
     match kind {
         Kind::Row => next_field(list, at),
-        Kind::Text => at,
+        Kind::Text(_) => at,
         Kind::Tables => at,
         Kind::Written => at,
         Kind::Game => at,
@@ -47,7 +49,7 @@ fn behind(kind: Kind, list: &[u8], at: usize) -> usize
 
 // The prefix and the clauses stand at `second` and `third`, the place behind them is `fourth`.
 fn tables_case(kind: Kind, name: &[u8], list: &[u8], second: usize, third: usize, fourth: usize) {
-    let mut prefix = [0i32; 8];
+    let mut prefix = [0i32; 24];
     let mut clauses = [0i32; 16];
     let p = words(field(list, second), &mut prefix);
     let c = words(field(list, third), &mut clauses);
@@ -68,8 +70,8 @@ fn run_case(kind: Kind, list: &[u8], at: usize) -> usize
     let second = next_field(list, at);
     let third = next_field(list, second);
     match kind {
-        Kind::Text => {
-            text::case(name, field(list, second));
+        Kind::Text(room) => {
+            text::case(name, field(list, second), room);
             third
         }
         _ => {

@@ -41,11 +41,11 @@ pub fn case(name: &[u8], prefix: &[i32], clauses: &[i32], variable: i32) {
 fn lettered() {
     run_list(
         Kind::Row,
-        b"a, 2|1 -2 3 4|2 3 0 -2 4 0 -4 1 0 -1 -3 0|2|\
-          c, 1|-1 -2 3|1 2 -3 0 -1 -2 3 0|1|\
-          c, 2|-1 -2 3|1 2 -3 0 -1 -2 3 0|2|\
-          e, 1|-1 2 3|1 2 0 -1 2 0 -2 3 0 -2 -3 0|1|\
-          l, 1|-1 2|1 2 0 -1 2 0|1|",
+        b"a, 2|1 1 1  2 2 2  3 1 3  4 1 3|2 3 0 -2 4 0 -4 1 0 -1 -3 0|2|\
+          c, 1|1 2 1  2 2 1  3 1 2|1 2 -3 0 -1 -2 3 0|1|\
+          c, 2|1 2 1  2 2 1  3 1 2|1 2 -3 0 -1 -2 3 0|2|\
+          e, 1|1 2 1  2 1 2  3 1 2|1 2 0 -1 2 0 -2 3 0 -2 -3 0|1|\
+          l, 1|1 2 1  2 1 2|1 2 0 -1 2 0|1|",
     );
 }
 
@@ -53,13 +53,14 @@ fn lettered() {
 fn paths() {
     run_list(
         Kind::Row,
-        b"no clauses|-1 2||1|\
-          joined both ways|-1 2|1 2 0 -1 -2 0|1|\
-          left of the universal|2 -1|1 2 0 -1 -2 0|1|\
-          over an existential|-1 2 3|1 2 0 -2 3 0 -1 -3 0|1|\
-          not over a universal|-1 -2 3|1 2 0 -2 3 0 -1 -3 0|1|\
-          not over an existential to the left|2 -1 3|1 2 0 -2 3 0 -1 -3 0|1|\
-          numbers up to 1,024|-7 1024|7 1024 0 -7 -1024 0|7|",
+        b"no clauses|1 2 1  2 1 2||1|\
+          joined both ways|1 2 1  2 1 2|1 2 0 -1 -2 0|1|\
+          left of the universal|2 1 1  1 2 2|1 2 0 -1 -2 0|1|\
+          over an existential|1 2 1  2 1 2  3 1 2|1 2 0 -2 3 0 -1 -3 0|1|\
+          over an existential of another block|1 2 1  2 1 2  4 2 3  3 1 4|1 2 0 -2 3 0 -1 -3 0|1|\
+          not over a universal|1 2 1  2 2 1  3 1 2|1 2 0 -2 3 0 -1 -3 0|1|\
+          not over an existential to the left|2 1 1  1 2 2  3 1 3|1 2 0 -2 3 0 -1 -3 0|1|\
+          numbers up to 1,024|7 2 1  1024 1 2|7 1024 0 -7 -1024 0|7|",
     );
 }
 
@@ -67,14 +68,18 @@ fn paths() {
 fn not_universal() {
     run_list(
         Kind::Row,
-        b"asked for 0|1 -2|1 2 0|0|\
-          asked for -2|1 -2|1 2 0|-2|\
-          asked for an existential|1 -2|1 2 0|1|\
-          asked for an unbound variable|1 -2|1 2 0|3|\
-          asked for 1,025|1 -2|1 2 0|1025|\
-          asked for the lowest number|1 -2|1 2 0|-2147483648|\
-          asked for the highest number|1 -2|1 2 0|2147483647|\
-          tables ahead of the variable|1 -2 2|1 2 0|1|",
+        b"asked for 0|1 1 1  2 2 2|1 2 0|0|\
+          asked for -2|1 1 1  2 2 2|1 2 0|-2|\
+          asked for an existential|1 1 1  2 2 2|1 2 0|1|\
+          asked for an unbound variable|1 1 1  2 2 2|1 2 0|3|\
+          asked for a block's number|1 2 1  2 1 2  4 2 3|1 2 0|3|\
+          asked for 1,025|1 1 1  2 2 2|1 2 0|1025|\
+          asked for the lowest number|1 1 1  2 2 2|1 2 0|-2147483648|\
+          asked for the highest number|1 1 1  2 2 2|1 2 0|2147483647|\
+          tables ahead of the variable|1 1 1  2 2 2  2 1 3|1 2 0|1|\
+          length ahead of the variable|1 1 1  2 2|1 0|1|\
+          quantifier ahead of the variable|1 1 1  2 3 2|1 2 0|1|\
+          block ahead of the variable|1 1 1  2 2 3|1 2 0|1|",
     );
 }
 
@@ -91,7 +96,7 @@ fn parted(
         if scratch_bytes <= scratch.len() {
             row(
                 name,
-                &[-1, 2],
+                &[1, 2, 1, 2, 1, 2],
                 &[1, 2, 0, -1, -2, 0],
                 variable,
                 &mut bytes[0..row_bytes],

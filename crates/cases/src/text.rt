@@ -57,7 +57,7 @@ fn parted(
 
 // A text read into tables of so many words.
 fn lent(name: &[u8], text: &[u8], prefix_words: usize, clause_words: usize) {
-    let mut prefix = [7i32; 4];
+    let mut prefix = [7i32; 12];
     let mut clauses = [7i32; 6];
     parted(
         name,
@@ -69,15 +69,19 @@ fn lent(name: &[u8], text: &[u8], prefix_words: usize, clause_words: usize) {
     );
 }
 
-// A text read into tables of four and six words.
-pub fn case(name: &[u8], text: &[u8]) {
-    lent(name, text, 4, 6);
+// A text read into tables of so many words and six.
+pub fn case(name: &[u8], text: &[u8], room: usize) {
+    lent(name, text, room, 6);
+}
+
+// Texts read with room for four variables, twelve words.
+fn texts(list: &[u8]) {
+    run_list(Kind::Text(12), list);
 }
 
 // The known positions of texts.
 fn known() {
-    run_list(
-        Kind::Text,
+    texts(
         b"comma in a clause|p cnf 2 1\ne 1 2 0\n1,2 0\n|\
           clause over two lines|p cnf 2 1\ne 1 2 0\n1\n2 0\n|\
           1,024 variables in the header|p cnf 1024 0\n|\
@@ -89,8 +93,7 @@ fn known() {
 
 // Headers that are not complete: 1.
 fn headless() {
-    run_list(
-        Kind::Text,
+    texts(
         b"blanks only| \t\r\n|\
           comments only|c one\nc two|\
           no p|1 2 0\n|\
@@ -104,8 +107,7 @@ fn headless() {
 
 // The numbers of the header: 1, 2.
 fn header_numbers() {
-    run_list(
-        Kind::Text,
+    texts(
         b"C with a leading zero|p cnf 1 01\n|\
           V with a letter|p cnf 1x 0\n|\
           NUL glued to C|p cnf 1 1\0\n|\
@@ -121,8 +123,7 @@ fn header_numbers() {
 
 // What parts tokens, and what closes nothing.
 fn blanks() {
-    run_list(
-        Kind::Text,
+    texts(
         b"header over lines|p\ncnf\n1\n0\n|\
           sets and clauses on the line of C|p cnf 1 1 e 1 0 1 0|\
           CRLF line ends|p cnf 1 1\r\ne 1 0\r\n1 0\r\n|\
@@ -134,8 +135,7 @@ fn blanks() {
 
 // Where comments stand, and where a `c` is a token.
 fn comments() {
-    run_list(
-        Kind::Text,
+    texts(
         b"comments before p|c\nc p cnf 9 9\ncnf\np cnf 0 0\n|\
           comment after empty lines|\n\nc x\np cnf 0 0\n|\
           comment holding a CR|c x\rp cnf 9 9\np cnf 0 0\n|\
@@ -149,8 +149,7 @@ fn comments() {
 
 // Sets: 4, 9.
 fn sets() {
-    run_list(
-        Kind::Text,
+    texts(
         b"neighbouring sets, universal last|p cnf 4 0\na 1 0\na 2 0\ne 3 0\na 4 0\n|\
           empty set|p cnf 1 1\ne 0\n0\n|\
           letter inside a set|p cnf 2 0\na 1 e 2 0\n|\
@@ -164,8 +163,7 @@ fn sets() {
 
 // The numbers of a set: 4, 5, 6.
 fn set_numbers() {
-    run_list(
-        Kind::Text,
+    texts(
         b"negative in a set|p cnf 2 0\na 1 -2 0\n|\
           negative above V in a set|p cnf 2 0\na -9 0\n|\
           minus zero in a set|p cnf 2 0\na -0 0\n|\
@@ -178,10 +176,23 @@ fn set_numbers() {
     );
 }
 
+// Blocks: sets of one letter that stand together share one, and so do free variables and an `e` set that comes first; before an `a` set
+// they have block 1 for themselves.
+fn blocks() {
+    texts(
+        b"four blocks|p cnf 4 0\ne 4 0\na 3 0\ne 2 0\na 1 0\n|\
+          a set first|p cnf 3 0\na 3 1 0\ne 2 0\n|\
+          neighbouring e sets|p cnf 3 0\ne 2 0\ne 1 0\na 3 0\n|\
+          neighbouring sets of both letters|p cnf 4 0\na 4 0\na 3 0\ne 2 0\ne 1 0\n|\
+          free before two e sets|p cnf 4 1\ne 3 0\ne 2 0\na 4 0\n1 0\n|\
+          free before two a sets|p cnf 4 1\na 2 0\na 3 0\ne 1 0\n4 0\n|\
+          two free before an a set|p cnf 4 1\na 3 0\ne 2 0\n4 -1 0\n|",
+    );
+}
+
 // Literals: 5.
 fn literals() {
-    run_list(
-        Kind::Text,
+    texts(
         b"literal above V|p cnf 1 1\ne 1 0\n2 0\n|\
           negative literal above V|p cnf 1 1\ne 1 0\n1 -2 0\n|\
           literal of 30 digits|p cnf 1 1\ne 1 0\n-100000000000000000000000000001 0\n|\
@@ -192,8 +203,7 @@ fn literals() {
 
 // Tokens of clauses that are no literals: 4.
 fn literal_tokens() {
-    run_list(
-        Kind::Text,
+    texts(
         b"minus zero for 0|p cnf 1 1\ne 1 0\n1 -0\n|\
           two zeros in one token|p cnf 1 1\ne 1 0\n1 00\n|\
           literal with a leading zero|p cnf 1 1\ne 1 0\n01 0\n|\
@@ -205,8 +215,7 @@ fn literal_tokens() {
 
 // Literals repeated and opposed: 8; clauses that are read.
 fn clauses() {
-    run_list(
-        Kind::Text,
+    texts(
         b"literal repeated|p cnf 2 1\ne 1 2 0\n1 2 1 0\n|\
           literal opposed|p cnf 2 1\ne 1 2 0\n1 2 -1 0\n|\
           two oppositions|p cnf 2 1\ne 1 2 0\n1 2 -2 -1 0\n|\
@@ -219,8 +228,7 @@ fn clauses() {
 // Variables that no set binds: added in front, rising; refused where their clause holds them already (8), above V (5), and last of all
 // where the completed prefix has no room (3 at the end, after 9 and 10).
 fn free() {
-    run_list(
-        Kind::Text,
+    texts(
         b"free, no sets|p cnf 3 2\n3 -1 0\n1 0\n|\
           free before an e set|p cnf 3 1\ne 2 0\n3 -2 1 0\n|\
           free before an a set|p cnf 3 1\na 2 0\n-3 2 1 0\n|\
@@ -241,8 +249,7 @@ fn free() {
 
 // Texts that end too soon: 1, 9, 10.
 fn ends() {
-    run_list(
-        Kind::Text,
+    texts(
         b"clause not closed|p cnf 1 1\ne 1 0\n1\n|\
           clause not closed, one missing|p cnf 1 2\ne 1 0\n1|\
           fewer clauses than C|p cnf 1 2\ne 1 0\n1 0\n|\
@@ -258,8 +265,7 @@ fn ends() {
 
 // Tables too short: 3.
 fn room() {
-    run_list(
-        Kind::Text,
+    texts(
         b"fifth variable without room|p cnf 5 0\ne 1 2 3 4 5 0\n|\
           above V ahead of no room|p cnf 4 0\ne 1 2 3 4 5 0\n|\
           bound twice ahead of no room|p cnf 5 0\ne 1 2 3 4 1 0\n|\
@@ -270,11 +276,68 @@ fn room() {
     );
 }
 
+// A record has room where three words are left: 3 at its token where one or two are, behind 5 and 6.
+fn record_room() {
+    run_list(Kind::Text(1), b"variable in 1 word|p cnf 1 0\ne 1 0\n|");
+    run_list(Kind::Text(2), b"variable in 2 words|p cnf 1 0\ne 1 0\n|");
+    run_list(Kind::Text(3), b"variable in 3 words|p cnf 1 0\ne 1 0\n|");
+    run_list(
+        Kind::Text(4),
+        b"two variables in 4 words|p cnf 2 0\na 2 1 0\n|",
+    );
+    run_list(
+        Kind::Text(5),
+        b"two variables in 5 words|p cnf 2 0\na 2 1 0\n|\
+          above V in 5 words|p cnf 2 0\na 2 3 0\n|\
+          bound twice in 5 words|p cnf 2 0\na 2 2 0\n|",
+    );
+    run_list(
+        Kind::Text(6),
+        b"two variables in 6 words|p cnf 2 0\na 2 1 0\n|",
+    );
+    run_list(
+        Kind::Text(8),
+        b"two variables in 8 words|p cnf 2 0\na 2 1 0\n|\
+          three variables in 8 words|p cnf 3 0\na 3 0\ne 1 2 0\n|",
+    );
+}
+
+// The records of free variables: 3 at the text's end, behind a listed one's at its token and behind 9.
+fn free_room() {
+    run_list(Kind::Text(1), b"free in 1 word|p cnf 1 1\n-1 0\n|");
+    run_list(
+        Kind::Text(2),
+        b"free in 2 words|p cnf 1 1\n-1 0\n|\
+          free and listed in 2 words|p cnf 2 1\ne 2 0\n1 0\n|",
+    );
+    run_list(
+        Kind::Text(3),
+        b"free in 3 words|p cnf 1 1\n-1 0\n|\
+          free and listed in 3 words|p cnf 2 1\ne 2 0\n1 0\n|",
+    );
+    run_list(
+        Kind::Text(5),
+        b"free and listed in 5 words|p cnf 2 1\ne 2 0\n1 0\n|\
+          free and listed in 5 words, clause not closed|p cnf 2 1\ne 2 0\n1|",
+    );
+    run_list(
+        Kind::Text(6),
+        b"free and listed in 6 words|p cnf 2 1\ne 2 0\n1 0\n|",
+    );
+    run_list(
+        Kind::Text(7),
+        b"two free and one listed in 7 words|p cnf 3 1\na 2 0\n3 1 0\n|",
+    );
+    run_list(
+        Kind::Text(9),
+        b"two free and one listed in 9 words|p cnf 3 1\na 2 0\n3 1 0\n|",
+    );
+}
+
 // Each refusal of a text on a later line, with a tab, a CR LF, a comment line and bytes over 127 before it: lines and columns count
 // bytes, and only LF ends a line.
 fn later_lines() {
-    run_list(
-        Kind::Text,
+    texts(
         b"later, headless|c \xc3\xa4\r\n\r\n\tp cnf 1\tx\r\n|\
           later, headless at the end|c \xc3\xa4\tx\r\np\tcnf\r\n1\r\n|\
           later, oversized|c \xc3\xa4\r\np cnf\r\n\t1025 1\n|\
@@ -295,8 +358,8 @@ fn later_lines() {
 fn tables() {
     let text = b"p cnf 1 1\ne 1 0\n1 0\n";
     lent(b"no prefix table", text, 0, 2);
-    lent(b"no clause table", text, 1, 0);
-    lent(b"one word and two words", text, 1, 2);
+    lent(b"no clause table", text, 3, 0);
+    lent(b"three words and two words", text, 3, 2);
     lent(
         b"no prefix table, a free variable",
         b"p cnf 1 1\n1 0\n",
@@ -307,12 +370,12 @@ fn tables() {
 
 // Both tables whole after a refusal.
 fn refused_tables() {
-    let mut one = [7i32; 1];
+    let mut three = [7i32; 3];
     let mut two = [7i32; 2];
-    show::name(b"text", b"one word and two words refused");
-    reading(b"p cnf 1 1\ne 1 0\n1 1 0\n", &mut one, &mut two);
+    show::name(b"text", b"three words and two words refused");
+    reading(b"p cnf 1 1\ne 1 0\n1 1 0\n", &mut three, &mut two);
     show::say(b"text, the tables then:");
-    show::words(&one);
+    show::words(&three);
     show::words(&two);
     show::say(b"\n");
 }
@@ -333,7 +396,7 @@ pub fn first_bytes(text: &[u8], n: usize) -> &[u8] {
 
 // The first `n` bytes of a text, read.
 fn cut(text: &[u8], n: usize) {
-    let mut prefix = [7i32; 2];
+    let mut prefix = [7i32; 4];
     let mut clauses = [7i32; 3];
     show::say(b"text cut at ");
     show::number(n);
@@ -360,12 +423,15 @@ pub fn run() {
     comments();
     sets();
     set_numbers();
+    blocks();
     literals();
     literal_tokens();
     clauses();
     free();
     ends();
     room();
+    record_room();
+    free_room();
     later_lines();
     tables();
     refused_tables();

@@ -12,7 +12,7 @@ use formula::write::write_formula;
 
 // The used part of a text, and what reading it gives.
 fn read_back(text: &[u8], used: usize) {
-    let mut prefix = [7i32; 5];
+    let mut prefix = [7i32; 13];
     let mut clauses = [7i32; 13];
     let part = text::first_bytes(text, used);
     show::say(part);
@@ -58,7 +58,7 @@ pub fn case(name: &[u8], prefix: &[i32], clauses: &[i32]) {
 
 // A text read, and its tables written: what is written speaks of the completed prefix.
 fn rewritten(name: &[u8], text: &[u8]) {
-    let mut prefix = [7i32; 4];
+    let mut prefix = [7i32; 12];
     let mut clauses = [7i32; 6];
     match read_formula(text, &mut prefix, &mut clauses) {
         ReadAnswer::Read {
@@ -74,17 +74,25 @@ fn rewritten(name: &[u8], text: &[u8]) {
     }
 }
 
-// Free variables share the run of an `e` set that comes first, and stand in one of their own before an `a` set.
-fn free() {
+// Free variables share the run of an `e` set that comes first, and stand in one of their own before an `a` set; a block is one line.
+fn runs() {
     rewritten(b"free before an e set", b"p cnf 3 1\ne 2 0\n3 -2 1 0\n");
     rewritten(b"free before an a set", b"p cnf 3 1\na 2 0\n-3 2 1 0\n");
+    rewritten(
+        b"neighbouring sets",
+        b"p cnf 4 0\na 4 0\na 3 0\ne 2 0\ne 1 0\n",
+    );
+    rewritten(
+        b"free before neighbouring sets",
+        b"p cnf 4 1\ne 4 0\ne 2 0\na 3 0\n-1 0\n",
+    );
 }
 
 // The example into so many bytes.
 fn example(name: &[u8], bytes: usize) {
     lent(
         name,
-        &[1, -2, 3, 4],
+        &[1, 1, 1, 2, 2, 2, 3, 1, 3, 4, 1, 3],
         &[2, 3, 0, -2, 4, 0, -4, 1, 0, -1, -3, 0],
         bytes,
     );
@@ -96,9 +104,13 @@ fn formulas() {
         Kind::Written,
         b"nothing at all|||\
           the word 0 alone||0|\
-          the example|1 -2 3 4|2 3 0 -2 4 0 -4 1 0 -1 -3 0|\
-          largest variable first|-17 -3|3 -17 0 0|\
-          tables refused|1|2 0|",
+          the example|1 1 1  2 2 2  3 1 3  4 1 3|2 3 0 -2 4 0 -4 1 0 -1 -3 0|\
+          largest variable first|17 2 1  3 2 1|3 -17 0 0|\
+          three blocks|4 2 1  3 1 2  1 1 2  2 2 3||\
+          tables refused|1 1 1|2 0|\
+          length refused|1 1 1  2|1 0|\
+          quantifier refused|1 0 1|1 0|\
+          block refused|1 1 1  2 1 2|1 0|",
     );
 }
 
@@ -107,7 +119,7 @@ fn room() {
     example(b"the example in 58 bytes", 58);
     example(b"the example in 57 bytes", 57);
     lent(b"nothing at all in no bytes", &[], &[], 0);
-    lent(b"tables refused ahead of room", &[1], &[2, 0], 0);
+    lent(b"tables refused ahead of room", &[1, 1, 1], &[2, 0], 0);
 }
 
 // Are the two tables the same, word by word?
@@ -128,7 +140,7 @@ fn same_words(a: &[i32], b: &[i32]) -> bool {
 
 // The used part read back, for a prefix alone: whether the same words come back.
 fn same_prefix(prefix: &[i32], text: &[u8], used: usize) {
-    let mut again = [7i32; 1024];
+    let mut again = [7i32; 3072];
     let mut none = [7i32; 0];
     match read_formula(text::first_bytes(text, used), &mut again, &mut none) {
         ReadAnswer::Read {
@@ -146,12 +158,12 @@ fn same_prefix(prefix: &[i32], text: &[u8], used: usize) {
     }
 }
 
-// The longest prefix, written and read back.
-fn longest_prefix() {
-    let mut prefix = [0i32; 1024];
-    let mut text = [7u8; 5000];
-    tables::number_words(&mut prefix);
-    show::name(b"written", b"1,024 variables");
+// The longest prefix, in one block or in 1,024, written and read back.
+fn longest_prefix(name: &[u8], in_turn: bool) {
+    let mut prefix = [0i32; 3072];
+    let mut text = [7u8; 9000];
+    tables::number_words(&mut prefix, in_turn);
+    show::name(b"written", name);
     match write_formula(&prefix, &[], &mut text) {
         WriteAnswer::Written(used) => {
             show::number(used);
@@ -166,7 +178,8 @@ fn longest_prefix() {
 // All of them.
 pub fn run() {
     formulas();
-    free();
+    runs();
     room();
-    longest_prefix();
+    longest_prefix(b"1,024 variables", false);
+    longest_prefix(b"1,024 variables, 1,024 blocks", true);
 }

@@ -7,20 +7,16 @@ use mathlib.Core.List.{List, [], _∷_}
 use lib.ListN.{getD, set, replicate}
 use lib.Dec.{eqb}
 use lib.IntN.{ℤ}
-use Rattle.qbf.specs.Formula.{Quantifier, existential, universal, Entry, Prefix}
+use Rattle.qbf.specs.Formula.{Entry, Prefix}
 use Rattle.formula.specs.Bounds.{variableFit}
-use Rattle.formula.specs.Prefix.{prefixOf}
+use Rattle.formula.specs.Prefix.{prefixOf, quantifierNumber}
 use Rattle.formula.specs.declared.word.Word.{Word}
 use Rattle.formula.specs.declared.word.Word.the-variants.{Zero, TooLarge, Positive, Negative}
 use Rattle.formula.specs.declared.literal.VariableFit.{VariableFit}
 use Rattle.formula.specs.declared.literal.VariableFit.the-variants.{Outside}
 
-abbrev pub kindByte : Quantifier → ℕ
-kindByte existential = 1
-kindByte universal = 2
-
 abbrev pub kindEntry : List ℕ → Entry → List ℕ
-kindEntry kinds x = set kinds (x .variable) (kindByte (x .quantifier))
+kindEntry kinds x = set kinds (x .variable) (quantifierNumber (x .quantifier))
 
 unfoldable pub kindsFrom : List ℕ → Prefix → List ℕ
 kindsFrom kinds [] = kinds

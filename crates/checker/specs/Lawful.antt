@@ -5,15 +5,17 @@
 pub mod Laws
 pub mod Judged
 pub mod Steps
-use Prim.Native.Nat.{ℕ, suc}
+use Prim.Native.Nat.{ℕ, suc, _+_, _*_, _<_}
 use mathlib.Core.Path.{_≡_}
 use mathlib.Core.Logic.{_⊎_, _≢_}
 use mathlib.Core.List.{List, [], _∷_, _++_, map, List·Memᴰ}
 use mathlib.Core.Option.{some}
-use lib.ListN.{length, getElem?}
+use lib.ListN.{length, getD, getElem?}
 use lib.IntN.{ℤ, pos, negℤ, natAbs}
 use Rattle.qbf.specs.Formula.{Formula, Existential, Universal}
 use Rattle.qbf.specs.Dependency.{Depends}
+use Rattle.formula.specs.Prefix.{withBlocks, entryCount}
+use Rattle.formula.specs.declared.refusal.Blocker.{Blocker}
 use Rattle.checker.specs.Words.{Words, AllWords}
 use Rattle.checker.specs.Steps.{Step, resolution, reduction, statedBy}
 
@@ -68,8 +70,9 @@ abbrev pub Lawful : Formula → List Words → Step → Type 0
 Lawful F known (resolution i j e L) = LawfulResolution F known i j e L
 Lawful F known (reduction i a L) = LawfulReduction F known i a L
 
--- Where a reduction is blocked: a is a universal literal of the clause, and an existential of the clause depends on its variable.
-pub record Blocks (F : Formula) (known : List Words) (i a : ℤ) : Type 0 where
+-- Where a reduction is blocked: a is a universal literal of the clause, and an existential of the clause depends on its variable. What blocks
+-- (02, P6) is such an existential with the block of its entry, and none of the clause's dependents stands left of it in the prefix.
+pub record Blocks (F : Formula) (known : List Words) (i a : ℤ) (b : Blocker) : Type 0 where
   pub clause : Words
   pub numbered : Numbered known i clause
   pub universal : Universal (F .prefix) (natAbs a)
@@ -78,10 +81,15 @@ pub record Blocks (F : Formula) (known : List Words) (i a : ℤ) : Type 0 where
   pub in-clause : List·Memᴰ literal clause
   pub existential : Existential (F .prefix) (natAbs literal)
   pub depends : Depends F (natAbs a) (natAbs literal)
+  pub named : natAbs literal ≡ b .variable .0
+  pub left : List Blocker
+  pub right : List Blocker
+  pub stands : withBlocks (F .prefix) ≡ left ++ (b ∷ right)
+  pub leftmost : (c : Blocker) → List·Memᴰ c left → (x : ℤ) → List·Memᴰ x clause → natAbs x ≡ c .variable .0 → Depends F (natAbs a) (natAbs x) → ⊥
 
-abbrev pub BlockedStep : Formula → List Words → Step → Type 0
-BlockedStep F known (resolution i j e L) = ⊥
-BlockedStep F known (reduction i a L) = Blocks F known i a
+abbrev pub BlockedStep : Formula → List Words → Step → Blocker → Type 0
+BlockedStep F known (resolution i j e L) b = ⊥
+BlockedStep F known (reduction i a L) b = Blocks F known i a b
 
 -- The words of a step.
 abbrev pub wordsOf : Step → Words
@@ -102,15 +110,23 @@ abbrev pub LawfulSteps : Formula → List Words → List Step → Type 0
 LawfulSteps F known [] = Unit {0}
 LawfulSteps F known (s ∷ steps) = Lawful F known s × LawfulSteps F (known ++ (statedBy s ∷ [])) steps
 
--- After lawful steps stands a blocked one; `place` is the number its clause would have.
-pub record RunBlocked (F : Formula) (known : List Words) (ws : Words) (place : ℕ) : Type 0 where
+-- After lawful steps stands a blocked one; `place` is the number its clause would have, b what blocks.
+pub record RunBlocked (F : Formula) (known : List Words) (ws : Words) (place : ℕ) (b : Blocker) : Type 0 where
   pub steps : List Step
   pub lawful : LawfulSteps F known steps
   pub blocked : Step
   pub rest : Words
   pub stands : ws ≡ stepWords steps ++ (wordsOf blocked ++ rest)
-  pub blocks : BlockedStep F (numberedClauses known steps) blocked
+  pub blocks : BlockedStep F (numberedClauses known steps) blocked b
   pub own-number : place ≡ suc (length (numberedClauses known steps))
+
+-- What blocks, in the words of the prefix: an entry's variable, 1 for existential, and its block.
+pub record BlockerEntry (prefix : List ℤ) (b : Blocker) : Type 0 where
+  pub place : ℕ
+  pub within : place < entryCount prefix
+  pub variable-word : getD prefix (3 * place) (pos 0) ≡ pos (b .variable .0)
+  pub quantifier-word : getD prefix (3 * place + 1) (pos 0) ≡ pos 1
+  pub block-word : getD prefix (3 * place + 2) (pos 0) ≡ pos (b .block)
 
 -- No clause holds the word 0.
 abbrev pub NoZeros : List Words → Type 0

@@ -18,7 +18,7 @@ use Rattle.checker.specs.declared.result.Judgement.{Judgement}
 use Rattle.checker.specs.declared.step.StepAnswer.{StepAnswer}
 use Rattle.checker.specs.declared.step.StepAnswer.the-variants.{Right as RightStep, Wrong as WrongStep}
 use Rattle.checker.specs.Words.{Words, holds}
-use Rattle.checker.specs.Steps.{Scope, sizeOf, resolvent, blocked, demand, Judged, right, wrong}
+use Rattle.checker.specs.Steps.{Scope, sizeOf, resolvent, blocked, blockerOf, demand, Judged, right, wrong}
 use Rattle.checker.specs.Marks.{clean}
 use Rattle.checker.specs.Kinds.{kindsOf, existentialOf, universalOf}
 use Rattle.checker.specs.Result.{judgementOf, resultReason, statementReason}
@@ -55,7 +55,7 @@ resolutionReason kinds e L (some C) (some D) = resolvingReason (existentialOf ki
 
 -- No variable of the clause depends on u, then the result.
 abbrev pub freeReason : Scope → ℕ → ℤ → Words → Words → Option Reason
-freeReason S u a C L = demand (not (blocked S u C)) Blocked (statementReason a C L)
+freeReason S u a C L = demand (not (blocked S u C)) (Blocked (blockerOf S u C)) (statementReason a C L)
 
 abbrev pub reducingReason : Scope → VariableFit → ℤ → Words → Words → Option Reason
 reducingReason S Outside a C L = some WrongPivot

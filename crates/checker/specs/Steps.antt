@@ -1,17 +1,19 @@
 -- Steps (01, "Steps", and the order of refusals "For steps"): what the words of a step say, what is wrong with a step after
--- given numbered clauses, and the run down the words. What steps know of the formula is the three tests of a Scope; the kinds
+-- given numbered clauses, and the run down the words. What steps know of the formula is a Scope; the kinds
 -- of step there are, and whether one may follow an empty clause, are the rules'.
 pub mod Tests
 pub mod Written
 pub mod Run
 use Prim.Native.Nat.{ℕ, zero, suc, _+_}
-use mathlib.Core.Bool.{Bool, true, false, not, _&&_, _||_}
+use mathlib.Core.Bool.{Bool, true, false, not, cond, _&&_, _||_}
 use mathlib.Core.Option.{Option, none, some}
 use mathlib.Core.List.{List, [], _∷_, _++_}
 use lib.ListN.{length, getElem?}
 use lib.Dec.{ltb}
 use lib.IntN.{ℤ, pos, negsuc, negℤ, natAbs}
-use Rattle.formula.specs.Refusal.{refusal, require}
+use Rattle.formula.specs.Refusal.{refusal, require, noBlocker}
+use Rattle.formula.specs.Free.{occurs}
+use Rattle.formula.specs.declared.refusal.Blocker.{Blocker}
 use Rattle.formula.specs.declared.refusal.Reason.{Reason}
 use Rattle.formula.specs.declared.refusal.Refusal.{Refusal}
 use Rattle.formula.specs.declared.refusal.Reason.the-variants.{NoRoom, BrokenStep, NotEarlier, WrongPivot, Tautology, Blocked, Misstated}
@@ -19,11 +21,13 @@ use Rattle.formula.specs.Decode.{firstClause}
 use Rattle.checker.specs.Rules.{Rules}
 use Rattle.checker.specs.Words.{Words, holds, without, closes}
 
--- The variables that are existential and universal, and which existential depends on which universal: dependent u e.
+-- The variables that are existential and universal; which existential depends on which universal: dependent u e; each variable of the
+-- prefix with its block, from the left.
 pub record Scope : Type 0 where
   pub existential : ℕ → Bool
   pub universal : ℕ → Bool
   pub dependent : ℕ → ℕ → Bool
+  pub blocks : List Blocker
 
 -- `1 i j e L.. 0` and `2 i a L.. 0`.
 pub data Step : Type 0 where
@@ -112,6 +116,15 @@ unfoldable pub blocked : Scope → ℕ → Words → Bool
 blocked S u [] = false
 blocked S u (x ∷ C) = S .dependent u (natAbs x) || blocked S u C
 
+-- The first whose variable passes a test.
+unfoldable pub leftmost : (ℕ → Bool) → List Blocker → Blocker
+leftmost test [] = noBlocker
+leftmost test (b ∷ bs) = cond (test (b .variable .0)) b (leftmost test bs)
+
+-- What blocks a clause (02, P6): of its variables that depend on u the one leftmost in the prefix, with its block.
+unfoldable pub blockerOf : Scope → ℕ → Words → Blocker
+blockerOf S u C = leftmost (λ v. S .dependent u v && occurs v C) (S .blocks)
+
 -- The reason if the test fails, what comes later if it holds.
 abbrev pub demand : Bool → Reason → Option Reason → Option Reason
 demand b r later = require b (some r) later
@@ -130,7 +143,9 @@ judgeResolution S e L (some C) (some D) =
 unfoldable pub judgeReduction : Scope → ℤ → Words → Option Words → Option Reason
 judgeReduction S a L none = some NotEarlier
 judgeReduction S a L (some C) =
-    demand (S .universal (natAbs a) && holds a C) WrongPivot (demand (not (blocked S (natAbs a) C)) Blocked (judgeStatement (without a C) L))
+    demand (S .universal (natAbs a) && holds a C)
+    WrongPivot
+    (demand (not (blocked S (natAbs a) C)) (Blocked (blockerOf S (natAbs a) C)) (judgeStatement (without a C) L))
 
 -- What is wrong with a step after the numbered clauses: nothing, or the first reason in 01's order.
 abbrev pub judge : Scope → List Words → Step → Option Reason

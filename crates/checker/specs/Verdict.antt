@@ -2,7 +2,6 @@
 -- clause offsets, the steps, 19. `verdictOf plainRules` is what `check_proof` answers, Checked what it promises.
 pub mod Examples
 pub mod TableScope
-pub mod Early
 pub mod Accuracy
 pub mod Exact
 pub mod Parts
@@ -14,8 +13,8 @@ use lib.ListN.{length, replicate}
 use lib.Dec.{leb}
 use lib.IntN.{ℤ}
 use Rattle.qbf.specs.Dependency.{depends}
-use Rattle.qbf.specs.Formula.{existential, universal}
-use Rattle.formula.specs.Prefix.{prefixOf, quantifies}
+use Rattle.qbf.specs.Formula.{Formula, existential, universal}
+use Rattle.formula.specs.Prefix.{quantifies, withBlocks}
 use Rattle.formula.specs.Bounds.{proofBound}
 use Rattle.formula.specs.Decode.{formulaOf, clausesOf}
 use Rattle.formula.specs.Tables.{zeros, tablesRefusal}
@@ -30,14 +29,18 @@ use Rattle.checker.specs.Rules.{Rules, plainRules}
 use Rattle.checker.specs.Words.{Words}
 use Rattle.checker.specs.Steps.{Scope, Outcome, ended, refused, run}
 
--- The tests on the tables: by the entries of the prefix; dependencies come from the input formula.
-abbrev pub scopeOf : List ℤ → List ℤ → Scope
-scopeOf prefix clauses =
+-- What steps know of a formula: the entries of its prefix, and dependencies, which come from the input formula.
+abbrev pub scopeIn : Formula → Scope
+scopeIn F =
     record {
-      existential = quantifies existential (prefixOf prefix);
-      universal = quantifies universal (prefixOf prefix);
-      dependent = depends (formulaOf prefix clauses);
+      existential = quantifies existential (F .prefix);
+      universal = quantifies universal (F .prefix);
+      dependent = depends F;
+      blocks = withBlocks (F .prefix);
     }
+
+abbrev pub scopeOf : List ℤ → List ℤ → Scope
+scopeOf prefix clauses = scopeIn (formulaOf prefix clauses)
 
 -- The number of the first empty clause, `n` being the number of the first one here.
 unfoldable pub firstEmpty : ℕ → List Words → Option ℕ
@@ -57,16 +60,19 @@ conclude inputs (refused r) = Refused r
 abbrev pub ifAdmitted : Option Refusal → Verdict → Verdict
 ifAdmitted r later = unless Refused r later
 
--- After the tables; `scratch` and `room` are the lengths of the scratch and of the clause offsets.
-unfoldable pub sizedVerdict : Rules → List ℤ → List ℤ → List ℤ → ℕ → ℕ → Verdict
-sizedVerdict rules prefix clauses steps scratch room =
+-- After the tables, by what steps know; `scratch` and `room` are the lengths of the scratch and of the clause offsets.
+abbrev pub scopeVerdict : Rules → Scope → List ℤ → List ℤ → ℕ → ℕ → Verdict
+scopeVerdict rules S clauses steps scratch room =
     require (leb (length steps) proofBound)
     (Refused (refusal Oversized 0))
     (require (leb (rules .scratch) scratch)
     (Refused (refusal NoRoom 0))
     (require (leb (zeros clauses) room)
     (Refused (refusal NoRoom (suc room)))
-    (conclude (zeros clauses) (run rules (scopeOf prefix clauses) room (clausesOf clauses) zero steps))))
+    (conclude (zeros clauses) (run rules S room (clausesOf clauses) zero steps))))
+
+unfoldable pub sizedVerdict : Rules → List ℤ → List ℤ → List ℤ → ℕ → ℕ → Verdict
+sizedVerdict rules prefix clauses steps scratch room = scopeVerdict rules (scopeOf prefix clauses) clauses steps scratch room
 
 unfoldable pub verdictOf : Rules → List ℤ → List ℤ → List ℤ → ℕ → ℕ → Verdict
 verdictOf rules prefix clauses steps scratch room = ifAdmitted (tablesRefusal prefix clauses) (sizedVerdict rules prefix clauses steps scratch room)

@@ -1,4 +1,5 @@
 // Kind 2: a reduction. Each check costs the row of its variable, and one pass over the clause and the statement.
+use crate::blocked::find_blocker;
 use crate::blocked::row_touches;
 use crate::clause::has_word;
 use crate::kinds::UNIVERSAL;
@@ -35,7 +36,7 @@ ghost use Rattle.checker.specs.Numbered.{stored};
 ghost use Rattle.checker.specs.Kinds.{universalOf};
 ghost use Rattle.checker.specs.Step.{Clean, Ready, freeReason, reducingReason, reductionReason, Answers, kindsIn};
 
-// No variable of the clause depends on the reduced one, by its row; then the result is judged.
+// No variable of the clause depends on the reduced one, by its row, and else which one blocks; then the result is judged.
 fn reduce_on(
     prefix: &[i32],
     clauses: &[i32],
@@ -52,7 +53,8 @@ fn reduce_on(
 {
     make_row(prefix, clauses, variable, scratch);
     if row_touches(words, from, scratch) {
-        return Judgement::Wrong(Reason::Blocked);
+        let blocker = find_blocker(prefix, words, from, scratch);
+        return Judgement::Wrong(Reason::Blocked(blocker));
     }
     judge_reduct(
         words,

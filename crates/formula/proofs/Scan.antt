@@ -20,11 +20,10 @@ use Rattle.formula.specs.Bounds.{variableBound, inRange}
 use Rattle.formula.specs.Word.{wordOf}
 use Rattle.formula.specs.Refusal.{refusal}
 use Rattle.formula.specs.Prefix.{entryCount}
-use Rattle.formula.specs.Prefix.Laws.{prefix-variables}
 use Rattle.formula.specs.Decode.Laws.{magnitude-same, magnitude-negated}
-use Rattle.formula.specs.Tables.{isIn, zeros, prefixWord, prefixRefusal, literalWord, clauseWord, clausesEnd, clausesRefusal, listedIn, sized, firstRefusal, tablesRefusal, answerTables, tablesAnswer}
-use Rattle.formula.specs.Tables.Laws.{zeros-cons, prefix-word-zero, prefix-word-large, prefix-word-variable, clause-word-zero, clause-word-large, clause-word-literal}
-use Rattle.formula.specs.Tables.Scan.{marked, Marks, variablesBefore, further, plainRun, clashFree, ClauseStep, checkOf, wordsRefusal}
+use Rattle.formula.specs.Tables.{isIn, zeros, literalWord, clauseWord, clausesEnd, clausesRefusal, sized, firstRefusal, wordsRefusal, tablesRefusal, answerTables, tablesAnswer}
+use Rattle.formula.specs.Tables.Laws.{zeros-cons, clause-word-zero, clause-word-large, clause-word-literal}
+use Rattle.formula.specs.Tables.Scan.{marked, Marks, variablesBefore, further, plainRun, clashFree, ClauseStep, checkOf}
 use Rattle.formula.specs.declared.refusal.Refusal.{Refusal}
 use Rattle.formula.specs.declared.tables.TablesAnswer.the-variants.{Admitted as TablesAdmitted, Refused as TablesRefused}
 use Rattle.formula.specs.declared.tables.Check.the-variants.{Passed, Refused}
@@ -40,33 +39,6 @@ module _ (ws : List ℤ) (i : ℕ) (h : i < length ws) where
   pub zeros-at-literal : (getD ws i (pos 0) ≡ pos 0 → ⊥) → zeros (drop i ws) ≡ zeros (drop (suc i) ws)
   zeros-at-literal n = rw (drop-cons ws i (pos 0) h) (zeros-cons (getD ws i (pos 0)) (drop (suc i) ws) n)
 
--- Prefix words, by the word at a place.
-module _ (ws : List ℤ) (i : ℕ) (h : i < length ws) (seen : List ℕ) where
-  prefix-at : prefixRefusal i seen (drop i ws) ≡ prefixWord i seen (wordOf (getD ws i (pos 0))) (λ v. prefixRefusal (i + 1) (v ∷ seen) (drop (suc i) ws))
-  unfolding prefixRefusal
-  prefix-at = rw (drop-cons ws i (pos 0) h)
-
-  pub prefix-at-zero : getD ws i (pos 0) ≡ pos 0 → prefixRefusal i seen (drop i ws) ≡ some (refusal OutOfRange i)
-  prefix-at-zero e = prefix-at ∙ prefix-word-zero i seen (λ v. prefixRefusal (i + 1) (v ∷ seen) (drop (suc i) ws)) (getD ws i (pos 0)) e
-
-  pub prefix-at-large : variableBound < natAbs (getD ws i (pos 0)) → prefixRefusal i seen (drop i ws) ≡ some (refusal OutOfRange i)
-  prefix-at-large l = prefix-at ∙ prefix-word-large i seen (λ v. prefixRefusal (i + 1) (v ∷ seen) (drop (suc i) ws)) (getD ws i (pos 0)) l
-
-  module _ (l : 1 ≤ natAbs (getD ws i (pos 0))) (u : natAbs (getD ws i (pos 0)) ≤ variableBound) where
-    pub prefix-at-twice : isIn (natAbs (getD ws i (pos 0))) seen ≡ true → prefixRefusal i seen (drop i ws) ≡ some (refusal BoundTwice i)
-    prefix-at-twice e =
-        prefix-at
-        ∙ prefix-word-variable i seen (λ v. prefixRefusal (i + 1) (v ∷ seen) (drop (suc i) ws)) (getD ws i (pos 0)) l u
-        ∙ rw e
-
-    pub prefix-at-fresh :
-        isIn (natAbs (getD ws i (pos 0))) seen ≡ false
-        → prefixRefusal i seen (drop i ws) ≡ prefixRefusal (i + 1) (natAbs (getD ws i (pos 0)) ∷ seen) (drop (suc i) ws)
-    prefix-at-fresh e =
-        prefix-at
-        ∙ prefix-word-variable i seen (λ v. prefixRefusal (i + 1) (v ∷ seen) (drop (suc i) ws)) (getD ws i (pos 0)) l u
-        ∙ rw e
-
 -- Marks: one more variable; none at first.
 pub marks-add : (marks seen : List ℕ) (v : ℕ) → v < length marks → Marks marks seen → Marks (set marks v 1) (v ∷ seen)
 unfolding marked isIn
@@ -75,37 +47,6 @@ marks-add marks seen v h m = record { says = λ u. at u (ℕ-discrete u v) }
     at : (u : ℕ) → Dec (u ≡ v) → eqb (getD (set marks v 1) u 0) 1 ≡ (eqb u v || isIn u seen)
     at u (yes e) = rw (e, getD-set-same marks v 1 0 h, eq-eqb v v refl)
     at u (no n) = rw (getD-set-other marks v u 1 0 n, ne-eqb u v n) (m .says u)
-
--- The variables of the first words, as a list of either order.
-is-in-snoc : (v x : ℕ) (xs : List ℕ) → isIn v (xs ++ (x ∷ [])) ≡ (eqb v x || isIn v xs)
-unfolding isIn
-is-in-snoc v x [] = refl
-is-in-snoc v x (y ∷ ys) = rw (is-in-snoc v x ys) (swap (eqb v y) (eqb v x) (isIn v ys))
-  where
-    swap : (a b d : Bool) → (a || (b || d)) ≡ (b || (a || d))
-    swap true true d = refl
-    swap true false d = refl
-    swap false true d = refl
-    swap false false d = refl
-
-variables-before-take : (v : ℕ) (ws : List ℤ) (n : ℕ) → n ≤ length ws → isIn v (variablesBefore ws n) ≡ isIn v (map natAbs (take n ws))
-unfolding variablesBefore isIn
-variables-before-take v ws zero h = refl
-variables-before-take v ws (suc n) h =
-    let l : n < length ws = omega arith in
-    let e : map natAbs (take (suc n) ws) ≡ map natAbs (take n ws) ++ (natAbs (getD ws n (pos 0)) ∷ []) =
-    ap (map natAbs) (take-suc ws n (pos 0) l) ∙ map-append natAbs (take n ws) (getD ws n (pos 0) ∷ []) in
-    rw (e, is-in-snoc v (natAbs (getD ws n (pos 0))) (map natAbs (take n ws)), variables-before-take v ws n (omega arith))
-
--- Past the last word the marks are those of the whole prefix.
-pub marks-listed : (marks : List ℕ) (ws : List ℤ) (n : ℕ) → n ≤ length ws → length ws ≤ n → Marks marks (variablesBefore ws n) → marked marks ≡ listedIn ws
-marks-listed marks ws n h k m = λ j v. at v j
-  where
-    at : (v : ℕ) → marked marks v ≡ listedIn ws v
-    at v =
-        m .says v ∙ variables-before-take v ws n h
-        ∙ ap (λ (l : List ℤ). isIn v (map natAbs l)) (take-all n ws k)
-        ∙ ap (isIn v) (sym (prefix-variables ws))
 
 -- The run of literals, by the word at a place.
 module _ (known : ℕ → Bool) (ws : List ℤ) (i : ℕ) (h : i < length ws) where
@@ -422,16 +363,16 @@ sizes-refused p c e = rw e
 
 module _ (p c : List ℤ) (e : sized p c ≡ true) where
   pub words-refused : (r : Refusal) → checkOf (wordsRefusal p c) ≡ Refused r → tablesAnswer p c ≡ TablesRefused r
-  unfolding tablesRefusal wordsRefusal
-  words-refused r h = rw e (go (firstRefusal (prefixRefusal 0 [] p) (clausesRefusal (listedIn p) 0 [] c)) h)
+  unfolding tablesRefusal
+  words-refused r h = rw e (go (wordsRefusal p c) h)
     where
       go : (a : Option Refusal) → checkOf a ≡ Refused r → answerTables a (entryCount p) (zeros c) ≡ TablesRefused r
       go none k = let z : _≡_ {A = ℕ} 0 1 = cc in absurd (omega arith)
       go (some s) k = let q : s ≡ r = cc in ap TablesRefused q
 
   pub words-admitted : checkOf (wordsRefusal p c) ≡ Passed → tablesAnswer p c ≡ TablesAdmitted (entryCount p) (zeros c)
-  unfolding tablesRefusal wordsRefusal
-  words-admitted h = rw e (go (firstRefusal (prefixRefusal 0 [] p) (clausesRefusal (listedIn p) 0 [] c)) h)
+  unfolding tablesRefusal
+  words-admitted h = rw e (go (wordsRefusal p c) h)
     where
       go : (a : Option Refusal) → checkOf a ≡ Passed → answerTables a (entryCount p) (zeros c) ≡ TablesAdmitted (entryCount p) (zeros c)
       go none k = refl

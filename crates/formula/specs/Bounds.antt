@@ -6,6 +6,8 @@ use lib.Dec.{leb}
 use lib.IntN.{ℤ}
 use Rattle.formula.specs.declared.bounds.TextFit.{TextFit}
 use Rattle.formula.specs.declared.bounds.TextFit.the-variants.{Within as TextWithin, Oversized as TextOversized}
+use Rattle.formula.specs.declared.bounds.PrefixFit.{PrefixFit}
+use Rattle.formula.specs.declared.bounds.PrefixFit.the-variants.{Within as PrefixWithin, Oversized as PrefixOversized}
 use Rattle.formula.specs.declared.bounds.MatrixFit.{MatrixFit}
 use Rattle.formula.specs.declared.bounds.MatrixFit.the-variants.{Within as MatrixWithin, Oversized as MatrixOversized}
 use Rattle.formula.specs.declared.bounds.ProofFit.{ProofFit}
@@ -21,9 +23,12 @@ use Rattle.formula.specs.declared.literal.LiteralFit.the-variants.{Withi
 use Rattle.formula.specs.declared.literal.NumberFit.{NumberFit}
 use Rattle.formula.specs.declared.literal.NumberFit.the-variants.{Within as NumberWithin, Outside as NumberOutside}
 
--- Variables, and their numbers; input clauses; clause words; step words; bytes of text.
+-- Variables, and their numbers; prefix words, three a variable (02, P6); input clauses; clause words; step words; bytes of text.
 abbrev pub variableBound : ℕ
 variableBound = 1024
+
+abbrev pub prefixBound : ℕ
+prefixBound = 3072
 
 abbrev pub countBound : ℕ
 countBound = 8192
@@ -48,6 +53,9 @@ fit false made refused = refused
 
 abbrev pub textFit : ℕ → TextFit
 textFit n = fit (leb n textBound) (TextWithin (record { 0 = n })) TextOversized
+
+abbrev pub prefixFit : ℕ → PrefixFit
+prefixFit n = fit (leb n prefixBound) (PrefixWithin (record { 0 = n })) PrefixOversized
 
 abbrev pub matrixFit : ℕ → MatrixFit
 matrixFit n = fit (leb n matrixBound) (MatrixWithin (record { 0 = n })) MatrixOversized

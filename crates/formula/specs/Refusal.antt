@@ -12,6 +12,9 @@ use Rattle.formula.specs.Position.{positionAt}
 use Rattle.formula.specs.declared.position.Position.{Position}
 use Rattle.formula.specs.declared.refusal.Reason.{Reason}
 use Rattle.formula.specs.declared.refusal.Refusal.{Refusal}
+use Rattle.formula.specs.declared.refusal.Blocker.{Blocker}
+use Rattle.formula.specs.declared.refusal.Numbers.{Numbers}
+use Rattle.formula.specs.declared.refusal.Numbers.the-variants.{Alone, Blocked as Blocking}
 use Rattle.formula.specs.declared.refusal.Reason.the-variants.{
   Headless,
   Oversized,
@@ -49,28 +52,35 @@ abbrev pub unless : {R A : Type 0} → (R → A) → Option R → (done : A) →
 unless refuses (some r) done = refuses r
 unless refuses none done = done
 
--- 01's number of each reason.
+-- 01's number of each reason; 17 comes with what blocks.
+abbrev pub numbers : Reason → Numbers
+numbers Headless = Alone 1
+numbers Oversized = Alone 2
+numbers NoRoom = Alone 3
+numbers BadToken = Alone 4
+numbers OutOfRange = Alone 5
+numbers BoundTwice = Alone 6
+numbers Unbound = Alone 7
+numbers Clash = Alone 8
+numbers Unfinished = Alone 9
+numbers Miscount = Alone 10
+numbers NoTrailer = Alone 11
+numbers OtherFormula = Alone 12
+numbers BrokenStep = Alone 13
+numbers NotEarlier = Alone 14
+numbers WrongPivot = Alone 15
+numbers Tautology = Alone 16
+numbers (Blocked b) = Blocking b
+numbers Misstated = Alone 18
+numbers NoConclusion = Alone 19
+numbers NotUniversal = Alone 20
+
+abbrev pub numberOf : Numbers → ℕ
+numberOf (Alone n) = n
+numberOf (Blocking b) = 17
+
 abbrev pub number : Reason → ℕ
-number Headless = 1
-number Oversized = 2
-number NoRoom = 3
-number BadToken = 4
-number OutOfRange = 5
-number BoundTwice = 6
-number Unbound = 7
-number Clash = 8
-number Unfinished = 9
-number Miscount = 10
-number NoTrailer = 11
-number OtherFormula = 12
-number BrokenStep = 13
-number NotEarlier = 14
-number WrongPivot = 15
-number Tautology = 16
-number Blocked = 17
-number Misstated = 18
-number NoConclusion = 19
-number NotUniversal = 20
+number r = numberOf (numbers r)
 
 -- A reason joined with a position in a text; 2 has no place.
 abbrev pub refusedAt : Position → Reason → Refusal
@@ -80,6 +90,10 @@ refusedAt p r =
 -- A refusal of a text at the place of a token, or at the end.
 abbrev pub inText : List ℕ → ℕ → Reason → Refusal
 inText text at r = refusedAt (positionAt text at) r
+
+-- Where nothing blocks.
+abbrev pub noBlocker : Blocker
+noBlocker = record { variable = record { 0 = 1 }; block = 0 }
 
 -- A reason with the bytes of its word.
 pub record Named : Type 0 where
@@ -125,7 +139,7 @@ table =
     -- tautology
     ∷ named Tautology (116 ∷ 97 ∷ 117 ∷ 116 ∷ 111 ∷ 108 ∷ 111 ∷ 103 ∷ 121 ∷ [])
     -- blocked
-    ∷ named Blocked (98 ∷ 108 ∷ 111 ∷ 99 ∷ 107 ∷ 101 ∷ 100 ∷ [])
+    ∷ named (Blocked noBlocker) (98 ∷ 108 ∷ 111 ∷ 99 ∷ 107 ∷ 101 ∷ 100 ∷ [])
     -- misstated
     ∷ named Misstated (109 ∷ 105 ∷ 115 ∷ 115 ∷ 116 ∷ 97 ∷ 116 ∷ 101 ∷ 100 ∷ [])
     -- no conclusion
@@ -141,9 +155,14 @@ rowAt n = getD table (n - 1) (named Headless [])
 abbrev pub reasonAt : ℕ → Reason
 reasonAt n = rowAt n .reason
 
--- n is the place of the reason's row, counted from 1.
-abbrev pub Tagged : Reason → ℕ → Type 0
-Tagged r n = (r ≡ reasonAt n) × (1 ≤ n) × (n ≤ length table)
+-- n is the place of a row, counted from 1, and its reason's number.
+abbrev pub TaggedNumber : ℕ → Type 0
+TaggedNumber n = (number (reasonAt n) ≡ n) × (1 ≤ n) × (n ≤ length table)
+
+-- The numbers tell the reason.
+abbrev pub Tagged : Reason → Numbers → Type 0
+Tagged r (Alone n) = (r ≡ reasonAt n) × (numbers (reasonAt n) ≡ Alone n) × TaggedNumber n
+Tagged r (Blocking b) = r ≡ Blocked b
 
 abbrev pub word : Reason → List ℕ
 word r = rowAt (number r) .bytes

@@ -1,23 +1,24 @@
--- The check of tables (01, "What the checker says no with", order "Tables"): 2 on lengths and clause count, prefix words
--- (5, 6), clause words (5, 7, 8), 9. Each word is judged from the left by its own rules in order. What tables pass, said
+-- The check of tables (01, "What the checker says no with", order "Tables"; 02, P6): 2 on lengths and clause count, 9 for a prefix that is
+-- not in threes, entries of the prefix (5, 6, 5, 6), clause words (5, 7, 8), 9. Each word is judged from the left by its own rules in order. What tables pass, said
 -- without an order, is in Tables/Proper.antt; the two agree by Tables/Laws.antt.
 pub mod Proper
-pub mod Laws
 pub mod Examples
+pub mod Laws
+pub mod Refusals
 pub mod Scan
-use Prim.Native.Nat.{ℕ, zero, suc, _+_}
+use Prim.Native.Nat.{ℕ, zero, suc, _+_, _%_}
 use mathlib.Core.Path.{_≡_}
 use mathlib.Core.Bool.{Bool, false, not, _||_, _&&_}
 use mathlib.Core.Option.{Option, none, some}
 use mathlib.Core.List.{List, [], _∷_}
 use lib.ListN.{length}
-use lib.Dec.{leb, eqb}
+use lib.Dec.{leb, ltb, eqb}
 use lib.IntN.{ℤ, pos, negsuc}
 use Rattle.qbf.specs.Formula.{listed}
-use Rattle.formula.specs.Bounds.{variableBound, countBound, matrixBound}
-use Rattle.formula.specs.Word.{wordOf}
+use Rattle.formula.specs.Bounds.{prefixBound, countBound, matrixBound}
+use Rattle.formula.specs.Word.{wordOf, ordinal}
 use Rattle.formula.specs.Refusal.{refusal, require, unless}
-use Rattle.formula.specs.Prefix.{prefixOf, entryCount}
+use Rattle.formula.specs.Prefix.{prefixOf, nextBlock, entryCount}
 use Rattle.formula.specs.declared.word.Word.{Word}
 use Rattle.formula.specs.declared.word.Word.the-variants.{Zero, TooLarge, Positive, Negative}
 use Rattle.formula.specs.declared.refusal.Refusal.{Refusal}
@@ -37,21 +38,28 @@ zeros (pos zero ∷ ws) = suc (zeros ws)
 zeros (pos (suc n) ∷ ws) = zeros ws
 zeros (negsuc n ∷ ws) = zeros ws
 
--- A variable is listed at the place `at`, again or for the first time.
-abbrev pub listing : ℕ → Bool → Option Refusal → Option Refusal
-listing at again later = require (not again) (some (refusal BoundTwice at)) later
+-- The three words of an entry, each judged at its own place: the variable, `seen` being those before it; the quantifier; the block, and which
+-- one is due. A word that is no number from 1 to 1,024 counts as 0.
+abbrev pub variableWord : (at : ℕ) (seen : List ℕ) (v : ℕ) → Option Refusal → Option Refusal
+variableWord at seen v later =
+    require (ltb 0 v) (some (refusal OutOfRange at)) (require (not (isIn v seen)) (some (refusal BoundTwice at)) later)
 
--- A prefix word at the place `at`, `seen` being the variables before it; `next` goes on with its variable.
-abbrev pub prefixWord : ℕ → List ℕ → Word → (ℕ → Option Refusal) → Option Refusal
-prefixWord at seen Zero next = some (refusal OutOfRange at)
-prefixWord at seen TooLarge next = some (refusal OutOfRange at)
-prefixWord at seen (Positive v) next = listing at (isIn (v .0) seen) (next (v .0))
-prefixWord at seen (Negative v) next = listing at (isIn (v .0) seen) (next (v .0))
+abbrev pub quantifierWord : (at q : ℕ) → Option Refusal → Option Refusal
+quantifierWord at q later = require (eqb q 1 || eqb q 2) (some (refusal OutOfRange at)) later
 
--- The prefix words from the place `at` on.
-unfoldable pub prefixRefusal : ℕ → List ℕ → List ℤ → Option Refusal
-prefixRefusal at seen [] = none
-prefixRefusal at seen (w ∷ ws) = prefixWord at seen (wordOf w) (λ v. prefixRefusal (at + 1) (v ∷ seen) ws)
+abbrev pub blockWord : (at b due : ℕ) → Option Refusal → Option Refusal
+blockWord at b due later = require (eqb b due) (some (refusal BoundTwice at)) later
+
+-- The entries from the place `at` on, behind one of the quantifier `last` in the block b; before the first, both are 0.
+unfoldable pub prefixRefusal : (at : ℕ) (seen : List ℕ) (last b : ℕ) → List ℤ → Option Refusal
+prefixRefusal at seen last b [] = none
+prefixRefusal at seen last b (v ∷ []) = none
+prefixRefusal at seen last b (v ∷ q ∷ []) = none
+prefixRefusal at seen last b (v ∷ q ∷ block ∷ ws) =
+    variableWord at seen (ordinal v)
+    (quantifierWord (at + 1) (ordinal q)
+    (blockWord (at + 2) (ordinal block) (nextBlock last b (ordinal q))
+    (prefixRefusal (at + 3) (ordinal v ∷ seen) (ordinal q) (nextBlock last b (ordinal q)) ws)))
 
 -- A literal at the place `at`: is its variable in the prefix, and does its clause hold that variable already?
 abbrev pub literalWord : ℕ → Bool → Bool → Option Refusal → Option Refusal
@@ -81,7 +89,7 @@ listedIn prefix v = isIn v (listed (prefixOf prefix))
 
 -- Lengths and clause count are within their bounds.
 abbrev pub sized : List ℤ → List ℤ → Bool
-sized prefix clauses = leb (length prefix) variableBound && leb (length clauses) matrixBound && leb (zeros clauses) countBound
+sized prefix clauses = leb (length prefix) prefixBound && leb (length clauses) matrixBound && leb (zeros clauses) countBound
 
 -- The first of two refusals, in order.
 abbrev pub firstRefusal : Option Refusal → Option Refusal → Option Refusal
@@ -90,9 +98,17 @@ firstRefusal r later = unless some r later
 abbrev pub ifSized : Bool → Option Refusal → Option Refusal
 ifSized fits later = require fits (some (refusal Oversized 0)) later
 
+-- A prefix is in threes.
+abbrev pub ifThrees : List ℤ → Option Refusal → Option Refusal
+ifThrees prefix later = require (eqb (length prefix % 3) 0) (some (refusal Unfinished (length prefix))) later
+
+-- Prefix words, then clause words.
+unfoldable pub wordsRefusal : List ℤ → List ℤ → Option Refusal
+wordsRefusal prefix clauses = ifThrees prefix (firstRefusal (prefixRefusal 0 [] 0 0 prefix) (clausesRefusal (listedIn prefix) 0 [] clauses))
+
 -- Why the tables are turned away, if they are.
 unfoldable pub tablesRefusal : List ℤ → List ℤ → Option Refusal
-tablesRefusal prefix clauses = ifSized (sized prefix clauses) (firstRefusal (prefixRefusal 0 [] prefix) (clausesRefusal (listedIn prefix) 0 [] clauses))
+tablesRefusal prefix clauses = ifSized (sized prefix clauses) (wordsRefusal prefix clauses)
 
 abbrev pub answerTables : Option Refusal → ℕ → ℕ → TablesAnswer
 answerTables r variables count = unless Refused r (Admits variables count)

@@ -112,7 +112,7 @@ module _ (prefixRoom clauseRoom : ℕ) where
   abbrev pub setNumber : (at v c : ℕ) (q : Quantifier) (filled : Bool) (P : Prefix) → ℕ → State
   setNumber at v c q filled P zero = require filled (stopped at BadToken) (betweenSets v c P)
   setNumber at v c q filled P (suc n) =
-      unless (stopped at) (variableReason v (suc n) (isIn (suc n) (listed P)) (entryFits prefixRoom (length (prefixWords P))))
+      unless (stopped at) (variableReason v (suc n) (isIn (suc n) (listed P)) (entryFits prefixRoom (length P)))
       (inSet v c q true (P ++ (entry (suc n) q ∷ [])))
 
   abbrev pub setToken : (at v c : ℕ) (q : Quantifier) (filled : Bool) (P : Prefix) → Number → State

@@ -1,5 +1,5 @@
 -- What a word of a table is (01, "The game and its tables"): 0, a magnitude above 1,024, or a variable with a sign; and
--- what is asked of it: is it 0, its variable, the place of its literal among marks; then the word of a variable with a sign. Laws
+-- what is asked of it: is it 0, its variable, which number it is, the place of its literal among marks; then the word of a variable with a sign. Laws
 -- are in Word/Laws.antt.
 pub mod Laws
 use Prim.Native.Nat.{ℕ, zero, suc, _+_, _*_}
@@ -36,6 +36,16 @@ variableOf Zero = 0
 variableOf TooLarge = variableBound + 1
 variableOf (Positive v) = v .0
 variableOf (Negative v) = v .0
+
+-- The number from 1 to 1,024 that a word is; 0 for any other word.
+abbrev pub ordinalOf : Word → ℕ
+ordinalOf Zero = 0
+ordinalOf TooLarge = 0
+ordinalOf (Positive v) = v .0
+ordinalOf (Negative v) = 0
+
+unfoldable pub ordinal : ℤ → ℕ
+ordinal w = ordinalOf (wordOf w)
 
 -- The place of the literal of v with this sign among marks, two to a variable.
 abbrev pub slot : ℕ → Bool → ℕ

@@ -75,10 +75,11 @@ clauseLine [] = 48 ∷ 10 ∷ []
 clauseLine (w ∷ C) = literalText w ++ (32 ∷ clauseLine C)
 
 -- The whole text: the header, a line for each run, a line for each clause.
+abbrev pub textOf : Prefix → List ℤ → List ℕ
+textOf P clauses = headerText (largest P) (zeros clauses) ++ (flatMap runLine (runs P) ++ flatMap clauseLine (clausesOf clauses))
+
 unfoldable pub written : List ℤ → List ℤ → List ℕ
-written prefix clauses =
-    headerText (largest (prefixOf prefix)) (zeros clauses)
-    ++ (flatMap runLine (runs (prefixOf prefix)) ++ flatMap clauseLine (clausesOf clauses))
+written prefix clauses = textOf (prefixOf prefix) clauses
 
 -- The text has room.
 abbrev pub ifRoom : Bool → Option Refusal

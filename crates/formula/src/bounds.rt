@@ -1,7 +1,7 @@
 // The bounds of 01 on lengths and counts, each on the type it bounds, with a constructor that refuses: a value made by `new`
 // is within its bound. The bound on a variable's number stands with its type, in literal.rt.
 ghost use mathlib.Core.Path.{_≡_};
-ghost use Rattle.formula.specs.Bounds.{textFit, matrixFit, proofFit, variableCountFit, clauseCountFit};
+ghost use Rattle.formula.specs.Bounds.{textFit, prefixFit, matrixFit, proofFit, variableCountFit, clauseCountFit};
 
 // How many bytes a text has.
 pub struct TextLength(pub usize);
@@ -22,6 +22,29 @@ impl TextLength {
             TextFit::Within(TextLength(n))
         } else {
             TextFit::Oversized
+        }
+    }
+}
+
+// How many words a prefix has, three an entry.
+pub struct PrefixLength(pub usize);
+
+pub enum PrefixFit {
+    Within(PrefixLength),
+    Oversized,
+}
+
+impl PrefixLength {
+    pub const MAX: usize = 3_072;
+
+    // A prefix's length, or that it is above the bound.
+    pub fn new(n: usize) -> PrefixFit
+        ensures { λ r. ⌜ r ≡ prefixFit n ⌝ }
+    {
+        if n <= PrefixLength::MAX {
+            PrefixFit::Within(PrefixLength(n))
+        } else {
+            PrefixFit::Oversized
         }
     }
 }

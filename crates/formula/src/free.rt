@@ -2,17 +2,20 @@
 // those that reading the clauses leaves. Time linear in V.
 use crate::literal::Variable;
 use crate::literal::VariableFit;
+use crate::prefix::entry_count;
 use crate::prefix::entry_words;
-use crate::prefix::move_entries;
+use crate::prefix::move_words;
+use crate::prefix::number_blocks;
 use crate::prefix::put_entry;
 ghost use mathlib.Core.Path.{_≡_};
 ghost use Prim.Native.Nat.{_+_, _≤_};
 ghost use lib.ListN.{length};
 ghost use mathlib.Core.Bool.{true};
+ghost use Rattle.formula.specs.Text.Distinct.{PrefixFine};
 ghost use Rattle.qbf.specs.Formula.{existential, entry};
 ghost use Rattle.formula.specs.Bounds.{variableBound};
-ghost use Rattle.formula.specs.Prefix.{entryFits, putEntry, usedAfter};
-ghost use Rattle.formula.specs.Free.Complete.{isFreeMark, freeMarked, freeWords, FreePut, CompletionPost};
+ghost use Rattle.formula.specs.Prefix.{entryWords, entryFits, putEntry};
+ghost use Rattle.formula.specs.Free.Complete.{isFreeMark, freeMarked, FreePut, completedIn, CompletionPost};
 
 // The words of the prefix used when it is completed, or that it has no room for the variables to be added.
 pub enum Completion {
@@ -43,20 +46,23 @@ fn count_free(marks: &[usize; 1025], variables: usize) -> usize
     n
 }
 
-// Puts the entry of an existential variable behind the words used, and answers how many are used then.
-fn put_variable(prefix: &mut [i32], used: usize, n: usize) -> usize
-    requires { ⌜ (1 ≤ n) × (n ≤ variableBound) × (entryFits (length (now prefix)) used ≡ true) ⌝ }
-    ensures { λ r. ⌜ (r ≡ usedAfter used) × (now (prefix .exit) ≡ putEntry (now (prefix .entry)) used (entry n existential)) ⌝ }
+// Puts the entry of an existential variable behind so many entries, and answers how many stand then.
+fn put_variable(prefix: &mut [i32], entries: usize, n: usize) -> usize
+    requires { ⌜ (1 ≤ n) × (n ≤ variableBound) × (entryFits (length (now prefix)) entries ≡ true) ⌝ }
+    ensures { λ r. ⌜ (r ≡ entries + 1) × (now (prefix .exit) ≡ putEntry (now (prefix .entry)) entries (entry n existential) 0) ⌝ }
 {
     match Variable::new(n) {
-        VariableFit::Outside => used,
-        VariableFit::Within(variable) => put_entry(prefix, used, true, variable),
+        VariableFit::Outside => entries,
+        VariableFit::Within(variable) => {
+            put_entry(prefix, entries, true, variable, 0);
+            entries + 1
+        }
     }
 }
 
 // Puts the entries of the free variables from 1 to V to the table's start, in rising order.
 fn put_free(prefix: &mut [i32], marks: &[usize; 1025], variables: usize)
-    requires { ⌜ (variables ≤ variableBound) × (length (now marks) ≡ 1025) × (length (freeWords (now marks) variables) ≤ length (now prefix)) ⌝ }
+    requires { ⌜ (variables ≤ variableBound) × (length (now marks) ≡ 1025) × (entryWords (length (freeMarked (now marks) variables)) ≤ length (now prefix)) ⌝ }
     ensures { λ r. ⌜ FreePut (now (marks .entry)) variables (now (prefix .entry)) (now (prefix .exit)) ⌝ }
 {
     let mut at = 0;
@@ -70,21 +76,25 @@ fn put_free(prefix: &mut [i32], marks: &[usize; 1025], variables: usize)
     }
 }
 
-// Completes the prefix, of which `used` words are used.
+// Completes the prefix, in which so many entries stand, and numbers its blocks.
 pub fn complete(
     prefix: &mut [i32],
-    used: usize,
+    entries: usize,
     variables: usize,
     marks: &[usize; 1025],
 ) -> Completion
-    requires { ⌜ (used ≤ length (now prefix)) × (variables ≤ variableBound) × (length (now marks) ≡ 1025) ⌝ }
-    ensures { λ r. ⌜ CompletionPost (now (marks .entry)) variables used (now (prefix .entry)) (now (prefix .exit)) r ⌝ }
+    requires { ⌜ (entryWords entries ≤ length (now prefix)) × (variables ≤ variableBound) × (length (now marks) ≡ 1025) ⌝ }
+    requires { ⌜ PrefixFine variableBound (completedIn (now marks) variables entries (now prefix)) ⌝ }
+    ensures { λ r. ⌜ CompletionPost (now (marks .entry)) variables entries (now (prefix .entry)) (now (prefix .exit)) r ⌝ }
 {
-    let added = entry_words(count_free(marks, variables));
-    if prefix.len() - used < added {
+    let added = count_free(marks, variables);
+    let total = added + entries;
+    if entry_count(prefix) < total {
         return Completion::NoRoom;
     }
-    move_entries(prefix, used, added);
+    move_words(prefix, entry_words(entries), entry_words(added));
     put_free(prefix, marks, variables);
-    Completion::Completed(added + used)
+    let words = entry_words(total);
+    number_blocks(&mut prefix[..words]);
+    Completion::Completed(words)
 }

@@ -1,14 +1,18 @@
-// The prefix table as entries: how many there are, the entry at a place, the entries after the first, an entry put behind those
-// that stand, entries moved on. Nothing else reads or writes prefix words, but for the check of tables, which judges them.
+// The prefix table as entries, three words each: how many there are, the entry at a place, with its block, the entries after the first, an
+// entry put behind those that stand, words moved on, blocks numbered. Nothing else reads or writes prefix words, but for the check of
+// tables, which judges them.
 use crate::literal::Variable;
+use crate::literal::VariableFit;
+use crate::refusal::Blocker;
 use crate::word::Word;
-use crate::word::signed_word;
 ghost use mathlib.Core.Path.{_≡_};
 ghost use mathlib.Core.Bool.{true};
-ghost use Prim.Native.Nat.{_+_, _<_, _≤_};
-ghost use lib.ListN.{length};
+ghost use Prim.Native.Nat.{_+_, _^_, _<_, _≤_};
+ghost use lib.IntN.{pos};
+ghost use lib.ListN.{length, getD};
 ghost use Rattle.formula.specs.Bounds.{variableBound};
-ghost use Rattle.formula.specs.Prefix.{entryCount, entryAt, entryShown, laterEntries, quantifierOf, entryFits, usedAfter, putEntry, entryWords, Moved, Entries};
+ghost use Rattle.formula.specs.Prefix.{prefixOf, entryCount, entryAt, entryShown, laterEntries, quantifierNumber, quantifierOf, nextBlock, withBlocks, IsTable, entryFits, putEntry, entryWords, Moved, prefixWords, Entries};
+ghost use Rattle.formula.specs.Refusal.{noBlocker};
 ghost use Rattle.qbf.specs.Formula.{entry};
 
 // A variable with its quantifier.
@@ -21,7 +25,7 @@ pub enum Entry {
 pub fn entry_count(prefix: &[i32]) -> usize
     ensures { λ r. ⌜ r ≡ entryCount (now (prefix .entry)) ⌝ }
 {
-    prefix.len()
+    prefix.len() / 3
 }
 
 // The entry at a place, places counted from 0. A word that is no variable's is not met.
@@ -30,11 +34,15 @@ pub fn entry_at(prefix: &[i32], place: usize) -> Entry
     requires { ⌜ place < entryCount (now prefix) ⌝ }
     ensures { λ r. ⌜ r ≡ entryShown (entryAt (now (prefix .entry)) place) ⌝ }
 {
-    match Word::of(prefix[place]) {
-        Word::Zero => Entry::Existential(Variable::first()),
-        Word::TooLarge => Entry::Existential(Variable::first()),
-        Word::Positive(v) => Entry::Existential(v),
-        Word::Negative(v) => Entry::Universal(v),
+    let at = 3 * place;
+    match Variable::new(Word::ordinal(prefix[at])) {
+        VariableFit::Outside => Entry::Existential(Variable::first()),
+        VariableFit::Within(v) => {
+            if Word::ordinal(prefix[at + 1]) == 2 {
+                return Entry::Universal(v);
+            }
+            Entry::Existential(v)
+        }
     }
 }
 
@@ -50,41 +58,72 @@ pub fn variable_at(prefix: &[i32], place: usize) -> Variable
     }
 }
 
+// The variable of the entry at a place, with its block.
+pub fn blocker_at(prefix: &[i32], place: usize) -> Blocker
+    requires { ⌜ Entries (now prefix) ⌝ }
+    requires { ⌜ IsTable (now prefix) ⌝ }
+    requires { ⌜ place < entryCount (now prefix) ⌝ }
+    ensures { λ r. ⌜ r ≡ getD (withBlocks (prefixOf (now (prefix .entry)))) place noBlocker ⌝ }
+{
+    Blocker {
+        variable: variable_at(prefix, place),
+        block: prefix[3 * place + 2] as usize,
+    }
+}
+
 // The table of the entries after the first.
 pub fn later_entries(prefix: &[i32]) -> &[i32]
     requires { ⌜ 0 < entryCount (now prefix) ⌝ }
     ensures { λ r. ⌜ now r ≡ laterEntries (now (prefix .entry)) ⌝ }
 {
-    &prefix[1..]
+    &prefix[3..]
 }
 
-// An entry has room behind the words used of a table of so many.
-pub fn entry_fits(room: usize, used: usize) -> bool
-    ensures { λ r. ⌜ r ≡ entryFits room used ⌝ }
+// An entry has room behind so many entries of a table of `room` words.
+pub fn entry_fits(room: usize, entries: usize) -> bool
+    ensures { λ r. ⌜ r ≡ entryFits room entries ⌝ }
 {
-    used < room
-}
-
-// Puts an entry behind the words used, and answers how many are used then.
-pub fn put_entry(prefix: &mut [i32], used: usize, existential: bool, variable: Variable) -> usize
-    requires { ⌜ entryFits (length (now prefix)) used ≡ true ⌝ }
-    requires { ⌜ variable .0 ≤ variableBound ⌝ }
-    ensures { λ r. ⌜ r ≡ usedAfter used ⌝ }
-    ensures { λ r. ⌜ now (prefix .exit) ≡ putEntry (now (prefix .entry)) used (entry (variable .0) (quantifierOf existential)) ⌝ }
-{
-    prefix[used] = signed_word(existential, variable.0);
-    used + 1
+    entries < room / 3
 }
 
 // How many words so many entries have.
 pub fn entry_words(entries: usize) -> usize
+    requires { ⌜ entryWords entries < 2 ^ 64 ⌝ }
     ensures { λ r. ⌜ r ≡ entryWords entries ⌝ }
 {
-    entries
+    3 * entries
 }
 
-// Moves the entries in the words used on by so many words, the last one first.
-pub fn move_entries(prefix: &mut [i32], used: usize, by: usize)
+// The word of a quantifier.
+fn quantifier_word(existential: bool) -> i32
+    ensures { λ r. ⌜ r ≡ pos (quantifierNumber (quantifierOf existential)) ⌝ }
+{
+    if existential {
+        return 1;
+    }
+    2
+}
+
+// Puts an entry with its block behind so many entries.
+pub fn put_entry(
+    prefix: &mut [i32],
+    entries: usize,
+    existential: bool,
+    variable: Variable,
+    block: usize,
+)
+    requires { ⌜ entryFits (length (now prefix)) entries ≡ true ⌝ }
+    requires { ⌜ (variable .0 ≤ variableBound) × (block ≤ variableBound) ⌝ }
+    ensures { λ r. ⌜ now (prefix .exit) ≡ putEntry (now (prefix .entry)) entries (entry (variable .0) (quantifierOf existential)) block ⌝ }
+{
+    let at = 3 * entries;
+    prefix[at] = variable.0 as i32;
+    prefix[at + 1] = quantifier_word(existential);
+    prefix[at + 2] = block as i32;
+}
+
+// Moves the words used on by so many, the last one first.
+pub fn move_words(prefix: &mut [i32], used: usize, by: usize)
     requires { ⌜ by + used ≤ length (now prefix) ⌝ }
     ensures { λ r. ⌜ Moved used by (now (prefix .entry)) (now (prefix .exit)) ⌝ }
 {
@@ -93,5 +132,47 @@ pub fn move_entries(prefix: &mut [i32], used: usize, by: usize)
         let j = i - 1;
         prefix[by + j] = prefix[j];
         i = j;
+    }
+}
+
+// The block of an entry of the quantifier `quantifier` behind one of the quantifier `last` in the block `block`.
+pub fn next_block(last: usize, block: usize, quantifier: usize) -> usize
+    requires { ⌜ block + 1 < 2 ^ 64 ⌝ }
+    ensures { λ r. ⌜ r ≡ nextBlock last block quantifier ⌝ }
+{
+    if quantifier == last {
+        return block;
+    }
+    block + 1
+}
+
+// The number of the quantifier of the entry at a place: 1 existential, 2 universal.
+fn quantifier_at(prefix: &[i32], place: usize) -> usize
+    requires { ⌜ Entries (now prefix) ⌝ }
+    requires { ⌜ place < entryCount (now prefix) ⌝ }
+    ensures { λ r. ⌜ r ≡ quantifierNumber (entryAt (now (prefix .entry)) place .quantifier) ⌝ }
+{
+    match entry_at(prefix, place) {
+        Entry::Existential(_) => 1,
+        Entry::Universal(_) => 2,
+    }
+}
+
+// Numbers the blocks of a table of whole entries.
+pub fn number_blocks(prefix: &mut [i32])
+    requires { ⌜ Entries (now prefix) ⌝ }
+    requires { ⌜ entryCount (now prefix) ≤ variableBound ⌝ }
+    requires { ⌜ length (now prefix) ≡ entryWords (entryCount (now prefix)) ⌝ }
+    ensures { λ r. ⌜ now (prefix .exit) ≡ prefixWords (prefixOf (now (prefix .entry))) ⌝ }
+{
+    let mut last = 0;
+    let mut block = 0;
+    let mut i = 0;
+    while i < entry_count(prefix) {
+        let quantifier = quantifier_at(prefix, i);
+        block = next_block(last, block, quantifier);
+        put_entry(prefix, i, quantifier == 1, variable_at(prefix, i), block);
+        last = quantifier;
+        i += 1;
     }
 }

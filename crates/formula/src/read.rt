@@ -48,11 +48,11 @@ fn fill_tables(
     let mut marks = [0usize; 1025];
     match read_sets(text, from, variables, prefix, &mut marks) {
         SetsAnswer::Refused(r) => ReadAnswer::Refused(r),
-        SetsAnswer::Sets { used, next } => {
+        SetsAnswer::Sets { entries, next } => {
             match read_clauses(text, next, variables, count, clauses, &mut marks) {
                 ClausesAnswer::Refused(r) => ReadAnswer::Refused(r),
                 ClausesAnswer::Clauses { used: words, end } => {
-                    match complete(prefix, used, variables, &marks) {
+                    match complete(prefix, entries, variables, &marks) {
                         Completion::NoRoom => {
                             ReadAnswer::Refused(Refusal::in_text(Reason::NoRoom, end))
                         }

@@ -1,9 +1,16 @@
-// Why and where the checker says no: the twenty reasons of 01, each with its number, and a reason joined with its place. A reason
-// more is a line in the enum and in `tag`, in `number` and `table` of specs/Refusal.antt, and in the list of words of
-// report/src/word.rt.
+// Why and where the checker says no: the twenty reasons of 01, each with its number, 17 with what blocks too, and a reason joined
+// with its place. A reason more is a line in the enum and in `tagged`, in `numbers` and `table` of specs/Refusal.antt, and in the
+// list of words of report/src/word.rt.
+use crate::literal::Variable;
 use crate::position::Position;
 ghost use mathlib.Core.Path.{_≡_};
-ghost use Rattle.formula.specs.Refusal.{refusal, refusedAt, number, Tagged};
+ghost use Rattle.formula.specs.Refusal.{refusal, refusedAt, numbers, number, Tagged, TaggedNumber};
+
+// What blocks a reduction (02, P6): a variable, and the block of its entry in the prefix.
+pub struct Blocker {
+    pub variable: Variable,
+    pub block: usize,
+}
 
 pub enum Reason {
     Headless,
@@ -22,7 +29,7 @@ pub enum Reason {
     NotEarlier,
     WrongPivot,
     Tautology,
-    Blocked,
+    Blocked(Blocker),
     Misstated,
     NoConclusion,
     NotUniversal,
@@ -65,39 +72,55 @@ impl Refusal {
     }
 }
 
+// The numbers of a reason: 01's; of 17, what blocks.
+pub enum Numbers {
+    Alone(u32),
+    Blocked(Blocker),
+}
+
 impl Reason {
-    // The place of its row in the table, counted from 1.
-    fn tag(self) -> u32
+    // The place of its row in the table, counted from 1; of 17, what blocks.
+    fn tagged(self) -> Numbers
         ensures { λ r. ⌜ Tagged self r ⌝ }
     {
         match self {
-            Reason::Headless => 1,
-            Reason::Oversized => 2,
-            Reason::NoRoom => 3,
-            Reason::BadToken => 4,
-            Reason::OutOfRange => 5,
-            Reason::BoundTwice => 6,
-            Reason::Unbound => 7,
-            Reason::Clash => 8,
-            Reason::Unfinished => 9,
-            Reason::Miscount => 10,
-            Reason::NoTrailer => 11,
-            Reason::OtherFormula => 12,
-            Reason::BrokenStep => 13,
-            Reason::NotEarlier => 14,
-            Reason::WrongPivot => 15,
-            Reason::Tautology => 16,
-            Reason::Blocked => 17,
-            Reason::Misstated => 18,
-            Reason::NoConclusion => 19,
-            Reason::NotUniversal => 20,
+            Reason::Headless => Numbers::Alone(1),
+            Reason::Oversized => Numbers::Alone(2),
+            Reason::NoRoom => Numbers::Alone(3),
+            Reason::BadToken => Numbers::Alone(4),
+            Reason::OutOfRange => Numbers::Alone(5),
+            Reason::BoundTwice => Numbers::Alone(6),
+            Reason::Unbound => Numbers::Alone(7),
+            Reason::Clash => Numbers::Alone(8),
+            Reason::Unfinished => Numbers::Alone(9),
+            Reason::Miscount => Numbers::Alone(10),
+            Reason::NoTrailer => Numbers::Alone(11),
+            Reason::OtherFormula => Numbers::Alone(12),
+            Reason::BrokenStep => Numbers::Alone(13),
+            Reason::NotEarlier => Numbers::Alone(14),
+            Reason::WrongPivot => Numbers::Alone(15),
+            Reason::Tautology => Numbers::Alone(16),
+            Reason::Blocked(blocker) => Numbers::Blocked(blocker),
+            Reason::Misstated => Numbers::Alone(18),
+            Reason::NoConclusion => Numbers::Alone(19),
+            Reason::NotUniversal => Numbers::Alone(20),
         }
+    }
+
+    // Its numbers.
+    pub fn numbers(self) -> Numbers
+        ensures { λ r. ⌜ r ≡ numbers self ⌝ }
+    {
+        self.tagged()
     }
 
     // 01's number.
     pub fn number(self) -> u32
-        ensures { λ r. ⌜ (r ≡ number self) × Tagged self r ⌝ }
+        ensures { λ r. ⌜ (r ≡ number self) × TaggedNumber r ⌝ }
     {
-        self.tag()
+        match self.tagged() {
+            Numbers::Alone(n) => n,
+            Numbers::Blocked(_) => 17,
+        }
     }
 }

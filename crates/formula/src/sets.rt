@@ -13,39 +13,39 @@ use crate::token::next_token;
 ghost use mathlib.Core.Path.{_≡_};
 ghost use Prim.Native.Nat.{_≤_, _<_};
 ghost use mathlib.Core.List.{[]};
-ghost use lib.ListN.{length, take};
+ghost use lib.ListN.{length};
 ghost use Rattle.formula.specs.Bounds.{variableBound, textBound};
 ghost use Rattle.formula.specs.Position.Cursor.{PositionIn};
 ghost use Rattle.formula.specs.Token.{Number};
 ghost use Rattle.formula.specs.Token.Scan.{shown};
-ghost use Rattle.formula.specs.Prefix.{prefixOf, quantifierOf};
+ghost use Rattle.formula.specs.Prefix.{entriesIn, entryWords, quantifierOf};
 ghost use Rattle.formula.specs.Text.Sets.{ListingPost, Listed, setClosing, SetTokenPost, SetPost, SetsPost};
 
-// What a token of a set did: listed a variable, so many words of the prefix being used then, or closed the set; or why it is
-// refused.
+// What a token of a set did: listed a variable, so many entries standing then, or closed the set; or why it is refused.
 pub enum SetStep {
     Listed(usize),
     Closed,
     Refused(Reason),
 }
 
-// The words of the prefix used so far, and the position from which to go on.
+// The entries so far, and the position from which to go on.
 pub enum SetsAnswer {
-    Sets { used: usize, next: Position },
+    Sets { entries: usize, next: Position },
     Refused(Refusal),
 }
 
-// Lists the variable of a number other than 0: 5 above V, 6 where it is marked, 3 where its entry has no room.
+// Lists the variable of a number other than 0: 5 above V, 6 where it is marked, 3 where its entry has no room. Blocks are numbered when
+// all entries stand, since variables that no set binds come first.
 fn list_variable(
     n: usize,
     variables: usize,
     existential: bool,
     prefix: &mut [i32],
-    used: usize,
+    entries: usize,
     marks: &mut [usize; 1025],
 ) -> SetStep
     requires { ⌜ (0 < n) × (variables ≤ variableBound) × (length (now marks) ≡ 1025) ⌝ }
-    ensures { λ r. ⌜ ListingPost n variables (quantifierOf existential) used (now (prefix .entry)) (now (marks .entry)) (now (prefix .exit)) (now (marks .exit)) r ⌝ }
+    ensures { λ r. ⌜ ListingPost n variables (quantifierOf existential) entries (now (prefix .entry)) (now (marks .entry)) (now (prefix .exit)) (now (marks .exit)) r ⌝ }
 {
     match Variable::new(n) {
         VariableFit::Outside => SetStep::Refused(Reason::OutOfRange),
@@ -56,9 +56,10 @@ fn list_variable(
             if 0 < marks[n] {
                 return SetStep::Refused(Reason::BoundTwice);
             }
-            if entry_fits(prefix.len(), used) {
+            if entry_fits(prefix.len(), entries) {
                 marks[n] = 1;
-                return SetStep::Listed(put_entry(prefix, used, existential, variable));
+                put_entry(prefix, entries, existential, variable, 0);
+                return SetStep::Listed(entries + 1);
             }
             SetStep::Refused(Reason::NoRoom)
         }
@@ -82,15 +83,15 @@ fn set_token(
     existential: bool,
     filled: bool,
     prefix: &mut [i32],
-    used: usize,
+    entries: usize,
     marks: &mut [usize; 1025],
 ) -> SetStep
-    requires { ⌜ (variables ≤ variableBound) × (used ≤ length (now prefix)) × Listed (now marks) (prefixOf (take used (now prefix))) ⌝ }
-    ensures { λ r. ⌜ ((m : Number) → shown m ≡ token → SetTokenPost m variables (quantifierOf existential) filled used (now (prefix .entry)) (now (marks .entry)) (now (prefix .exit)) (now (marks .exit)) r) ⌝ }
+    requires { ⌜ (variables ≤ variableBound) × (entryWords entries ≤ length (now prefix)) × Listed (now marks) (entriesIn (now prefix) entries) ⌝ }
+    ensures { λ r. ⌜ ((m : Number) → shown m ≡ token → SetTokenPost m variables (quantifierOf existential) filled entries (now (prefix .entry)) (now (marks .entry)) (now (prefix .exit)) (now (marks .exit)) r) ⌝ }
 {
     match token {
         Token::Natural(n) => if 0 < n {
-            list_variable(n, variables, existential, prefix, used, marks)
+            list_variable(n, variables, existential, prefix, entries, marks)
         } else {
             close_set(filled)
         },
@@ -106,24 +107,24 @@ fn read_set(
     variables: usize,
     existential: bool,
     prefix: &mut [i32],
-    used: usize,
+    entries: usize,
     marks: &mut [usize; 1025],
 ) -> SetsAnswer
     requires { ⌜ PositionIn (now text) from × (length (now text) ≤ textBound) ⌝ }
-    requires { ⌜ (variables ≤ variableBound) × (used ≤ length (now prefix)) × Listed (now marks) (prefixOf (take used (now prefix))) ⌝ }
-    ensures { λ r. ⌜ SetPost (now (text .entry)) (from .place) variables (quantifierOf existential) used (now (prefix .entry)) (now (prefix .exit)) (now (marks .exit)) r ⌝ }
+    requires { ⌜ (variables ≤ variableBound) × (entryWords entries ≤ length (now prefix)) × Listed (now marks) (entriesIn (now prefix) entries) ⌝ }
+    ensures { λ r. ⌜ SetPost (now (text .entry)) (from .place) variables (quantifierOf existential) entries (now (prefix .entry)) (now (prefix .exit)) (now (marks .exit)) r ⌝ }
 {
     let mut at = from;
-    let mut n = used;
+    let mut n = entries;
     loop {
         match next_token(text, at.place, at.line, at.column) {
             Next::End(end) => return SetsAnswer::Refused(Refusal::in_text(Reason::Unfinished, end)),
             Next::Found { token, place, next } => {
-                match set_token(token, variables, existential, used < n, prefix, n, marks) {
+                match set_token(token, variables, existential, entries < n, prefix, n, marks) {
                     SetStep::Refused(reason) => {
                         return SetsAnswer::Refused(Refusal::in_text(reason, place));
                     }
-                    SetStep::Closed => return SetsAnswer::Sets { used: n, next },
+                    SetStep::Closed => return SetsAnswer::Sets { entries: n, next },
                     SetStep::Listed(more) => {
                         n = more;
                         at = next;
@@ -147,10 +148,10 @@ pub fn read_sets(
     ensures { λ r. ⌜ SetsPost (now (text .entry)) (from .place) variables (now (prefix .entry)) (now (prefix .exit)) (now (marks .exit)) r ⌝ }
 {
     let mut at = from;
-    let mut used = 0;
+    let mut entries = 0;
     loop {
         match next_token(text, at.place, at.line, at.column) {
-            Next::End(_) => return SetsAnswer::Sets { used, next: at },
+            Next::End(_) => return SetsAnswer::Sets { entries, next: at },
             Next::Found {
                 token: _,
                 place,
@@ -159,18 +160,18 @@ pub fn read_sets(
                 let e = is_word(text, place.place, next.place, b"e");
                 let a = is_word(text, place.place, next.place, b"a");
                 if e | a {
-                    match read_set(text, next, variables, e, prefix, used, marks) {
+                    match read_set(text, next, variables, e, prefix, entries, marks) {
                         SetsAnswer::Refused(r) => return SetsAnswer::Refused(r),
                         SetsAnswer::Sets {
-                            used: n,
+                            entries: n,
                             next: after,
                         } => {
-                            used = n;
+                            entries = n;
                             at = after;
                         }
                     }
                 } else {
-                    return SetsAnswer::Sets { used, next: at };
+                    return SetsAnswer::Sets { entries, next: at };
                 }
             }
         }

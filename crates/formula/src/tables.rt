@@ -1,28 +1,29 @@
-// The check of tables: sizes, prefix words, clause words, each word from the left by its own rules in order. A clause is
+// The check of tables: sizes, a prefix in threes, its entries, clause words, each word from the left by its own rules in order. A clause is
 // judged whole: first where its literals end, then the nested search for a clash among them, then the word they end at.
 // The 0 words are counted, then one pass over the words, beside that search: quadratic in a clause of at most 1,024 words.
 use crate::bounds::ClauseCount;
 use crate::bounds::ClauseCountFit;
 use crate::bounds::MatrixFit;
 use crate::bounds::MatrixLength;
-use crate::bounds::VariableCount;
-use crate::bounds::VariableCountFit;
+use crate::bounds::PrefixFit;
+use crate::bounds::PrefixLength;
 use crate::literal::Literal;
 use crate::literal::LiteralFit;
 use crate::literal::Variable;
 use crate::prefix;
+use crate::prefix::next_block;
 use crate::refusal::Reason;
 use crate::refusal::Refusal;
 use crate::word::Word;
 ghost use mathlib.Core.Path.{_≡_};
 ghost use mathlib.Core.Bool.{true};
 ghost use mathlib.Core.List.{[], List·Memᴰ};
-ghost use Prim.Native.Nat.{_+_, _≤_, _<_};
+ghost use Prim.Native.Nat.{_+_, _^_, _≤_, _<_};
 ghost use lib.ListN.{length, drop};
 ghost use lib.IntN.{ℤ, natAbs};
 ghost use Rattle.formula.specs.Bounds.{variableBound, inRange};
-ghost use Rattle.formula.specs.Tables.{zeros, prefixRefusal, clausesRefusal, listedIn, tablesAnswer};
-ghost use Rattle.formula.specs.Tables.Scan.{marked, Marks, checkOf, plainRun, clashFree, ClauseStep, wordsRefusal};
+ghost use Rattle.formula.specs.Tables.{zeros, prefixRefusal, clausesRefusal, listedIn, wordsRefusal, tablesAnswer};
+ghost use Rattle.formula.specs.Tables.Scan.{marked, Marks, EntryStep, checkOf, plainRun, clashFree, ClauseStep};
 
 // Admitted, with the number of variables and of clauses; or the refusal.
 pub enum TablesAnswer {
@@ -33,6 +34,12 @@ pub enum TablesAnswer {
 // What a part of the check answers.
 enum Check {
     Passed,
+    Refused(Refusal),
+}
+
+// What the check of an entry answers: its quantifier's number and its block, or the refusal.
+enum EntryCheck {
+    Passed { quantifier: usize, block: usize },
     Refused(Refusal),
 }
 
@@ -57,26 +64,61 @@ fn count_zeros(clauses: &[i32]) -> usize
     n
 }
 
-// The prefix words: 5 and 6, marking each variable that is listed. The marks are 0 before.
+// The entry whose first word stands at `at`, behind one of the quantifier `last` in the block `block`: its variable's 5 and 6, its
+// quantifier's 5, its block's 6. The variable is marked.
+fn check_entry(
+    prefix: &[i32],
+    at: usize,
+    last: usize,
+    block: usize,
+    listed: &mut [u8],
+) -> EntryCheck
+    requires { ⌜ (at + 2 < length (now prefix)) × (length (now listed) ≡ 1025) × (block + 1 < 2 ^ 64) ⌝ }
+    ensures { λ r. ⌜ EntryStep (now (prefix .entry)) at last block (now (listed .entry)) r (now (listed .exit)) ⌝ }
+{
+    let v = Word::ordinal(prefix[at]);
+    if v < 1 {
+        return EntryCheck::Refused(Refusal::new(Reason::OutOfRange, at));
+    }
+    if listed[v] == 1 {
+        return EntryCheck::Refused(Refusal::new(Reason::BoundTwice, at));
+    }
+    let quantifier = Word::ordinal(prefix[at + 1]);
+    if (quantifier == 1) | (quantifier == 2) {
+        let due = next_block(last, block, quantifier);
+        if Word::ordinal(prefix[at + 2]) == due {
+            listed[v] = 1;
+            return EntryCheck::Passed {
+                quantifier,
+                block: due,
+            };
+        }
+        return EntryCheck::Refused(Refusal::new(Reason::BoundTwice, at + 2));
+    }
+    EntryCheck::Refused(Refusal::new(Reason::OutOfRange, at + 1))
+}
+
+// The prefix, entry by entry, marking each variable that is listed. The marks are 0 before.
 fn check_prefix(prefix: &[i32], listed: &mut [u8]) -> Check
     requires { ⌜ (length (now listed) ≡ 1025) × Marks (now listed) [] ⌝ }
-    ensures { λ r. ⌜ r ≡ checkOf (prefixRefusal 0 [] (now (prefix .entry))) ⌝ }
+    ensures { λ r. ⌜ r ≡ checkOf (prefixRefusal 0 [] 0 0 (now (prefix .entry))) ⌝ }
     ensures { λ r. ⌜ (r ≡ Check.Passed → marked (now (listed .exit)) ≡ listedIn (now (prefix .entry))) ⌝ }
 {
-    let mut i = 0;
-    while i < prefix.len() {
-        let v = Word::variable(prefix[i]);
-        if v < 1 {
-            return Check::Refused(Refusal::new(Reason::OutOfRange, i));
+    let mut last = 0;
+    let mut block = 0;
+    let mut at = 0;
+    while at + 2 < prefix.len() {
+        match check_entry(prefix, at, last, block, listed) {
+            EntryCheck::Refused(r) => return Check::Refused(r),
+            EntryCheck::Passed {
+                quantifier,
+                block: due,
+            } => {
+                last = quantifier;
+                block = due;
+                at += 3;
+            }
         }
-        if Variable::MAX < v {
-            return Check::Refused(Refusal::new(Reason::OutOfRange, i));
-        }
-        if listed[v] == 1 {
-            return Check::Refused(Refusal::new(Reason::BoundTwice, i));
-        }
-        listed[v] = 1;
-        i += 1;
     }
     Check::Passed
 }
@@ -167,10 +209,13 @@ fn check_clauses(clauses: &[i32], listed: &[u8]) -> Check
     Check::Passed
 }
 
-// Prefix and clause words, sizes being checked.
+// Prefix and clause words, sizes being checked: 9 for a prefix that is not in threes comes first.
 fn check_words(prefix: &[i32], clauses: &[i32]) -> Check
     ensures { λ r. ⌜ r ≡ checkOf (wordsRefusal (now (prefix .entry)) (now (clauses .entry))) ⌝ }
 {
+    if prefix.len() % 3 != 0 {
+        return Check::Refused(Refusal::new(Reason::Unfinished, prefix.len()));
+    }
     let mut listed = [0u8; 1025];
     match check_prefix(prefix, &mut listed) {
         Check::Refused(r) => Check::Refused(r),
@@ -183,7 +228,7 @@ pub fn check_tables(prefix: &[i32], clauses: &[i32]) -> TablesAnswer
     ensures { λ r. ⌜ r ≡ tablesAnswer (now (prefix .entry)) (now (clauses .entry)) ⌝ }
 {
     let oversized = Refusal::new(Reason::Oversized, 0);
-    let VariableCountFit::Within(_) = VariableCount::new(prefix.len()) else {
+    let PrefixFit::Within(_) = PrefixLength::new(prefix.len()) else {
         return TablesAnswer::Refused(oversized);
     };
     let MatrixFit::Within(_) = MatrixLength::new(clauses.len()) else {

@@ -1,11 +1,11 @@
-// Words of tables: what a word is, its variable, whether it is 0, the places of its literal among marks; and the word of a
+// Words of tables: what a word is, its variable, which number it is, whether it is 0, the places of its literal among marks; and the word of a
 // variable with a sign.
 use crate::literal::Variable;
 use crate::literal::VariableFit;
 ghost use mathlib.Core.Path.{_≡_};
 ghost use Prim.Native.Nat.{_≤_};
 ghost use Rattle.formula.specs.Bounds.{variableBound};
-ghost use Rattle.formula.specs.Word.{wordOf, isZero, variableOf, slotWith, slotOf, opposite, signed};
+ghost use Rattle.formula.specs.Word.{wordOf, isZero, variableOf, ordinal, slotWith, slotOf, opposite, signed};
 
 // What a word of a table is, by its sign and its range.
 pub enum Word {
@@ -51,6 +51,18 @@ impl Word {
             Word::TooLarge => 1_025,
             Word::Positive(v) => v.0,
             Word::Negative(v) => v.0,
+        }
+    }
+
+    // The number from 1 to 1,024 that a word is; 0 for any other word.
+    pub fn ordinal(word: i32) -> usize
+        ensures { λ r. ⌜ r ≡ ordinal word ⌝ }
+    {
+        match Word::of(word) {
+            Word::Zero => 0,
+            Word::TooLarge => 0,
+            Word::Positive(v) => v.0,
+            Word::Negative(_) => 0,
         }
     }
 

@@ -1,5 +1,5 @@
 -- The known positions of 01 that have a letter, a to l, as one list under one claim: each is an entry's answer on concrete
--- tables, by computation. Numbers are words: pos n is n, negsuc n is −(n + 1).
+-- tables, by computation. Numbers are words: pos n is n, negsuc n is −(n + 1); `e v b` and `a v b` are records of the prefix.
 use Prim.Native.Nat.{ℕ}
 use mathlib.Core.Path.{_≡_, refl}
 use mathlib.Core.List.{List, [], _∷_}
@@ -11,10 +11,12 @@ use Rattle.qbf.specs.Formula.{after, existentials}
 use Rattle.qbf.specs.Path.{holds as holdsLiteral, together, joined, literals, reach}
 use Rattle.qbf.specs.Dependency.{member, pair, depends}
 use Rattle.qbf.specs.Play.{satisfied, falsified, lost}
-use Rattle.formula.specs.Word.{wordOf, isZero}
-use Rattle.formula.specs.Prefix.{prefixOf, quantifies}
+use Rattle.formula.specs.Word.{wordOf, ordinal, isZero}
+use Rattle.formula.specs.Prefix.{prefixOf, blocksFrom, quantifies}
+use Rattle.formula.specs.Prefix.Examples.{e, a}
+use Rattle.formula.specs.Free.{occurs}
 use Rattle.formula.specs.Decode.{firstClause, clausesOf, formulaOf}
-use Rattle.formula.specs.Tables.{isIn, zeros, prefixRefusal, clausesRefusal, tablesRefusal}
+use Rattle.formula.specs.Tables.{isIn, zeros, prefixRefusal, clausesRefusal, wordsRefusal, tablesRefusal}
 use Rattle.formula.specs.Refusal.{refusal}
 use Rattle.formula.specs.declared.refusal.Reason.the-variants.{WrongPivot, Tautology, Blocked, Misstated, NoConclusion}
 use Rattle.dependency.specs.declared.answer.RowAnswer.the-variants.{Filled}
@@ -25,7 +27,7 @@ use Rattle.checker.specs.declared.verdict.Verdict.{Verdict}
 use Rattle.checker.specs.declared.verdict.Verdict.the-variants.{Accepted, Refused}
 use Rattle.checker.specs.Rules.{plainRules}
 use Rattle.checker.specs.Words.{sameWord, holds, without, closes}
-use Rattle.checker.specs.Steps.{readStep, opposed, lists, covers, states, blocked, judgeResolution, judgeReduction, judgeFirst, run}
+use Rattle.checker.specs.Steps.{readStep, opposed, lists, covers, states, blocked, leftmost, blockerOf, judgeResolution, judgeReduction, judgeFirst, run}
 use Rattle.checker.specs.Verdict.{firstEmpty, sizedVerdict, verdictOf}
 use Rattle.checker.specs.Verdict.Examples.{examplePrefix, exampleClauses, exampleSteps}
 use Rattle.evaluator.specs.declared.evaluation.Evaluation.{Evaluation}
@@ -41,7 +43,7 @@ pub data Position : Type 0 where
 -- A row of 1,025 bytes with 1 for each of these, 0 elsewhere.
 abbrev pub marked : List ℕ → List ℕ
 marked [] = replicate 1025 0
-marked (e ∷ es) = set (marked es) e 1
+marked (v ∷ vs) = set (marked vs) v 1
 
 -- The entry answers so, with a row of 1,025 bytes, scratch of the bytes asked for and 16 clause offsets.
 abbrev pub Answered : Position → Type 0
@@ -55,9 +57,9 @@ abbrev pub AllAnswered : List Position → Type 0
 AllAnswered [] = Unit {0}
 AllAnswered (p ∷ ps) = Answered p × AllAnswered ps
 
--- Prefix −1 −2 3, clauses {1,2,−3} {−1,−2,3}.
+-- Prefix ∀1 ∀2 ∃3, clauses {1,2,−3} {−1,−2,3}.
 abbrev bothPrefix : List ℤ
-bothPrefix = negsuc 0 ∷ negsuc 1 ∷ pos 3 ∷ []
+bothPrefix = a 1 1 (a 2 1 (e 3 2 []))
 
 abbrev bothClauses : List ℤ
 bothClauses = pos 1 ∷ pos 2 ∷ negsuc 2 ∷ pos 0 ∷ negsuc 0 ∷ negsuc 1 ∷ pos 3 ∷ pos 0 ∷ []
@@ -68,13 +70,13 @@ knownPositions =
     -- a, b
     row examplePrefix exampleClauses (pos 2) []
     ∷ proof examplePrefix exampleClauses (exampleSteps (pos 4)) (Accepted (record { 0 = 9 }) 5)
-    -- c: both rows; d
+    -- c: both rows; d: 3 blocks, in block 2
     ∷ row bothPrefix bothClauses (pos 1) (3 ∷ [])
     ∷ row bothPrefix bothClauses (pos 2) (3 ∷ [])
-    ∷ proof bothPrefix bothClauses (pos 2 ∷ pos 1 ∷ pos 1 ∷ pos 2 ∷ negsuc 2 ∷ pos 0 ∷ []) (Refused (refusal Blocked 3))
+    ∷ proof bothPrefix bothClauses (pos 2 ∷ pos 1 ∷ pos 1 ∷ pos 2 ∷ negsuc 2 ∷ pos 0 ∷ []) (Refused (refusal (Blocked (record { variable = record { 0 = 3 }; block = 2 })) 3))
     -- e
     ∷ row
-    (negsuc 0 ∷ pos 2 ∷ pos 3 ∷ [])
+    (a 1 1 (e 2 2 (e 3 2 [])))
     (pos 1 ∷ pos 2 ∷ pos 0 ∷ negsuc 0 ∷ pos 2 ∷ pos 0 ∷ negsuc 1 ∷ pos 3 ∷ pos 0 ∷ negsuc 1 ∷ negsuc 2 ∷ pos 0 ∷ [])
     (pos 1)
     (2 ∷ 3 ∷ [])
@@ -84,22 +86,22 @@ knownPositions =
     ∷ proof [] (pos 0 ∷ []) [] (Accepted (record { 0 = 1 }) 0)
     ∷ game [] (pos 0 ∷ []) False
     -- h, i
-    ∷ proof (pos 1 ∷ negsuc 1 ∷ []) (pos 1 ∷ pos 2 ∷ pos 0 ∷ []) (pos 2 ∷ pos 1 ∷ pos 2 ∷ pos 1 ∷ pos 0 ∷ []) (Refused (refusal NoConclusion 2))
-    ∷ proof (negsuc 0 ∷ []) (pos 1 ∷ pos 0 ∷ []) (pos 2 ∷ pos 1 ∷ pos 1 ∷ pos 0 ∷ []) (Accepted (record { 0 = 2 }) 1)
+    ∷ proof (e 1 1 (a 2 2 [])) (pos 1 ∷ pos 2 ∷ pos 0 ∷ []) (pos 2 ∷ pos 1 ∷ pos 2 ∷ pos 1 ∷ pos 0 ∷ []) (Refused (refusal NoConclusion 2))
+    ∷ proof (a 1 1 []) (pos 1 ∷ pos 0 ∷ []) (pos 2 ∷ pos 1 ∷ pos 1 ∷ pos 0 ∷ []) (Accepted (record { 0 = 2 }) 1)
     -- j, k
-    ∷ proof (negsuc 0 ∷ []) (pos 1 ∷ pos 0 ∷ negsuc 0 ∷ pos 0 ∷ []) (pos 1 ∷ pos 1 ∷ pos 2 ∷ pos 1 ∷ pos 0 ∷ []) (Refused (refusal WrongPivot 3))
+    ∷ proof (a 1 1 []) (pos 1 ∷ pos 0 ∷ negsuc 0 ∷ pos 0 ∷ []) (pos 1 ∷ pos 1 ∷ pos 2 ∷ pos 1 ∷ pos 0 ∷ []) (Refused (refusal WrongPivot 3))
     ∷ proof
-    (pos 1 ∷ pos 2 ∷ [])
+    (e 1 1 (e 2 1 []))
     (pos 1 ∷ pos 2 ∷ pos 0 ∷ negsuc 0 ∷ negsuc 1 ∷ pos 0 ∷ [])
     (pos 1 ∷ pos 1 ∷ pos 2 ∷ pos 1 ∷ pos 2 ∷ negsuc 1 ∷ pos 0 ∷ [])
     (Refused (refusal Tautology 3))
     -- l
-    ∷ row (negsuc 0 ∷ pos 2 ∷ []) (pos 1 ∷ pos 2 ∷ pos 0 ∷ negsuc 0 ∷ pos 2 ∷ pos 0 ∷ []) (pos 1) []
+    ∷ row (a 1 1 (e 2 2 [])) (pos 1 ∷ pos 2 ∷ pos 0 ∷ negsuc 0 ∷ pos 2 ∷ pos 0 ∷ []) (pos 1) []
     -- the reviewer's checklist: b with its second step's 4 made 3
     ∷ proof examplePrefix exampleClauses (exampleSteps (pos 3)) (Refused (refusal Misstated 6))
     ∷ []
 
 pub known-positions : AllAnswered knownPositions
-unfolding prefixOf sameWord isZero holds without firstClause closes readStep opposed lists covers states blocked judgeResolution judgeReduction judgeFirst run firstEmpty sizedVerdict verdictOf wordOf clausesOf isIn zeros prefixRefusal clausesRefusal tablesRefusal same after existentials holdsLiteral together joined literals reach member pair depends ℕ-discrete quantifies rowBelow rowOf rowRefusal evaluationOf lost falsified satisfied
+unfolding prefixOf ordinal blocksFrom occurs leftmost blockerOf sameWord isZero holds without firstClause closes readStep opposed lists covers states blocked judgeResolution judgeReduction judgeFirst run firstEmpty sizedVerdict verdictOf wordOf clausesOf isIn zeros prefixRefusal clausesRefusal wordsRefusal tablesRefusal same after existentials holdsLiteral together joined literals reach member pair depends ℕ-discrete quantifies rowBelow rowOf rowRefusal evaluationOf lost falsified satisfied
 known-positions =
     ((refl, refl), (refl, ((refl, refl), ((refl, refl), (refl, ((refl, refl), (refl, (refl, (refl, (refl, (refl, (refl, (refl, (refl, ((refl, refl), (refl, tt))))))))))))))))

@@ -121,7 +121,8 @@ closed C = C ++ (pos 0 ∷ [])
 abbrev pub wordsOf : List (List ℤ) → List ℤ
 wordsOf Cs = flatMap closed Cs
 
--- The prefix table that the text denotes: the sets' entries, and before them the variables that no set binds (02, P2).
+-- The prefix table that the text denotes: the sets' entries, and before them the variables that no set binds (02, P2). An entry is three words,
+-- its variable, quantifier and block (02, P6). Neighbours of one quantifier share a block, so sets of one letter that follow one another do.
 abbrev pub prefixOfSets : (v : ℕ) → List QuantifierSet → List (List ℤ) → List ℤ
 prefixOfSets v sets Cs = prefixWords (completed v (entriesOf sets) (wordsOf Cs))
 
@@ -132,7 +133,8 @@ pub record Regular (v : ℕ) (sets : List QuantifierSet) (Cs : List (List ℤ)) 
   pub listed-once : Distinct (listed (entriesOf sets))
   pub once-in-clause : (C : List ℤ) → List·Memᴰ C Cs → Distinct (map natAbs C)
 
--- "at most 1,024 variables, numbered 1 to 1,024; 8,192 input clauses; 65,536 clause words; .. 1,048,576 bytes of text" (2), and the room lent (3).
+-- "at most 1,024 variables, numbered 1 to 1,024; 8,192 input clauses; 65,536 clause words; .. 1,048,576 bytes of text" (2), and the room
+-- lent, in words (3).
 pub record Fits (text : List ℕ) (v : ℕ) (sets : List QuantifierSet) (Cs : List (List ℤ)) (prefixRoom clauseRoom : ℕ) : Type 0 where
   pub short : length text ≤ textBound
   pub variables : v ≤ variableBound

@@ -15,7 +15,7 @@ fn say(text: &[u8]) {
 
 // The line of the first program.
 fn check(formula: &[u8], proof: &[u8]) {
-    let mut line = [0u8; 128];
+    let mut line = [0u8; 160];
     let n = program_line(formula, proof, &mut line);
     print_first(&line, n);
 }
@@ -57,7 +57,7 @@ fn play_read(formula: &[u8], prefix: &mut [i32], clauses: &mut [i32]) {
 
 // What the evaluator says of the formula.
 fn play(formula: &[u8]) {
-    let mut prefix = [0i32; 1024];
+    let mut prefix = [0i32; 3072];
     let mut clauses = [0i32; 16384];
     play_read(formula, &mut prefix, &mut clauses);
 }

@@ -2,10 +2,10 @@
 -- and column 0. Assumes nothing.
 use Prim.Native.Nat.{ℕ, zero, suc, _+_}
 use mathlib.Core.Path.{_≡_, refl}
-use mathlib.Core.Bool.{Bool, true, false, not, _&&_}
+use mathlib.Core.Bool.{Bool, true, false, not, _&&_, _||_}
 use mathlib.Core.Option.{Option, none, some}
 use mathlib.Core.List.{List, [], _∷_, _++_}
-use lib.Dec.{leb, eqb}
+use lib.Dec.{leb, ltb, eqb}
 use lib.IntN.{ℤ}
 use lib.ListN.{length}
 use Rattle.qbf.specs.Play.{lost}
@@ -13,14 +13,12 @@ use Rattle.formula.specs.Bounds.{proofBound}
 use Rattle.formula.specs.Decode.{clausesOf, matrixOf}
 use Rattle.formula.specs.Prefix.{prefixOf, entryCount}
 use Rattle.formula.specs.Refusal.{refusal, require, unless}
-use Rattle.formula.specs.Tables.{isIn, zeros, prefixWord, prefixRefusal, literalWord, clauseWord, clausesEnd, clausesRefusal, listedIn, sized, tablesRefusal, tablesAnswer}
-use Rattle.formula.specs.Word.{wordOf}
+use Rattle.formula.specs.Tables.{zeros, tablesRefusal, tablesAnswer}
+use Rattle.formula.specs.Tables.Refusals.{tables-refused}
 use Rattle.formula.specs.Write.{written, ifRoom, writingRefusal, answerWriting}
 use Rattle.formula.specs.declared.refusal.Reason.{Reason}
-use Rattle.formula.specs.declared.refusal.Reason.the-variants.{Oversized, NoRoom, BoundTwice, Unbound, Clash, NoTrailer, OtherFormula, NotUniversal}
+use Rattle.formula.specs.declared.refusal.Reason.the-variants.{Oversized, NoRoom, NoTrailer, OtherFormula, NotUniversal}
 use Rattle.formula.specs.declared.refusal.Refusal.{Refusal}
-use Rattle.formula.specs.declared.word.Word.{Word}
-use Rattle.formula.specs.declared.word.Word.the-variants.{Zero, TooLarge, Positive, Negative}
 use Rattle.formula.specs.declared.tables.TablesAnswer.{TablesAnswer}
 use Rattle.formula.specs.declared.tables.TablesAnswer.the-variants.{Admitted, Refused as TablesRefused}
 use Rattle.formula.specs.declared.write.WriteAnswer.{WriteAnswer}
@@ -65,43 +63,13 @@ require-may : (b : Bool) (r : Reason) (p : ℕ) (later : Option Refusal) → May
 require-may b r p later h = require-holds MayUnplaced b (some (refusal r p)) later (unplaced r p) h
 
 -- Tables.
-prefix-word-may : (at : ℕ) (seen : List ℕ) (w : Word) (next : ℕ → Option Refusal) → ((v : ℕ) → MayUnplaced (next v)) → MayUnplaced (prefixWord at seen w next)
-prefix-word-may at seen Zero next h = record { no-line = refl; no-column = refl }
-prefix-word-may at seen TooLarge next h = record { no-line = refl; no-column = refl }
-prefix-word-may at seen (Positive v) next h = require-may (not (isIn (v .0) seen)) BoundTwice at (next (v .0)) (h (v .0))
-prefix-word-may at seen (Negative v) next h = require-may (not (isIn (v .0) seen)) BoundTwice at (next (v .0)) (h (v .0))
-
-prefix-may : (at : ℕ) (seen : List ℕ) (ws : List ℤ) → MayUnplaced (prefixRefusal at seen ws)
-unfolding prefixRefusal
-prefix-may at seen [] = tt
-prefix-may at seen (w ∷ ws) = prefix-word-may at seen (wordOf w) (λ v. prefixRefusal (at + 1) (v ∷ seen) ws) (λ v. prefix-may (at + 1) (v ∷ seen) ws)
-
-literal-may : (at : ℕ) (bound clash : Bool) (later : Option Refusal) → MayUnplaced later → MayUnplaced (literalWord at bound clash later)
-literal-may at bound clash later h =
-    require-may bound Unbound at (require (not clash) (some (refusal Clash at)) later) (require-may (not clash) Clash at later h)
-
-clause-word-may : (known : ℕ → Bool) (at : ℕ) (seen : List ℕ) (w : Word) (next : List ℕ → Option Refusal) → ((s : List ℕ) → MayUnplaced (next s)) → MayUnplaced (clauseWord known at seen w next)
-clause-word-may known at seen Zero next h = h []
-clause-word-may known at seen TooLarge next h = record { no-line = refl; no-column = refl }
-clause-word-may known at seen (Positive v) next h = literal-may at (known (v .0)) (isIn (v .0) seen) (next (v .0 ∷ seen)) (h (v .0 ∷ seen))
-clause-word-may known at seen (Negative v) next h = literal-may at (known (v .0)) (isIn (v .0) seen) (next (v .0 ∷ seen)) (h (v .0 ∷ seen))
-
-clauses-end-may : (at : ℕ) (seen : List ℕ) → MayUnplaced (clausesEnd at seen)
-clauses-end-may at [] = tt
-clauses-end-may at (v ∷ seen) = record { no-line = refl; no-column = refl }
-
-clauses-may : (known : ℕ → Bool) (at : ℕ) (seen : List ℕ) (ws : List ℤ) → MayUnplaced (clausesRefusal known at seen ws)
-unfolding clausesRefusal
-clauses-may known at seen [] = clauses-end-may at seen
-clauses-may known at seen (w ∷ ws) =
-    clause-word-may known at seen (wordOf w) (λ s. clausesRefusal known (at + 1) s ws) (λ s. clauses-may known (at + 1) s ws)
-
 module _ (prefix words : List ℤ) where
   tables-may : MayUnplaced (tablesRefusal prefix words)
-  unfolding tablesRefusal
-  tables-may =
-      require-may (sized prefix words) Oversized 0 _
-      (unless-holds MayUnplaced some (prefixRefusal 0 [] prefix) (clausesRefusal (listedIn prefix) 0 [] words) (λ r h. h) (prefix-may 0 [] prefix) (clauses-may (listedIn prefix) 0 [] words))
+  tables-may = go (tablesRefusal prefix words) refl
+    where
+      go : (o : Option Refusal) → tablesRefusal prefix words ≡ o → MayUnplaced o
+      go none e = tt
+      go (some r) e = let t = tables-refused prefix words r e in record { no-line = t .no-line; no-column = t .no-column }
 
   abbrev TablesIn : TablesAnswer → Type 0
   TablesIn (Admitted variables count) = Unit {0}

@@ -129,7 +129,7 @@ module _ (prefixRoom clauseRoom n at : ℕ) (h : at ≤ n) where
   set-token-in : (v c : ℕ) (q : Quantifier) (filled : Bool) (P : Prefix) (m : Number) → stoppedAt (setToken prefixRoom clauseRoom at v c q filled P m) ≤ n
   set-token-in v c q filled P (natural zero) = require-in filled BadToken (betweenSets v c P) (omega arith)
   set-token-in v c q filled P (natural (suc k)) =
-      unless-in (variableReason v (suc k) (isIn (suc k) (listed P)) (entryFits prefixRoom (length (prefixWords P)))) (inSet v c q true (P ++ (entry (suc k) q ∷ []))) (omega arith)
+      unless-in (variableReason v (suc k) (isIn (suc k) (listed P)) (entryFits prefixRoom (length P))) (inSet v c q true (P ++ (entry (suc k) q ∷ []))) (omega arith)
   set-token-in v c q filled P (negative k) = h
   set-token-in v c q filled P noNumber = h
 

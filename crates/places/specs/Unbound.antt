@@ -114,7 +114,7 @@ module _ (prefixRoom clauseRoom : ℕ) where
   set-state : (at v c : ℕ) (q : Quantifier) (filled : Bool) (P : Prefix) (m : Number) → Unstopped (setToken prefixRoom clauseRoom at v c q filled P m)
   set-state at v c q filled P (natural zero) = require-state filled at BadToken (betweenSets v c P) (λ e. omega (arith, e)) tt
   set-state at v c q filled P (natural (suc k)) =
-      unless-state at (variableReason v (suc k) (isIn (suc k) (listed P)) (entryFits prefixRoom (length (prefixWords P)))) (inSet v c q true (P ++ (entry (suc k) q ∷ []))) (variable-may v (suc k) (isIn (suc k) (listed P)) (entryFits prefixRoom (length (prefixWords P)))) tt
+      unless-state at (variableReason v (suc k) (isIn (suc k) (listed P)) (entryFits prefixRoom (length P))) (inSet v c q true (P ++ (entry (suc k) q ∷ []))) (variable-may v (suc k) (isIn (suc k) (listed P)) (entryFits prefixRoom (length P))) tt
   set-state at v c q filled P (negative k) = λ e. omega (arith, e)
   set-state at v c q filled P noNumber = λ e. omega (arith, e)
 

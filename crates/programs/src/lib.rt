@@ -32,7 +32,7 @@ fn whole_line(formula: &[u8], proof: &[u8], line: &mut [u8]) -> usize
 
 // Prints the first program's line.
 fn print_line(formula: &[u8], proof: &[u8]) {
-    let mut line = [0u8; 128];
+    let mut line = [0u8; 160];
     let n = whole_line(formula, proof, &mut line);
     print_first(&line, n);
 }

@@ -6,16 +6,31 @@ use caselist::words::first_words;
 
 // Tables ahead of everything: the scratch and the starts are too short, and the step is broken.
 fn tables() {
-    lent(b"1 0", b"", 8_199, 0, b"prefix word 0|0|");
-    lent(b"1 2 -1", b"", 8_199, 0, b"variable bound twice|0|");
-    lent(b"1", b"1 -2 0", 8_199, 0, b"variable not bound|0|");
+    lent(b"1 1 1  2", b"", 8_199, 0, b"prefix not in threes|0|");
+    lent(b"1 1 1  0 1 1", b"", 8_199, 0, b"variable 0|0|");
+    lent(
+        b"1 1 1  2 1 1  1 2 2",
+        b"",
+        8_199,
+        0,
+        b"variable bound twice|0|",
+    );
+    lent(b"1 1 1  2 3 2", b"", 8_199, 0, b"quantifier 3|0|");
+    lent(b"1 1 1  2 2 1", b"", 8_199, 0, b"block not raised|0|");
+    lent(b"1 1 1", b"1 -2 0", 8_199, 0, b"variable not bound|0|");
 }
 
 // Clause words refused ahead of short buffers.
 fn clauses() {
-    lent(b"1", b"1 1025 0", 8_199, 0, b"clause word 1,025|0|");
-    lent(b"1 2", b"1 2 -1 0", 8_199, 0, b"literal opposed|0|");
-    lent(b"1", b"1 0 -1", 8_199, 0, b"last clause not closed|0|");
+    lent(b"1 1 1", b"1 1025 0", 8_199, 0, b"clause word 1,025|0|");
+    lent(
+        b"1 1 1  2 1 1",
+        b"1 2 -1 0",
+        8_199,
+        0,
+        b"literal opposed|0|",
+    );
+    lent(b"1 1 1", b"1 0 -1", 8_199, 0, b"last clause not closed|0|");
 }
 
 // 3 for the scratch, ahead of the starts and of the steps.
@@ -53,7 +68,7 @@ fn input_starts() {
           three starts for four clauses, a broken step|0|",
     );
     lent(
-        b"1",
+        b"1 1 1",
         b"",
         8_200,
         0,
@@ -94,8 +109,8 @@ fn long_proofs<'a>(clauses: &'a [i32], steps: &'a [i32]) {
     let mut scratch = [7u8; 8199];
     let mut starts = [7u32; 1];
     judged(
-        b"1,048,577 step words, prefix word 0",
-        &[0],
+        b"1,048,577 step words, variable 0",
+        &[0, 1, 1],
         clauses,
         steps,
         &mut scratch,

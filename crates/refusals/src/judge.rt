@@ -1,5 +1,5 @@
-// The check of proofs, over lists of steps on one formula. Prefix, clauses and steps are written as words are; the buffers lent hold
-// 7 before.
+// The check of proofs, over lists of steps on one formula. Prefix, clauses and steps are written as words are, the prefix in records of
+// variable, quantifier and block with two spaces between them; the buffers lent hold 7 before.
 use caselist::fields::field;
 use caselist::fields::next_field;
 use caselist::show;
@@ -104,7 +104,7 @@ fn written_case(
     scratch: usize,
     starts: usize,
 ) {
-    let mut p = [0i32; 8];
+    let mut p = [0i32; 24];
     let mut c = [0i32; 16];
     let mut s = [0i32; 32];
     let used_p = words(prefix, &mut p);
@@ -159,7 +159,7 @@ pub fn on(prefix: &[u8], clauses: &[u8], list: &[u8]) {
 // Proofs for the specification's example, which has four clauses.
 pub fn example_lent(scratch: usize, starts: usize, list: &[u8]) {
     lent(
-        b"1 -2 3 4",
+        b"1 1 1  2 2 2  3 1 3  4 1 3",
         b"2 3 0 -2 4 0 -4 1 0 -1 -3 0",
         scratch,
         starts,

@@ -93,7 +93,7 @@ fn reduced_pivots() {
 // 16, ahead of 18 and behind 15. Both signs in L alone are 18.
 fn tautologies() {
     on(
-        b"1 2",
+        b"1 1 1  2 1 1",
         b"1 2 0 -1 -2 0",
         b"both signs in the result|1 1 2 1 2 -2 0|\
           both signs in the result, one stated|1 1 2 1 2 0|\
@@ -101,7 +101,7 @@ fn tautologies() {
           both signs in the result, e negative|1 2 1 -1 -2 2 0|",
     );
     on(
-        b"1 -2",
+        b"1 1 1  2 2 2",
         b"1 2 0 -1 -2 0",
         b"both signs of a universal|1 1 2 1 2 -2 0|",
     );
@@ -110,21 +110,21 @@ fn tautologies() {
 // A universal as pivot is 15: ahead of 16, and where the result would be empty.
 fn universal_pivots() {
     on(
-        b"-1 2",
+        b"1 2 1  2 1 2",
         b"1 2 0 -1 -2 0",
         b"both signs in the result, e universal|1 1 2 1 2 -2 0|",
     );
     on(
-        b"-1",
+        b"1 2 1",
         b"1 0 -1 0",
         b"e universal, the result empty|1 1 2 1 0|",
     );
 }
 
-// 17, ahead of 18 and behind 15: each universal here has 3 as a dependent.
+// 17, ahead of 18 and behind 15: each universal here has 3 as a dependent, in block 2.
 fn blocked() {
     on(
-        b"-1 -2 3",
+        b"1 2 1  2 2 1  3 1 2",
         b"1 2 -3 0 -1 -2 3 0",
         b"blocked|2 1 1 2 -3 0|\
           blocked by the second universal|2 1 2 1 -3 0|\
@@ -136,12 +136,60 @@ fn blocked() {
     );
 }
 
+// What blocks is the dependent of the clause that stands leftmost in the prefix, not the one of the lowest number, nor the clause's first.
+fn leftmost() {
+    on(
+        b"1 2 1  5 1 2  3 1 2  4 1 2",
+        b"4 -3 1 5 0 -1 3 0 -1 -4 0 -5 -3 0",
+        b"blocked by 5, 3 and 4|2 1 1 4 -3 5 0|\
+          blocked by 3 and 4, 5 resolved away|1 1 4 5 4 -3 1 0 2 5 1 4 -3 0|\
+          blocked by 3|2 2 -1 3 0|\
+          blocked by 4|2 3 -1 -4 0|",
+    );
+    on(
+        b"7 2 1  1024 1 2  6 1 2",
+        b"6 7 -1024 0 -7 1024 0 -7 -6 0",
+        b"blocked by 1,024 and 6|2 1 7 6 -1024 0|",
+    );
+}
+
+// Dependents of two blocks: the outer one is told, or the only one that depends on the reduced variable.
+fn blocks() {
+    on(
+        b"1 2 1  4 1 2  3 2 3  2 1 4",
+        b"2 3 1 4 0 -1 -2 0 -1 -4 0 -3 -2 0",
+        b"blocked by blocks 2 and 4|2 1 1 2 3 4 0|\
+          blocked by block 4, block 2 to the left|2 1 3 2 1 4 0|\
+          blocked by block 4|2 2 -1 -2 0|\
+          blocked by block 2|2 3 -1 -4 0|\
+          blocked by block 4, the inner universal|2 4 -3 -2 0|",
+    );
+}
+
+// What does not block is not told: an existential to the left, one that does not depend, a dependent that is not in the clause.
+fn passed_over() {
+    on(
+        b"5 1 1  4 2 2  3 1 3  2 1 3",
+        b"5 3 4 2 0 -4 -2 0",
+        b"blocked, 5 to the left and 3 independent|2 1 4 5 3 2 0|",
+    );
+    on(
+        b"1 2 1  2 1 2  3 1 2",
+        b"1 2 0 -1 2 0 -2 3 0 -2 -3 0",
+        b"blocked, 2 resolved away|1 1 3 2 1 3 0 2 5 1 3 0|",
+    );
+}
+
 // An existential joined on one side alone, one to the left, and dependents that are resolved away first.
 fn independent() {
-    on(b"-1 2", b"1 2 0 -1 2 0", b"joined on one side|2 1 1 2 0|");
-    on(b"1 -2", b"1 2 0", b"to the left of a|2 1 2 1 0|");
     on(
-        b"-1 2 3",
+        b"1 2 1  2 1 2",
+        b"1 2 0 -1 2 0",
+        b"joined on one side|2 1 1 2 0|",
+    );
+    on(b"1 1 1  2 2 2", b"1 2 0", b"to the left of a|2 1 2 1 0|");
+    on(
+        b"1 2 1  2 1 2  3 1 2",
         b"1 2 0 -1 2 0 -2 3 0 -2 -3 0",
         b"blocked by paths over the dependent itself|2 1 1 2 0|\
           dependents resolved away|1 3 4 3 -2 0 1 1 5 2 1 0 2 6 1 0|",
@@ -177,7 +225,7 @@ fn reducts() {
           the second step's 4 made 3|2 1 2 3 0 2 2 -2 3 0 1 6 3 4 1 0 1 5 4 3 -1 0 1 7 8 1 0|",
     );
     on(
-        b"1 2",
+        b"1 1 1  2 1 1",
         b"1 2 0 -1 2 0",
         b"in both antecedents, stated once|1 1 2 1 2 0|\
           in both antecedents, stated twice|1 1 2 1 2 2 0|",
@@ -207,7 +255,7 @@ fn turns() {
 // Steps behind an empty clause are checked and counted; the first empty clause is told.
 fn empty_clauses() {
     on(
-        b"-1",
+        b"1 2 1",
         b"1 0",
         b"an empty clause|2 1 1 0|\
           two empty clauses|2 1 1 0 2 1 1 0|\
@@ -217,7 +265,7 @@ fn empty_clauses() {
           an 18 behind an empty clause|2 1 1 0 2 1 1 1 0|",
     );
     on(
-        b"-1",
+        b"1 2 1",
         b"0 1 0",
         b"an empty input clause||\
           an empty input clause and a right step|2 2 1 0|\
@@ -237,6 +285,9 @@ pub fn run() {
     tautologies();
     universal_pivots();
     blocked();
+    leftmost();
+    blocks();
+    passed_over();
     independent();
     resolvents();
     reducts();

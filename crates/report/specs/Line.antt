@@ -1,5 +1,5 @@
--- The lines of the programs (01, "Programs"; 02, P1): `accepted V C steps empty` and `refused number word place line column`, each ended
--- by LF, with single spaces. Bytes: 10 LF, 32 space. Then what a file is settled as, and what a lent buffer holds at the end.
+-- The lines of the programs (01, "Programs"; 02, P1 and P6): `accepted V C steps empty` and `refused number word place line column`, with 17
+-- then `variable block`, each ended by LF, with single spaces. Bytes: 10 LF, 32 space. Then what a file is settled as, and what a lent buffer holds at the end.
 use Prim.Native.Nat.{ℕ}
 use mathlib.Core.Bool.{Bool, true, false}
 use mathlib.Core.List.{List, [], _∷_, _++_}
@@ -7,9 +7,11 @@ use lib.ListN.{length, replicate}
 use lib.Dec.{leb}
 use Rattle.formula.specs.Clear.{filledUp}
 use Rattle.formula.specs.Decimal.{decimal}
-use Rattle.formula.specs.Refusal.{refusal, require, number, word}
+use Rattle.formula.specs.Refusal.{refusal, require, numbers, number, word}
 use Rattle.formula.specs.declared.refusal.Refusal.{Refusal}
 use Rattle.formula.specs.declared.refusal.Reason.the-variants.{Oversized}
+use Rattle.formula.specs.declared.refusal.Numbers.{Numbers}
+use Rattle.formula.specs.declared.refusal.Numbers.the-variants.{Alone, Blocked as Blocking}
 use Rattle.formula.specs.Text.{Reading, refused, reading}
 
 -- `accepted `
@@ -31,10 +33,15 @@ last n = decimal n ++ (10 ∷ [])
 unfoldable pub acceptedLine : (variables clauses steps empty : ℕ) → List ℕ
 acceptedLine variables clauses steps empty = acceptedText ++ (spaced variables ++ (spaced clauses ++ (spaced steps ++ last empty)))
 
+-- The column, and behind it what blocks.
+unfoldable pub refusedEnd : (column : ℕ) → Numbers → List ℕ
+refusedEnd column (Alone n) = last column
+refusedEnd column (Blocking b) = spaced column ++ (spaced (b .variable .0) ++ last (b .block))
+
 unfoldable pub refusedLine : Refusal → List ℕ
 refusedLine r =
     refusedText
-    ++ (spaced (number (r .reason)) ++ (word (r .reason) ++ (32 ∷ (spaced (r .place) ++ (spaced (r .line) ++ last (r .column))))))
+    ++ (spaced (number (r .reason)) ++ (word (r .reason) ++ (32 ∷ (spaced (r .place) ++ (spaced (r .line) ++ refusedEnd (r .column) (numbers (r .reason)))))))
 
 -- The largest file that the programs of 01 take, in bytes.
 abbrev pub fileBound : ℕ
@@ -46,7 +53,7 @@ settled bound file prefixRoom clauseRoom = require (leb (length file) bound) (re
 
 -- What a buffer for a line has room for: no line is longer.
 abbrev pub lineRoom : ℕ
-lineRoom = 128
+lineRoom = 160
 
 -- How many bytes of a buffer are used for a text, and what it then holds: the text and zeros; where there is no room for the
 -- text, none, and zeros alone.

@@ -5,6 +5,7 @@ use mathlib.Core.Path.{_≡_}
 use mathlib.Core.Bool.{Bool, true, false}
 use mathlib.Core.List.{List, _++_}
 use lib.ListN.{length, take, replicate}
+use Rattle.formula.specs.Bounds.{prefixBound}
 use Rattle.formula.specs.Text.{Reading, read, refused}
 use Rattle.dependency.specs.Scratch.{scratchBound}
 use Rattle.report.specs.Line.{acceptedText, fileBound, lineRoom, settled, used, held}
@@ -12,12 +13,12 @@ use Rattle.report.specs.Check.{Room, checkLine, DenotesLost}
 use Rattle.report.specs.Dependents.{dependencyText, textRoom}
 
 -- 01, "Programs": files of "65,536 bytes each at most", "with room for 1,024 variables and 16,384 each of clause words, step words
--- and starts"; scratch is what a row and a proof ask for.
+-- and starts"; a variable has three words (02, P6); scratch is what a row and a proof ask for.
 abbrev pub programRoom : Room
 programRoom =
     record {
       file = fileBound;
-      prefix = 1024;
+      prefix = prefixBound;
       clauses = 16384;
       steps = 16384;
       scratch = scratchBound;

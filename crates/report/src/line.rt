@@ -1,14 +1,17 @@
 // The lines of the programs, written into a lent buffer from its start: `accepted V C steps empty` and
-// `refused number word place line column`. Each function answers the place behind what it wrote; none asks for room but the last.
+// `refused number word place line column`, with 17 then `variable block`. Each function answers the place behind what it wrote; none asks for room but the last.
 use crate::word::write_word;
 use formula::clear::keep_used;
 use formula::decimal::put;
 use formula::decimal::write_bytes;
 use formula::decimal::write_number;
+use formula::refusal::Numbers;
+use formula::refusal::Reason;
 use formula::refusal::Refusal;
 ghost use Prim.Native.Nat.{_+_, _^_, _<_, _≤_};
 ghost use Rattle.formula.specs.Store.{Stores};
-ghost use Rattle.report.specs.Line.{spaced, last, acceptedLine, refusedLine, lineRoom};
+ghost use Rattle.formula.specs.Refusal.{numbers};
+ghost use Rattle.report.specs.Line.{spaced, last, acceptedLine, refusedEnd, refusedLine, lineRoom};
 ghost use Rattle.report.specs.Printing.{Finishes, StoresShort};
 
 // A number and the space behind it.
@@ -31,6 +34,22 @@ fn write_last(line: &mut [u8], at: usize, n: usize) -> usize
     put(line, next, b'\n')
 }
 
+// The end of a refused line: the column, and behind it what blocks.
+fn write_end(line: &mut [u8], at: usize, column: usize, reason: Reason) -> usize
+    requires { ⌜ at + 63 < 2 ^ 64 ⌝ }
+    ensures { λ r. ⌜ Stores (now (line .entry)) at (refusedEnd column (numbers reason)) (now (line .exit)) r ⌝ }
+    ensures { λ r. ⌜ r ≤ at + 63 ⌝ }
+{
+    match reason.numbers() {
+        Numbers::Alone(_) => write_last(line, at, column),
+        Numbers::Blocked(blocker) => {
+            let mut next = write_spaced(line, at, column);
+            next = write_spaced(line, next, blocker.variable.0);
+            write_last(line, next, blocker.block)
+        }
+    }
+}
+
 // The line of a refusal.
 pub fn refused_line(line: &mut [u8], refusal: Refusal) -> usize
     ensures { λ r. ⌜ StoresShort lineRoom (now (line .entry)) (refusedLine refusal) (now (line .exit)) r ⌝ }
@@ -42,7 +61,7 @@ pub fn refused_line(line: &mut [u8], refusal: Refusal) -> usize
     at = put(line, at, b' ');
     at = write_spaced(line, at, refusal.place);
     at = write_spaced(line, at, refusal.line);
-    write_last(line, at, refusal.column)
+    write_end(line, at, refusal.column, reason)
 }
 
 // The line of an accepted proof; `empty` is the first empty clause's number.

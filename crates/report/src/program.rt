@@ -9,11 +9,11 @@ use formula::read::ReadAnswer;
 ghost use mathlib.Core.Path.{_≡_};
 ghost use Rattle.report.specs.Program.{programRoom, ProgramLine, ProgramText, formulaRead};
 
-// Prints the first program's line for its two files and answers its length. 128 bytes always do.
+// Prints the first program's line for its two files and answers its length. 160 bytes always do.
 pub fn program_line(formula: &[u8], proof: &[u8], line: &mut [u8]) -> usize
     ensures { λ r. ⌜ ProgramLine (now (formula .entry)) (now (proof .entry)) (now (line .entry)) (now (line .exit)) r ⌝ }
 {
-    let mut prefix = [0i32; 1_024];
+    let mut prefix = [0i32; 3_072];
     let mut clauses = [0i32; 16_384];
     let mut steps = [0i32; 16_384];
     let mut scratch = [0u8; SCRATCH];
@@ -35,7 +35,7 @@ pub fn program_line(formula: &[u8], proof: &[u8], line: &mut [u8]) -> usize
 pub fn program_text(formula: &[u8], text: &mut [u8]) -> usize
     ensures { λ r. ⌜ ProgramText (now (formula .entry)) (now (text .entry)) (now (text .exit)) r ⌝ }
 {
-    let mut prefix = [0i32; 1_024];
+    let mut prefix = [0i32; 3_072];
     let mut clauses = [0i32; 16_384];
     let mut scratch = [0u8; SCRATCH];
     dependency_lines(
@@ -52,7 +52,7 @@ pub fn program_text(formula: &[u8], text: &mut [u8]) -> usize
 pub fn formula_is_read(formula: &[u8]) -> bool
     ensures { λ r. ⌜ r ≡ formulaRead programRoom (now (formula .entry)) ⌝ }
 {
-    let mut prefix = [0i32; 1_024];
+    let mut prefix = [0i32; 3_072];
     let mut clauses = [0i32; 16_384];
     match settle_formula(formula, FileLength::MAX, &mut prefix, &mut clauses) {
         ReadAnswer::Read {

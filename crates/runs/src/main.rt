@@ -4,7 +4,7 @@
 // Not here, since files of 65,536 bytes cannot have it: more than 16,384 step words (3 at 0) and a distance above 4 × 1,048,576
 // (2), for a proof file has at most 16,381 words ahead of its trailer and a distance past its start is 11; more than 16,384
 // numbered clauses (3), for a step has at least 4 words, so that there are at most 8,192 + 4,095 of them; and more than 65,536
-// clause words (2), for each takes two bytes of the text. No program asks for a row of anything but a universal (20), 1,024 words hold every
+// clause words (2), for each takes two bytes of the text. No program asks for a row of anything but a universal (20), 3,072 words hold every
 // completed prefix (3), and no text leaves a variable unbound (7).
 use files::print_first;
 use programs::check_files;
@@ -133,10 +133,13 @@ fn steps() {
     run(b"formula/universal-units", b"proof/universal-pivot");
 }
 
-// 16 to 19.
+// 16 to 19. 17 names what blocks: in 01's position d, and under a free variable and five blocks, where the outer universal is reduced and
+// then the inner one.
 fn results() {
     run(b"formula/two-existentials", b"proof/tautology");
     run(b"formula/two-universals", b"proof/blocked");
+    run(b"formula/five-blocks", b"proof/blocked-outside");
+    run(b"formula/five-blocks", b"proof/blocked-inside");
     refused_proof(b"proof/misstated");
     refused_proof(b"proof/stated-twice");
     refused_proof(b"proof/no-steps-4");

@@ -1,21 +1,29 @@
--- A row that was made touches a clause exactly when the clause is blocked by its universal. Assumes nothing.
+-- A row that was made touches a clause exactly when the clause is blocked by its universal, and what blocks by the row is what blocks. Assumes
+-- nothing.
 use Prim.Native.Nat.{ℕ, _<_, _≤_}
-use mathlib.Core.Path.{_≡_, refl, ap₂}
-use mathlib.Core.Bool.{_||_}
+use mathlib.Core.Path.{_≡_, refl, ap, ap₂, sym, _∙_}
+use mathlib.Core.Bool.{Bool, true, false, _&&_, _||_}
 use mathlib.Core.List.{List, [], _∷_, List·Memᴰ·head, List·Memᴰ·tail}
 use native.Mathlib.Omega.{arith}
 use native.Mathlib.Decide.{decLt}
+use borrow.Author.Tests.{eq-eqb, ne-eqb}
+use lib.Dec.{eqb}
 use lib.ListN.{length, getD, length-take, List·getD-eq-default}
 use lib.IntN.{ℤ, natAbs}
+use Rattle.qbf.specs.Dependency.{depends}
 use Rattle.dependency.specs.Scratch.{rowIn, RowMade}
 use Rattle.dependency.specs.Scratch.Laws.{row-depends}
 use Rattle.formula.specs.Word.{wordOf, variableOf}
 use Rattle.formula.specs.Word.Laws.{variable-magnitude, variable-large}
 use Rattle.formula.specs.Decode.{formulaOf}
+use Rattle.formula.specs.Free.{occurs}
+use Rattle.formula.specs.Prefix.{prefixOf, withBlocks, Entries}
+use Rattle.formula.specs.Prefix.Laws.{blocks-ranged}
 use Rattle.checker.specs.Words.{Words, AllInRange}
-use Rattle.checker.specs.Steps.{blocked}
+use Rattle.checker.specs.Steps.{blocked, leftmost, blockerOf}
+use Rattle.checker.specs.Steps.Tests.{leftmost-same}
 use Rattle.checker.specs.Verdict.{scopeOf}
-use Rattle.checker.specs.Blocked.{touches}
+use Rattle.checker.specs.Blocked.{touches, blocksBy}
 
 pub row-blocked :
     (prefix clauses : List ℤ) (u : ℕ) (scratch scratch′ : List ℕ) → RowMade (formulaOf prefix clauses) u scratch scratch′ → (C : Words) → AllInRange C
@@ -27,6 +35,16 @@ row-blocked prefix clauses u scratch scratch′ made (x ∷ C) r =
     (row-depends (formulaOf prefix clauses) u scratch scratch′ made (natAbs x) (r x (List·Memᴰ·head refl) .1))
     (row-blocked prefix clauses u scratch scratch′ made C (λ y k. r y (List·Memᴰ·tail k)))
 
+pub row-blocker :
+    (prefix clauses : List ℤ) (u : ℕ) (scratch scratch′ : List ℕ) → RowMade (formulaOf prefix clauses) u scratch scratch′ → Entries prefix → (C : Words)
+    → leftmost (blocksBy (rowIn scratch′) C) (withBlocks (prefixOf prefix)) ≡ blockerOf (scopeOf prefix clauses) u C
+unfolding blockerOf blocksBy
+row-blocker prefix clauses u scratch scratch′ made r C =
+    leftmost-same (blocksBy (rowIn scratch′) C) (λ v. depends (formulaOf prefix clauses) u v && occurs v C) (withBlocks (prefixOf prefix))
+    (λ b m.
+    ap (λ (t : Bool). t && occurs (b .variable .0) C)
+    (row-depends (formulaOf prefix clauses) u scratch scratch′ made (b .variable .0) (blocks-ranged 0 0 (prefixOf prefix) (r .ranged) b m)))
+
 -- A word's variable, where it is a number of the row, is its magnitude; a magnitude past the row has no byte there.
 pub variable-near : (w : ℤ) → variableOf (wordOf w) ≤ 1024 → variableOf (wordOf w) ≡ natAbs w
 variable-near w h = go (decLt 1024 (natAbs w))
@@ -34,6 +52,13 @@ variable-near w h = go (decLt 1024 (natAbs w))
     go : Dec (1024 < natAbs w) → variableOf (wordOf w) ≡ natAbs w
     go (yes l) = let e = variable-large w l in absurd (omega arith)
     go (no m) = variable-magnitude w (omega arith)
+
+-- A word is of a variable exactly where its magnitude is the variable's number.
+pub variable-is : (w : ℤ) (n : ℕ) → n ≤ 1024 → variableOf (wordOf w) ≡ n → eqb n (natAbs w) ≡ true
+variable-is w n h e = eq-eqb n (natAbs w) (sym e ∙ variable-near w (omega arith))
+
+pub variable-other : (w : ℤ) (n : ℕ) → n ≤ 1024 → (variableOf (wordOf w) ≡ n → ⊥) → eqb n (natAbs w) ≡ false
+variable-other w n h o = ne-eqb n (natAbs w) (λ e. o (variable-magnitude w (omega arith) ∙ sym e))
 
 row-short : (scratch : List ℕ) → length (rowIn scratch) ≤ 1025
 unfolding rowIn

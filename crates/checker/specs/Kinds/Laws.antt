@@ -12,8 +12,8 @@ use lib.Seq.{getD-set-same, getD-set-other}
 use lib.IntN.{ℤ, pos, negsuc, natAbs}
 use Rattle.qbf.specs.Formula.{Quantifier, existential, universal, Entry, entry, Prefix, listed, Distinct}
 use Rattle.formula.specs.Bounds.{variableFit, inRange}
-use Rattle.formula.specs.Prefix.{prefixOf, quantifies}
-use Rattle.formula.specs.Prefix.Laws.{prefix-variables, quantifies-sound, quantifies-complete}
+use Rattle.formula.specs.Prefix.{prefixOf, quantifierNumber, quantifies}
+use Rattle.formula.specs.Prefix.Laws.{quantifies-sound, quantifies-complete}
 use Rattle.formula.specs.Word.{wordOf, positive, negative}
 use Rattle.formula.specs.Tables.{isIn, Admitted}
 use Rattle.formula.specs.Tables.Laws.{is-in-sound, absent-is-in, admitted-entries, admitted-prefix-distinct}
@@ -23,13 +23,13 @@ use Rattle.formula.specs.declared.literal.VariableFit.the-variants.{Within, Out
 use Rattle.checker.specs.Words.Laws.{not-true-false}
 use Rattle.checker.specs.Steps.{positiveExistential}
 use Rattle.checker.specs.Verdict.{scopeOf}
-use Rattle.checker.specs.Kinds.{kindByte, kindEntry, kindsFrom, kindsOf, existentialOf, universalOf}
+use Rattle.checker.specs.Kinds.{kindEntry, kindsFrom, kindsOf, existentialOf, universalOf}
 
 -- A byte for each number from 0 to 1,024.
 length-kinds-from : (kinds : List ℕ) (P : Prefix) → length (kindsFrom kinds P) ≡ length kinds
 unfolding kindsFrom
 length-kinds-from kinds [] = refl
-length-kinds-from kinds (x ∷ P) = length-kinds-from (kindEntry kinds x) P ∙ length-set kinds (x .variable) (kindByte (x .quantifier))
+length-kinds-from kinds (x ∷ P) = length-kinds-from (kindEntry kinds x) P ∙ length-set kinds (x .variable) (quantifierNumber (x .quantifier))
 
 pub length-kinds : (prefix : List ℤ) → length (kindsOf prefix) ≡ 1025
 unfolding kindsOf
@@ -41,20 +41,20 @@ unfolding kindsFrom
 byte-kept kinds [] n h = refl
 byte-kept kinds (x ∷ P) n h =
     byte-kept (kindEntry kinds x) P n (λ k. h (List·Memᴰ·tail k))
-    ∙ getD-set-other kinds (x .variable) n (kindByte (x .quantifier)) 0 (λ e. h (List·Memᴰ·head e))
+    ∙ getD-set-other kinds (x .variable) n (quantifierNumber (x .quantifier)) 0 (λ e. h (List·Memᴰ·head e))
 
 byte-stored :
     (kinds : List ℕ) (P : Prefix) (x : Entry) → x .variable ≤ 1024 → length kinds ≡ 1025 → Distinct (listed P) → List·Memᴰ x P
-    → getD (kindsFrom kinds P) (x .variable) 0 ≡ kindByte (x .quantifier)
+    → getD (kindsFrom kinds P) (x .variable) 0 ≡ quantifierNumber (x .quantifier)
 unfolding kindsFrom
 byte-stored kinds [] x r size d m = absurd (List·Memᴰ·not-nil m)
 byte-stored kinds (y ∷ P) x r size d m =
-    go (List·Memᴰ·cases-cons m) (λ k. byte-stored (kindEntry kinds y) P x r (length-set kinds (y .variable) (kindByte (y .quantifier)) ∙ size) (d .1) k)
+    go (List·Memᴰ·cases-cons m) (λ k. byte-stored (kindEntry kinds y) P x r (length-set kinds (y .variable) (quantifierNumber (y .quantifier)) ∙ size) (d .1) k)
   where
-    go : (x ≡ y) ⊎ List·Memᴰ x P → (List·Memᴰ x P → getD (kindsFrom (kindEntry kinds y) P) (x .variable) 0 ≡ kindByte (x .quantifier)) → getD (kindsFrom (kindEntry kinds y) P) (x .variable) 0 ≡ kindByte (x .quantifier)
+    go : (x ≡ y) ⊎ List·Memᴰ x P → (List·Memᴰ x P → getD (kindsFrom (kindEntry kinds y) P) (x .variable) 0 ≡ quantifierNumber (x .quantifier)) → getD (kindsFrom (kindEntry kinds y) P) (x .variable) 0 ≡ quantifierNumber (x .quantifier)
     go (inl e) later =
         let b : y .variable ≤ 1024 = rw (← e) r in
-        rw e (byte-kept (kindEntry kinds y) P (y .variable) (d .0) ∙ getD-set-same kinds (y .variable) (kindByte (y .quantifier)) 0 (omega (arith, b, size)))
+        rw e (byte-kept (kindEntry kinds y) P (y .variable) (d .0) ∙ getD-set-same kinds (y .variable) (quantifierNumber (y .quantifier)) 0 (omega (arith, b, size)))
     go (inr k) later = later k
 
 -- A number that is listed has its entry.
@@ -67,13 +67,13 @@ listed-member (y ∷ P) n m = go (List·Memᴰ·cases-cons m) (λ k. listed-memb
     go (inr k) later = let t = later k in (t .0, List·Memᴰ·tail (t .1), t .2)
 
 -- The bytes of the two quantifiers differ, and none is 0.
-same-kind : (q r : Quantifier) → kindByte q ≡ kindByte r → q ≡ r
+same-kind : (q r : Quantifier) → quantifierNumber q ≡ quantifierNumber r → q ≡ r
 same-kind existential existential e = refl
 same-kind existential universal e = let z : _≡_ {A = ℕ} 1 2 = e in absurd (omega arith)
 same-kind universal existential e = let z : _≡_ {A = ℕ} 2 1 = e in absurd (omega arith)
 same-kind universal universal e = refl
 
-no-kind : (q : Quantifier) → 0 ≡ kindByte q → ⊥
+no-kind : (q : Quantifier) → 0 ≡ quantifierNumber q → ⊥
 no-kind existential e = let z : _≡_ {A = ℕ} 0 1 = e in omega arith
 no-kind universal e = let z : _≡_ {A = ℕ} 0 2 = e in omega arith
 
@@ -83,21 +83,21 @@ blank (suc n) zero = refl
 blank (suc n) (suc i) = blank n i
 
 module _ (prefix clauses : List ℤ) (a : Admitted prefix clauses) where
-  byte-found : (x : Entry) → List·Memᴰ x (prefixOf prefix) → getD (kindsOf prefix) (x .variable) 0 ≡ kindByte (x .quantifier)
+  byte-found : (x : Entry) → List·Memᴰ x (prefixOf prefix) → getD (kindsOf prefix) (x .variable) 0 ≡ quantifierNumber (x .quantifier)
   unfolding kindsOf
   byte-found x m =
       byte-stored (replicate 1025 0) (prefixOf prefix) x (admitted-entries prefix clauses a .ranged x m .1) (length-replicate {A = ℕ} 1025 0) (admitted-prefix-distinct prefix clauses a) m
 
   -- A variable's byte is a quantifier's exactly when the variable is listed with it.
-  kind-byte : (q : Quantifier) (n : ℕ) → eqb (getD (kindsOf prefix) n 0) (kindByte q) ≡ quantifies q (prefixOf prefix) n
+  kind-byte : (q : Quantifier) (n : ℕ) → eqb (getD (kindsOf prefix) n 0) (quantifierNumber q) ≡ quantifies q (prefixOf prefix) n
   unfolding kindsOf
   kind-byte q n = go (quantifies q (prefixOf prefix) n) refl
     where
-      go : (b : Bool) → quantifies q (prefixOf prefix) n ≡ b → eqb (getD (kindsOf prefix) n 0) (kindByte q) ≡ b
-      go true e = eq-eqb (getD (kindsOf prefix) n 0) (kindByte q) (byte-found (entry n q) (quantifies-sound q (prefixOf prefix) n e))
-      go false e = ne-eqb (getD (kindsOf prefix) n 0) (kindByte q) (λ h. none (isIn n (listed (prefixOf prefix))) refl h)
+      go : (b : Bool) → quantifies q (prefixOf prefix) n ≡ b → eqb (getD (kindsOf prefix) n 0) (quantifierNumber q) ≡ b
+      go true e = eq-eqb (getD (kindsOf prefix) n 0) (quantifierNumber q) (byte-found (entry n q) (quantifies-sound q (prefixOf prefix) n e))
+      go false e = ne-eqb (getD (kindsOf prefix) n 0) (quantifierNumber q) (λ h. none (isIn n (listed (prefixOf prefix))) refl h)
         where
-          none : (b : Bool) → isIn n (listed (prefixOf prefix)) ≡ b → getD (kindsOf prefix) n 0 ≡ kindByte q → ⊥
+          none : (b : Bool) → isIn n (listed (prefixOf prefix)) ≡ b → getD (kindsOf prefix) n 0 ≡ quantifierNumber q → ⊥
           none true i h =
               let t = listed-member (prefixOf prefix) n (is-in-sound n (listed (prefixOf prefix)) i) in
               let f = rw (t .2) at (byte-found (t .0) (t .1)) in

@@ -1,7 +1,7 @@
--- The tests of a step against the law: where the three tests of a scope decide what they ask of a formula, a step is judged
--- right exactly when it is lawful, and blocked only where an existential of the clause depends. Assumes nothing.
+-- The tests of a step against the law: where a scope decides what it is asked of a formula, a step is judged
+-- right exactly when it is lawful, and blocked only where an existential of the clause depends, the leftmost one being named. Assumes nothing.
 use Prim.Native.Nat.{ℕ}
-use mathlib.Core.Path.{_≡_, refl, sym, _∙_}
+use mathlib.Core.Path.{_≡_, refl, sym, _∙_, subst}
 use mathlib.Core.Logic.{_⊎_, inl, inr, _≢_}
 use mathlib.Core.Bool.{Bool, true, false, not, _&&_, false≢true}
 use mathlib.Core.Option.{Option, none, some}
@@ -10,19 +10,24 @@ use native.Mathlib.Omega.{arith}
 use borrow.Author.Tests.{not-true}
 use lib.IntN.{ℤ, pos, negsuc, negℤ, natAbs}
 use Rattle.qbf.specs.Connectives.{and-both, both-and}
-use Rattle.qbf.specs.Formula.{Formula, Existential, Universal}
+use Rattle.qbf.specs.Formula.{Formula, existential, entry, Existential, Universal}
 use Rattle.qbf.specs.Dependency.{Depends}
 use Rattle.formula.specs.declared.refusal.Reason.{Reason}
 use Rattle.formula.specs.declared.refusal.Reason.the-variants.{WrongPivot, Tautology, Blocked, Misstated}
+use Rattle.formula.specs.declared.refusal.Blocker.{Blocker}
 use Rattle.formula.specs.Refusal.Laws.{require-none}
+use Rattle.formula.specs.Free.{occurs}
+use Rattle.formula.specs.Free.Laws.{occurs-found, occurs-member}
+use Rattle.formula.specs.Prefix.{withBlocks}
+use Rattle.formula.specs.Prefix.Laws.{blocks-listed}
 use Rattle.checker.specs.Words.{Words, holds, without}
 use Rattle.checker.specs.Words.Laws.{not-true-false, holds-sound, holds-complete, without-member, member-without}
-use Rattle.checker.specs.Steps.{Scope, Step, resolution, reduction, antecedent, resolvent, opposed, states, positiveExistential, blocked, demand, judgeStatement, judgeResolution, judgeReduction, judge}
-use Rattle.checker.specs.Steps.Tests.{opposed-found, unopposed, states-sound, states-complete, in-resolvent, resolvent-in, blocked-found, unblocked}
+use Rattle.checker.specs.Steps.{Scope, Step, resolution, reduction, antecedent, resolvent, opposed, states, positiveExistential, blocked, blockerOf, demand, judgeStatement, judgeResolution, judgeReduction, judge}
+use Rattle.checker.specs.Steps.Tests.{opposed-found, unopposed, states-sound, states-complete, in-resolvent, resolvent-in, blocked-found, unblocked, Leftmost, leftmost-found}
 use Rattle.checker.specs.Lawful.{Numbered, Resolvent, Reduct, LawfulResolution, LawfulReduction, Lawful, Blocks, BlockedStep, NoZeros}
 use Rattle.checker.specs.Lawful.Laws.{numbered-member, antecedent-numbered, numbered-antecedent}
 
--- The tests of a scope decide what they ask of a formula.
+-- The tests of a scope decide what they ask of a formula, and its blocks are the prefix's.
 pub record Decides (S : Scope) (F : Formula) : Type 0 where
   pub existential-sound : (v : ℕ) → S .existential v ≡ true → Existential (F .prefix) v
   pub existential-complete : (v : ℕ) → Existential (F .prefix) v → S .existential v ≡ true
@@ -30,14 +35,15 @@ pub record Decides (S : Scope) (F : Formula) : Type 0 where
   pub universal-complete : (v : ℕ) → Universal (F .prefix) v → S .universal v ≡ true
   pub dependent-sound : (u e : ℕ) → S .dependent u e ≡ true → Existential (F .prefix) e × Depends F u e
   pub dependent-complete : (u e : ℕ) → Depends F u e → S .dependent u e ≡ true
+  pub blocks-of : S .blocks ≡ withBlocks (F .prefix)
 
 no-reason : {r : Reason} {A : Type 0} → _≡_ {A = Option Reason} (some r) none → A
 no-reason e = let z : _≡_ {A = ℕ} 0 1 = cc in absurd (omega arith)
 
-statement-blocked : (R L : Words) → judgeStatement R L ≡ some Blocked → ⊥
-statement-blocked R L h = go (states R L) h
+statement-blocked : (R L : Words) (b : Blocker) → judgeStatement R L ≡ some (Blocked b) → ⊥
+statement-blocked R L b h = go (states R L) h
   where
-    go : (b : Bool) → demand b Misstated none ≡ some Blocked → ⊥
+    go : (t : Bool) → demand t Misstated none ≡ some (Blocked b) → ⊥
     go true e = let z : _≡_ {A = ℕ} 0 1 = cc in omega arith
     go false e = let z : _≡_ {A = ℕ} 0 1 = cc in omega arith
 
@@ -85,7 +91,7 @@ module _ (S : Scope) (F : Formula) (D : Decides S F) where
     reduction-sound i a L C n h =
         let pivots = require-none (S .universal (natAbs a) && holds a C) WrongPivot _ h in
         let both = and-both (S .universal (natAbs a)) (holds a C) (pivots .0) in
-        let free = require-none (not (blocked S (natAbs a) C)) Blocked _ (pivots .1) in
+        let free = require-none (not (blocked S (natAbs a) C)) (Blocked (blockerOf S (natAbs a) C)) _ (pivots .1) in
         let stated = require-none (states (without a C) L) Misstated none (free .1) in
         record {
           clause = C;
@@ -164,45 +170,75 @@ module _ (S : Scope) (F : Formula) (D : Decides S F) where
             L
             (l .states)
 
-  -- Blocked only where an existential of the clause depends on the reduced variable.
-  pub judge-blocked : (known : List Words) (s : Step) → judge S known s ≡ some Blocked → BlockedStep F known s
-  unfolding judgeResolution judgeReduction
-  judge-blocked known (resolution i j e L) h = go (antecedent known i) (antecedent known j) h
-    where
-      tests : (C E : Words) (a b : Bool) → demand a WrongPivot (demand b Tautology (judgeStatement (resolvent e C E) L)) ≡ some Blocked → ⊥
-      tests C E false b k = let z : _≡_ {A = ℕ} 0 1 = cc in omega arith
-      tests C E true false k = let z : _≡_ {A = ℕ} 0 1 = cc in omega arith
-      tests C E true true k = statement-blocked (resolvent e C E) L k
+  -- What blocks a clause that is blocked.
+  module _ (u : ℕ) (C : Words) (h : blocked S u C ≡ true) where
+    blocks : ℕ → Bool
+    blocks v = S .dependent u v && occurs v C
 
-      go : (A B : Option Words) → judgeResolution S e L A B ≡ some Blocked → ⊥
+    found-leftmost : Leftmost blocks (S .blocks) (blockerOf S u C)
+    unfolding blockerOf blocks
+    found-leftmost =
+        let t = blocked-found S u C h in
+        let d = D .dependent-sound u (natAbs (t .0)) (t .2) in
+        let c = blocks-listed 0 0 (F .prefix) (entry (natAbs (t .0)) existential) (d .0) in
+        leftmost-found blocks (S .blocks) (c .0) (subst (List·Memᴰ (c .0)) (sym (D .blocks-of)) (c .1))
+        (rw (c .2) (both-and (S .dependent u (natAbs (t .0))) (occurs (natAbs (t .0)) C) (t .2) (occurs-member C (t .0) (t .1))))
+
+    pub blocked-names : (known : List Words) (i a : ℤ) → natAbs a ≡ u → Numbered known i C → Universal (F .prefix) (natAbs a) → List·Memᴰ a C → Blocks F known i a (blockerOf S u C)
+    unfolding blocks
+    blocked-names known i a own n q r =
+        let l = found-leftmost in
+        let both = and-both (S .dependent u (blockerOf S u C .variable .0)) (occurs (blockerOf S u C .variable .0) C) (l .passes) in
+        let x = occurs-found (blockerOf S u C .variable .0) C (both .1) in
+        let d = D .dependent-sound u (blockerOf S u C .variable .0) (both .0) in
+        record {
+          clause = C;
+          numbered = n;
+          universal = q;
+          reduced = r;
+          literal = x .0;
+          in-clause = x .1;
+          existential = rw (x .2) (d .0);
+          depends = rw (own, x .2) (d .1);
+          named = x .2;
+          left = l .left;
+          right = l .right;
+          stands = sym (D .blocks-of) ∙ l .stands;
+          leftmost = λ c m y k e p. false≢true (sym (l .fails-left c m) ∙ both-and (S .dependent u (c .variable .0)) (occurs (c .variable .0) C) (D .dependent-complete u (c .variable .0) (rw (← own, ← e) p)) (rw (← e) (occurs-member C y k)));
+        }
+
+  -- Blocked only where an existential of the clause depends on the reduced variable.
+  pub judge-blocked : (known : List Words) (s : Step) (b : Blocker) → judge S known s ≡ some (Blocked b) → BlockedStep F known s b
+  unfolding judgeResolution judgeReduction
+  judge-blocked known (resolution i j e L) b h = go (antecedent known i) (antecedent known j) h
+    where
+      tests : (C E : Words) (p q : Bool) → demand p WrongPivot (demand q Tautology (judgeStatement (resolvent e C E) L)) ≡ some (Blocked b) → ⊥
+      tests C E false q k = let z : _≡_ {A = ℕ} 0 1 = cc in omega arith
+      tests C E true false k = let z : _≡_ {A = ℕ} 0 1 = cc in omega arith
+      tests C E true true k = statement-blocked (resolvent e C E) L b k
+
+      go : (A B : Option Words) → judgeResolution S e L A B ≡ some (Blocked b) → ⊥
       go none B k = let z : _≡_ {A = ℕ} 0 1 = cc in omega arith
       go (some C) none k = let z : _≡_ {A = ℕ} 0 1 = cc in omega arith
       go (some C) (some E) k =
           tests C E (positiveExistential S e && holds e C && holds (negℤ e) E) (not (opposed [] (resolvent e C E))) k
-  judge-blocked known (reduction i a L) h = go (antecedent known i) refl h
+  judge-blocked known (reduction i a L) b h = go (antecedent known i) refl h
     where
+      same : (c : Blocker) → _≡_ {A = Option Reason} (some (Blocked c)) (some (Blocked b)) → c ≡ b
+      same c e = cc
+
       tests :
           (C : Words) → Numbered known i C
-          → (p b : Bool) → (S .universal (natAbs a) && holds a C) ≡ p → blocked S (natAbs a) C ≡ b
-          → demand p WrongPivot (demand (not b) Blocked (judgeStatement (without a C) L)) ≡ some Blocked
-          → Blocks F known i a
-      tests C n false b q e k = let z : _≡_ {A = ℕ} 0 1 = cc in absurd (omega arith)
-      tests C n true true q e k =
-          let t = blocked-found S (natAbs a) C e in
-          let d = D .dependent-sound (natAbs a) (natAbs (t .0)) (t .2) in
-          let both = and-both (S .universal (natAbs a)) (holds a C) q in
-          record {
-            clause = C;
-            numbered = n;
-            universal = D .universal-sound (natAbs a) (both .0);
-            reduced = holds-sound a C (both .1);
-            literal = t .0;
-            in-clause = t .1;
-            existential = d .0;
-            depends = d .1;
-          }
-      tests C n true false q e k = absurd (statement-blocked (without a C) L k)
+          → (p q : Bool) → (S .universal (natAbs a) && holds a C) ≡ p → blocked S (natAbs a) C ≡ q
+          → demand p WrongPivot (demand (not q) (Blocked (blockerOf S (natAbs a) C)) (judgeStatement (without a C) L)) ≡ some (Blocked b)
+          → Blocks F known i a b
+      tests C n false q f e k = let z : _≡_ {A = ℕ} 0 1 = cc in absurd (omega arith)
+      tests C n true true f e k =
+          let both = and-both (S .universal (natAbs a)) (holds a C) f in
+          subst (Blocks F known i a) (same (blockerOf S (natAbs a) C) k)
+          (blocked-names (natAbs a) C e known i a refl n (D .universal-sound (natAbs a) (both .0)) (holds-sound a C (both .1)))
+      tests C n true false f e k = absurd (statement-blocked (without a C) L b k)
 
-      go : (A : Option Words) → antecedent known i ≡ A → judgeReduction S a L A ≡ some Blocked → Blocks F known i a
+      go : (A : Option Words) → antecedent known i ≡ A → judgeReduction S a L A ≡ some (Blocked b) → Blocks F known i a b
       go none p k = let z : _≡_ {A = ℕ} 0 1 = cc in absurd (omega arith)
       go (some C) p k = tests C (antecedent-numbered known i C p) (S .universal (natAbs a) && holds a C) (blocked S (natAbs a) C) refl refl k

@@ -11,6 +11,7 @@ use lib.Seq.{drop-at}
 use lib.IntN.{pos}
 use Rattle.qbf.specs.Formula.{Formula}
 use Rattle.formula.specs.Refusal.{refusal}
+use Rattle.formula.specs.declared.refusal.Blocker.{Blocker}
 use Rattle.formula.specs.declared.refusal.Reason.the-variants.{Blocked}
 use Rattle.checker.specs.Rules.{Rules, PlainKinds}
 use Rattle.checker.specs.Words.{Words}
@@ -78,21 +79,21 @@ module _ (rules : Rules) (plain : PlainKinds rules) (S : Scope) (F : Formula) (D
   lawful-run goes-on steps known l z f = passes-run rules S room steps known (stepWords steps) [] (lawful-passes goes-on steps known l z f)
 
   pub run-blocked :
-      rules .afterwards ≢ some Blocked
+      (x : Blocker) → rules .afterwards ≢ some (Blocked x)
       → (known : List Words) (ws : Words) (place : ℕ) → NoZeros known
-      → run rules S room known zero ws ≡ refused (refusal Blocked place)
-      → RunBlocked F known ws place
-  run-blocked apart known ws place z h =
-      let t = run-stopped rules S room known ws (refusal Blocked place) h in
+      → run rules S room known zero ws ≡ refused (refusal (Blocked x) place)
+      → RunBlocked F known ws place x
+  run-blocked x apart known ws place z h =
+      let t = run-stopped rules S room known ws (refusal (Blocked x) place) h in
       let rest = t .1 .0 in
       let l = passes-lawful (t .0) known ws rest z (t .1 .1) in
-      let b = blocked-first rules S room (numberedClauses known (t .0)) apart rest (t .1 .2) in
+      let b = blocked-first rules S room (numberedClauses known (t .0)) x apart rest (t .1 .2) in
       record {
         steps = t .0;
         lawful = l .1;
         blocked = b .0;
         rest = drop (sizeOf (b .0)) rest;
         stands = l .0 ∙ ap (λ (r : Words). stepWords (t .0) ++ r) (read-written rules plain rest (b .0) (b .1));
-        blocks = judge-blocked S F D (numberedClauses known (t .0)) (b .0) (b .2);
+        blocks = judge-blocked S F D (numberedClauses known (t .0)) (b .0) x (b .2);
         own-number = t .1 .3;
       }

@@ -35,6 +35,6 @@ damaged-no-refutation r =
     refutation-within examplePrefix exampleClauses words 8200 9 r (omega arith) (omega arith)
     (omega (arith, refutation-zeros examplePrefix exampleClauses words r, numbered-length (clausesOf exampleClauses) (r .steps))) in
     let accepts = accepted-exactly examplePrefix exampleClauses words 8200 9 admitted within .1 r in
-    let refuses = positions .8 in
+    let refuses = positions .9 in
     let z : _≡_ {A = ℕ} 0 1 = cc (accepts .accepted) in
     omega arith

@@ -12,6 +12,7 @@ use lib.Dec.{ltb}
 use lib.ListN.{length, drop}
 use lib.IntN.{ℤ}
 use Rattle.formula.specs.Refusal.{refusal}
+use Rattle.formula.specs.declared.refusal.Blocker.{Blocker}
 use Rattle.formula.specs.declared.refusal.Reason.{Reason}
 use Rattle.formula.specs.declared.refusal.Refusal.{Refusal}
 use Rattle.formula.specs.declared.refusal.Reason.the-variants.{NoRoom, BrokenStep, Blocked}
@@ -82,13 +83,13 @@ pub record Rightly (rules : Rules) (S : Scope) (room : ℕ) (known : List Words)
   pub fits : length known < room
   pub judged : judge S known s ≡ none
 
-reason : (r : Reason) → _≡_ {A = Judged} (wrong r) (wrong Blocked) → _≡_ {A = Option Reason} (some r) (some Blocked)
-reason r e = cc
+same-reason : (q r : Reason) → _≡_ {A = Judged} (wrong r) (wrong q) → _≡_ {A = Option Reason} (some r) (some q)
+same-reason q r e = cc
 
-after-blocked : (o : Option Reason) (b : Bool) (j : Judged) → o ≢ some Blocked → refuseAfter o b j ≡ wrong Blocked → j ≡ wrong Blocked
-after-blocked none b j n h = h
-after-blocked (some r) true j n h = absurd (n (reason r h))
-after-blocked (some r) false j n h = h
+after-reason : (q : Reason) (o : Option Reason) (b : Bool) (j : Judged) → o ≢ some q → refuseAfter o b j ≡ wrong q → j ≡ wrong q
+after-reason q none b j n h = h
+after-reason q (some r) true j n h = absurd (n (same-reason q r h))
+after-reason q (some r) false j n h = h
 
 module _ (rules : Rules) (S : Scope) (room : ℕ) (known : List Words) where
   -- Where the rules have a reason against steps after an empty clause: it comes ahead of all else, and before one it says nothing.
@@ -132,19 +133,19 @@ module _ (rules : Rules) (S : Scope) (room : ℕ) (known : List Words) where
       ap (λ (o : Option Reason). refuseAfter o (someEmpty known) (judgeRead S room known (readStep rules ws))) goes-on ∙ rw (e, lt-ltb (length known) room f, j)
 
   -- A step that was refused as blocked was read, and judged so.
-  module _ (apart : rules .afterwards ≢ some Blocked) where
-    pub blocked-first : (ws : Words) → judgeFirst rules S room known ws ≡ wrong Blocked → (s : Step) × (readStep rules ws ≡ some s) × (judge S known s ≡ some Blocked)
+  module _ (x : Blocker) (apart : rules .afterwards ≢ some (Blocked x)) where
+    pub blocked-first : (ws : Words) → judgeFirst rules S room known ws ≡ wrong (Blocked x) → (s : Step) × (readStep rules ws ≡ some s) × (judge S known s ≡ some (Blocked x))
     unfolding judgeFirst
-    blocked-first ws h = go (readStep rules ws) refl (after-blocked (rules .afterwards) (someEmpty known) (judgeRead S room known (readStep rules ws)) apart h)
+    blocked-first ws h = go (readStep rules ws) refl (after-reason (Blocked x) (rules .afterwards) (someEmpty known) (judgeRead S room known (readStep rules ws)) apart h)
       where
-        judging : (t : Step) (o : Option Reason) → judge S known t ≡ o → readStep rules ws ≡ some t → judgedAs t o ≡ wrong Blocked → (s : Step) × (readStep rules ws ≡ some s) × (judge S known s ≡ some Blocked)
+        judging : (t : Step) (o : Option Reason) → judge S known t ≡ o → readStep rules ws ≡ some t → judgedAs t o ≡ wrong (Blocked x) → (s : Step) × (readStep rules ws ≡ some s) × (judge S known s ≡ some (Blocked x))
         judging t none j e k = let z : _≡_ {A = ℕ} 0 1 = cc in absurd (omega arith)
-        judging t (some r) j e k = (t, e, j ∙ reason r k)
+        judging t (some r) j e k = (t, e, j ∙ same-reason (Blocked x) r k)
 
-        go : (o : Option Step) → readStep rules ws ≡ o → judgeRead S room known o ≡ wrong Blocked → (s : Step) × (readStep rules ws ≡ some s) × (judge S known s ≡ some Blocked)
+        go : (o : Option Step) → readStep rules ws ≡ o → judgeRead S room known o ≡ wrong (Blocked x) → (s : Step) × (readStep rules ws ≡ some s) × (judge S known s ≡ some (Blocked x))
         go none e k = let z : _≡_ {A = ℕ} 0 1 = cc in absurd (omega arith)
         go (some t) e k =
-            let p = require-passed (ltb (length known) room) (wrong NoRoom) (judgedAs t (judge S known t)) (wrong Blocked) (λ q. let z : _≡_ {A = ℕ} 0 1 = cc in omega arith) k in
+            let p = require-passed (ltb (length known) room) (wrong NoRoom) (judgedAs t (judge S known t)) (wrong (Blocked x)) (λ q. let z : _≡_ {A = ℕ} 0 1 = cc in omega arith) k in
             judging t (judge S known t) refl e (p .1)
 
 -- The words are read as these steps one after the other, each judged right after the clauses before it, and `rest` is left.

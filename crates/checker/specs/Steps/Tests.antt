@@ -1,16 +1,17 @@
--- What the tests of Steps.antt say of a result and of its statement, both ways. Assumes nothing.
+-- What the tests of Steps.antt say of a result and of its statement, both ways, and of what blocks. Assumes nothing.
 use Prim.Native.Nat.{ℕ, zero, suc}
-use mathlib.Core.Path.{_≡_, refl, ap, sym, _∙_}
+use mathlib.Core.Path.{_≡_, refl, ap, ap₂, sym, _∙_}
 use mathlib.Core.Logic.{_⊎_, inl, inr, _≢_}
-use mathlib.Core.Bool.{Bool, true, false, not, _&&_, _||_, false≢true}
-use mathlib.Core.List.{[], _∷_, List·Memᴰ, List·Memᴰ·head, List·Memᴰ·tail, List·Memᴰ·not-nil, List·Memᴰ·cases-cons, List·Memᴰ·append-cases, Memᴰ·cast, Memᴰ·append-left, Memᴰ·append-right}
+use mathlib.Core.Bool.{Bool, true, false, not, cond, _&&_, _||_, false≢true}
+use mathlib.Core.List.{List, [], _∷_, _++_, List·Memᴰ, List·Memᴰ·head, List·Memᴰ·tail, List·Memᴰ·not-nil, List·Memᴰ·cases-cons, List·Memᴰ·append-cases, Memᴰ·cast, Memᴰ·append-left, Memᴰ·append-right}
 use native.Mathlib.Omega.{arith}
 use borrow.Author.Tests.{not-true}
 use lib.IntN.{ℤ, pos, negsuc, negℤ, negℤ-negℤ, natAbs}
 use Rattle.qbf.specs.Connectives.{and-both, both-and, or-either}
+use Rattle.formula.specs.declared.refusal.Blocker.{Blocker}
 use Rattle.checker.specs.Words.{Words, holds, without}
 use Rattle.checker.specs.Words.Laws.{holds-sound, holds-complete, holds-absent, absent-holds, without-member, member-without}
-use Rattle.checker.specs.Steps.{Scope, resolvent, opposed, lists, covers, states, blocked}
+use Rattle.checker.specs.Steps.{Scope, resolvent, opposed, lists, covers, states, blocked, leftmost}
 use Rattle.checker.specs.Lawful.{Once, States, Resolvent}
 
 pub opposite-zero : (x : ℤ) → negℤ x ≡ x → x ≡ pos 0
@@ -203,3 +204,49 @@ unblocked S u (y ∷ C) h x m =
         → S .dependent u (natAbs x) ≡ false
     go e later (inl q) = rw q e
     go e later (inr k) = later x k
+
+-- The first that passes a test, where one does; those before it do not.
+pub record Leftmost (test : ℕ → Bool) (bs : List Blocker) (b : Blocker) : Type 0 where
+  pub left : List Blocker
+  pub right : List Blocker
+  pub stands : bs ≡ left ++ (b ∷ right)
+  pub passes : test (b .variable .0) ≡ true
+  pub fails-left : (c : Blocker) → List·Memᴰ c left → test (c .variable .0) ≡ false
+
+pub leftmost-found : (test : ℕ → Bool) (bs : List Blocker) (c : Blocker) → List·Memᴰ c bs → test (c .variable .0) ≡ true → Leftmost test bs (leftmost test bs)
+unfolding leftmost
+leftmost-found test [] c m h = absurd (List·Memᴰ·not-nil m)
+leftmost-found test (b ∷ bs) c m h = go (test (b .variable .0)) refl (leftmost-found test bs c)
+  where
+    behind : test (b .variable .0) ≡ false → Leftmost test bs (leftmost test bs) → Leftmost test (b ∷ bs) (leftmost test bs)
+    behind e l =
+        record {
+          left = b ∷ l .left;
+          right = l .right;
+          stands = ap (λ (cs : List Blocker). b ∷ cs) (l .stands);
+          passes = l .passes;
+          fails-left = λ d k. failing d (List·Memᴰ·cases-cons k);
+        }
+      where
+        failing : (d : Blocker) → (d ≡ b) ⊎ List·Memᴰ d (l .left) → test (d .variable .0) ≡ false
+        failing d (inl q) = ap (λ (x : Blocker). test (x .variable .0)) q ∙ e
+        failing d (inr k) = l .fails-left d k
+
+    go :
+        (t : Bool) → test (b .variable .0) ≡ t
+        → (List·Memᴰ c bs → test (c .variable .0) ≡ true → Leftmost test bs (leftmost test bs))
+        → Leftmost test (b ∷ bs) (cond t b (leftmost test bs))
+    go true e later = record { left = []; right = bs; stands = refl; passes = e; fails-left = λ d k. absurd (List·Memᴰ·not-nil k) }
+    go false e later = found (List·Memᴰ·cases-cons m)
+      where
+        found : (c ≡ b) ⊎ List·Memᴰ c bs → Leftmost test (b ∷ bs) (leftmost test bs)
+        found (inl q) = absurd (false≢true (sym e ∙ ap (λ (x : Blocker). test (x .variable .0)) (sym q) ∙ h))
+        found (inr k) = behind e (later k h)
+
+-- Tests that agree on what is asked of them.
+pub leftmost-same :
+    (f g : ℕ → Bool) (bs : List Blocker) → ((b : Blocker) → List·Memᴰ b bs → f (b .variable .0) ≡ g (b .variable .0)) → leftmost f bs ≡ leftmost g bs
+unfolding leftmost
+leftmost-same f g [] h = refl
+leftmost-same f g (b ∷ bs) h =
+    ap₂ (λ (t : Bool) (r : Blocker). cond t b r) (h b (List·Memᴰ·head refl)) (leftmost-same f g bs (λ c k. h c (List·Memᴰ·tail k)))

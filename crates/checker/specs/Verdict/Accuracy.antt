@@ -1,18 +1,18 @@
 -- What an accepted verdict says (01, "Steps"; wish 2) and what makes it, with nothing supposed of tables or room, by any rules that
--- write steps with the kinds 1 and 2; Exact.antt has the wish as its sentence, by 01's. The verdict is blocked only where an existential of the clause depends. And wish 3 for the checker: an
--- accepted proof makes the game lost. Assumes nothing.
-use Prim.Native.Nat.{ℕ, zero, suc, _+_, _-_, _≤_}
+-- write steps with the kinds 1 and 2; Exact.antt has the wish as its sentence, by 01's. The verdict is blocked only where an existential of the clause depends, and what
+-- blocks is an entry of the prefix. And wish 3 for the checker: an accepted proof makes the game lost. Assumes nothing.
+use Prim.Native.Nat.{ℕ, zero, suc, _+_, _-_, _*_, _≤_, _<_}
 use mathlib.Core.Path.{_≡_, refl, ap, sym, _∙_}
 use mathlib.Core.Logic.{_≢_}
 use mathlib.Core.Bool.{Bool, true}
 use mathlib.Core.Option.{Option, none, some}
-use mathlib.Core.List.{List, [], List·Memᴰ, Memᴰ·map, Memᴰ·of-map}
+use mathlib.Core.List.{List, [], _∷_, _++_, List·Memᴰ, Memᴰ·map, Memᴰ·of-map}
 use native.Mathlib.Omega.{arith}
 use borrow.Author.Tests.{leb-true, le-leb}
 use lib.Dec.{leb}
-use lib.ListN.{length}
+use lib.ListN.{length, getD, length-append}
 use lib.IntN.{ℤ, pos, natAbs}
-use Rattle.qbf.specs.Formula.{Formula}
+use Rattle.qbf.specs.Formula.{Formula, Entry, entry, existential}
 use Rattle.qbf.specs.Formula.Laws.{distinct-images}
 use Rattle.qbf.specs.Derivation.{leaf}
 use Rattle.qbf.specs.Play.{Lost}
@@ -20,18 +20,22 @@ use Rattle.formula.specs.Bounds.{proofBound}
 use Rattle.formula.specs.Decode.{literalOf, clauseOf, clausesOf, formulaOf}
 use Rattle.formula.specs.Decode.Laws.{magnitude-negated, clauses-no-zero}
 use Rattle.formula.specs.Tables.{zeros, tablesRefusal, Admitted}
-use Rattle.formula.specs.Tables.Laws.{admitted-closed, admitted-clause-distinct, admitted-proper}
-use Rattle.formula.specs.Refusal.{refusal, require, number}
+use Rattle.formula.specs.Prefix.{quantifierNumber, prefixOf, withBlocks, entryCount, entryAt}
+use Rattle.formula.specs.Prefix.Laws.{entry-variable, entry-quantifier, entry-block, entry-member, block-variable, blocks-length}
+use Rattle.formula.specs.Tables.Laws.{admitted-words, admitted-prefix-distinct, admitted-closed, admitted-clause-distinct, admitted-proper}
+use Rattle.formula.specs.Tables.Refusals.{tables-refused}
+use Rattle.formula.specs.Refusal.{refusal, require, number, noBlocker}
 use Rattle.formula.specs.declared.refusal.Refusal.{Refusal}
+use Rattle.formula.specs.declared.refusal.Blocker.{Blocker}
 use Rattle.formula.specs.declared.refusal.Reason.the-variants.{Oversized, NoRoom, NoConclusion, Blocked}
 use Rattle.checker.specs.declared.verdict.Verdict.{Verdict}
 use Rattle.checker.specs.declared.verdict.Verdict.the-variants.{Accepted, Refused}
 use Rattle.checker.specs.Rules.{Rules, PlainKinds}
 use Rattle.formula.specs.Refusal.Laws.{require-passed}
 use Rattle.checker.specs.Words.{Words}
-use Rattle.checker.specs.Steps.{Outcome, ended, refused, run}
+use Rattle.checker.specs.Steps.{Step, resolution, reduction, Outcome, ended, refused, run}
 use Rattle.checker.specs.Steps.Tests.{opposite-zero}
-use Rattle.checker.specs.Lawful.{numberedClauses, RunBlocked}
+use Rattle.checker.specs.Lawful.{numberedClauses, BlockedStep, RunBlocked, BlockerEntry}
 use Rattle.checker.specs.Lawful.Laws.{numbered-length}
 use Rattle.checker.specs.Lawful.Steps.{run-lawful, lawful-run, run-blocked, RunEnds}
 use Rattle.checker.specs.Derived.{AllDerived}
@@ -40,7 +44,6 @@ use Rattle.checker.specs.Refutation.{Refutation, FirstEmpty, Accepting}
 use Rattle.checker.specs.Refutation.FirstEmptyClause.{first-empty-sound, first-empty-complete, first-empty-member}
 use Rattle.checker.specs.Verdict.{scopeOf, firstEmpty, concluded, conclude, ifAdmitted, sizedVerdict, verdictOf}
 use Rattle.checker.specs.Verdict.TableScope.{scope-decides}
-use Rattle.checker.specs.Verdict.Early.{tables-early}
 
 -- The order of refusals, taken apart.
 admitted-passed : (o : Option Refusal) (later v : Verdict) → ((r : Refusal) → o ≡ some r → v ≢ Refused r) → ifAdmitted o later ≡ v → (o ≡ none) × (later ≡ v)
@@ -58,6 +61,11 @@ numbers-same a b c d e = (ap first e, ap second e)
     second : Verdict → ℕ
     second (Accepted k l) = l
     second (Refused r) = 0
+
+-- What stands right behind others.
+behind : (left right : List Blocker) (x : Blocker) → getD (left ++ (x ∷ right)) (length left) noBlocker ≡ x
+behind [] right x = refl
+behind (b ∷ left) right x = behind left right x
 
 -- What stands before the steps has passed.
 pub record Passed (rules : Rules) (prefix clauses steps : List ℤ) (scratch room : ℕ) : Type 0 where
@@ -90,7 +98,7 @@ module _ (rules : Rules) (plain : PlainKinds rules) (prefix clauses steps : List
       → Passed rules prefix clauses steps scratch room × (conclude (zeros clauses) outcome ≡ v)
   unfolding verdictOf sizedVerdict
   verdict-passed v n h =
-      let a = admitted-passed (tablesRefusal prefix clauses) _ v (λ r e. n r (tables-early prefix clauses r e)) h in
+      let a = admitted-passed (tablesRefusal prefix clauses) _ v (λ r e. n r (tables-refused prefix clauses r e .early)) h in
       let b = test (leb (length steps) proofBound) (refusal Oversized 0) (omega arith) _ (a .1) in
       let c = test (leb (rules .scratch) scratch) (refusal NoRoom 0) (omega arith) _ (b .1) in
       let d = test (leb (zeros clauses) room) (refusal NoRoom (suc room)) (omega arith) _ (c .1) in (
@@ -174,33 +182,60 @@ module _ (rules : Rules) (plain : PlainKinds rules) (prefix clauses steps : List
       passed-verdict (record { admitted = r .admitted; sized = r .sized; scratch-fits = r .scratch-fits; inputs-fit = omega arith })
       ∙ rw (ran, first, counts)
 
+  -- The refusal of a blocked step comes behind those tests.
+  blocked-late : (x : Blocker) (place : ℕ) (q : Refusal) → number (q .reason) ≤ 9 → Refused (refusal (Blocked x) place) ≢ Refused q
+  blocked-late x place q small e =
+      let r : refusal (Blocked x) place ≡ q = cc in
+      let k : 17 ≡ number (q .reason) = ap (λ (r : Refusal). number (r .reason)) r in
+      omega arith
+
   -- Refused as blocked: after lawful steps stands a reduction whose clause holds an existential that depends.
   pub blocked-depends :
-      rules .afterwards ≢ some Blocked → (place : ℕ) → verdictOf rules prefix clauses steps scratch room ≡ Refused (refusal Blocked place)
-      → RunBlocked F (clausesOf clauses) steps place
-  blocked-depends apart place h = go outcome refl (verdict-passed (Refused (refusal Blocked place)) late h .1)
+      (x : Blocker) → rules .afterwards ≢ some (Blocked x) → (place : ℕ) → verdictOf rules prefix clauses steps scratch room ≡ Refused (refusal (Blocked x) place)
+      → RunBlocked F (clausesOf clauses) steps place x
+  blocked-depends x apart place h = go outcome refl (verdict-passed (Refused (refusal (Blocked x) place)) (blocked-late x place) h .1)
     where
-      late : (q : Refusal) → number (q .reason) ≤ 9 → Refused (refusal Blocked place) ≢ Refused q
-      late q small e =
-          let r : refusal Blocked place ≡ q = cc in
-          let k : 17 ≡ number (q .reason) = ap (λ (r : Refusal). number (r .reason)) r in
-          omega arith
-
       same : (a b : Refusal) → _≡_ {A = Verdict} (Refused a) (Refused b) → a ≡ b
       same a b e = cc
 
-      finish : (final : List Words) (o : Option ℕ) → concluded (zeros clauses) final o ≡ Refused (refusal Blocked place) → ⊥
+      finish : (final : List Words) (o : Option ℕ) → concluded (zeros clauses) final o ≡ Refused (refusal (Blocked x) place) → ⊥
       finish final none e =
-          let q : NoConclusion ≡ Blocked = ap (λ (r : Refusal). r .reason) (same (refusal NoConclusion (length final)) (refusal Blocked place) e) in
+          let q : NoConclusion ≡ Blocked x = ap (λ (r : Refusal). r .reason) (same (refusal NoConclusion (length final)) (refusal (Blocked x) place) e) in
           let z : _≡_ {A = ℕ} 0 1 = cc in
           omega arith
       finish final (some n) e = let z : _≡_ {A = ℕ} 0 1 = cc in omega arith
 
-      go : (o : Outcome) → outcome ≡ o → conclude (zeros clauses) o ≡ Refused (refusal Blocked place) → RunBlocked F (clausesOf clauses) steps place
+      go : (o : Outcome) → outcome ≡ o → conclude (zeros clauses) o ≡ Refused (refusal (Blocked x) place) → RunBlocked F (clausesOf clauses) steps place x
       go (ended final) e k = absurd (finish final (firstEmpty 1 final) k)
       go (refused r) e k =
-          run-blocked rules plain (scopeOf prefix clauses) F (scope-decides prefix clauses) room apart (clausesOf clauses) steps place inputs-no-zero
-          (e ∙ ap refused (same r (refusal Blocked place) k))
+          run-blocked rules plain (scopeOf prefix clauses) F (scope-decides prefix clauses) room x apart (clausesOf clauses) steps place inputs-no-zero
+          (e ∙ ap refused (same r (refusal (Blocked x) place) k))
+
+  -- What blocks is an entry of the prefix: its three words are the variable, 1 and the block.
+  pub blocked-entry :
+      (x : Blocker) → rules .afterwards ≢ some (Blocked x) → (place : ℕ) → verdictOf rules prefix clauses steps scratch room ≡ Refused (refusal (Blocked x) place)
+      → BlockerEntry prefix x
+  blocked-entry x apart place h =
+      let r = blocked-depends x apart place h in
+      named (verdict-passed (Refused (refusal (Blocked x) place)) (blocked-late x place) h .0 .admitted) (numberedClauses (clausesOf clauses) (r .steps)) (r .blocked) (r .blocks)
+    where
+      named : Admitted prefix clauses → (known : List Words) (s : Step) → BlockedStep F known s x → BlockerEntry prefix x
+      named adm known (resolution i j e L) b = absurd b
+      named adm known (reduction i a L) b =
+          let k = length (b .left) in
+          let own : getD (withBlocks (prefixOf prefix)) k noBlocker ≡ x = ap (λ (bs : List Blocker). getD bs k noBlocker) (b .stands) ∙ behind (b .left) (b .right) x in
+          let l : k < entryCount prefix = omega (arith, blocks-length 0 0 (prefixOf prefix), ap {B = ℕ} (λ (bs : List Blocker). length bs) (b .stands), length-append (b .left) (x ∷ b .right)) in
+          let t = admitted-words prefix clauses adm in
+          let v : entryAt prefix k .variable ≡ x .variable .0 = sym (block-variable 0 0 (prefixOf prefix) k l) ∙ ap (λ (c : Blocker). c .variable .0) own in
+          let same : entryAt prefix k ≡ entry (natAbs (b .literal)) existential =
+          distinct-images (λ (y : Entry). y .variable) (prefixOf prefix) (admitted-prefix-distinct prefix clauses adm) (entry-member prefix k l) (b .existential) (v ∙ sym (b .named)) in
+          record {
+            place = k;
+            within = l;
+            variable-word = entry-variable prefix t k l ∙ ap pos v;
+            quantifier-word = entry-quantifier prefix t k l ∙ ap (λ (y : Entry). pos (quantifierNumber (y .quantifier))) same;
+            block-word = entry-block prefix t k l ∙ ap (λ (c : Blocker). pos (c .block)) own;
+          }
 
   -- The input clauses of tables that pass are derived.
   pub inputs-derived : Admitted prefix clauses → AllDerived F (clausesOf clauses)

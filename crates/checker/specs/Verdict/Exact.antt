@@ -11,6 +11,7 @@ use lib.ListN.{length}
 use lib.IntN.{ℤ}
 use Rattle.formula.specs.Decode.{clausesOf, formulaOf}
 use Rattle.formula.specs.Refusal.{refusal}
+use Rattle.formula.specs.declared.refusal.Blocker.{Blocker}
 use Rattle.formula.specs.declared.refusal.Reason.{Reason}
 use Rattle.formula.specs.declared.refusal.Reason.the-variants.{Blocked}
 use Rattle.formula.specs.Tables.{Admitted}
@@ -18,20 +19,27 @@ use Rattle.checker.specs.declared.verdict.Verdict.{Verdict}
 use Rattle.checker.specs.declared.verdict.Verdict.the-variants.{Accepted, Refused}
 use Rattle.checker.specs.Rules.{plainRules}
 use Rattle.checker.specs.Rules.Laws.{plain-kinds}
-use Rattle.checker.specs.Lawful.{numberedClauses, RunBlocked}
+use Rattle.checker.specs.Lawful.{numberedClauses, RunBlocked, BlockerEntry}
 use Rattle.checker.specs.Refutation.{Refutation, FirstEmpty, Within}
 use Rattle.checker.specs.Refutation.FirstEmptyClause.{empty-first}
 use Rattle.checker.specs.Verdict.{verdictOf, IsAccepted}
-use Rattle.checker.specs.Verdict.Accuracy.{numbers-same, accepted-refutation, refutation-accepted, blocked-depends}
+use Rattle.checker.specs.Verdict.Accuracy.{numbers-same, accepted-refutation, refutation-accepted, blocked-depends, blocked-entry}
 
--- After lawful steps stands a reduction whose clause holds an existential that depends. No reason follows an empty clause here.
+-- No reason of 01's rules follows an empty clause.
+apart : (x : Blocker) → _≢_ {A = Option Reason} none (some (Blocked x))
+apart x e = let z : _≡_ {A = ℕ} 0 1 = cc in omega arith
+
+-- After lawful steps stands a reduction whose clause holds an existential that depends, and what blocks is named.
 pub refused-blocked-depends :
-    (prefix clauses words : List ℤ) (scratch offsets place : ℕ) → verdictOf plainRules prefix clauses words scratch offsets ≡ Refused (refusal Blocked place)
-    → RunBlocked (formulaOf prefix clauses) (clausesOf clauses) words place
-refused-blocked-depends prefix clauses words scratch offsets = blocked-depends plainRules plain-kinds prefix clauses words scratch offsets apart
-  where
-    apart : _≢_ {A = Option Reason} none (some Blocked)
-    apart e = let z : _≡_ {A = ℕ} 0 1 = cc in omega arith
+    (prefix clauses words : List ℤ) (scratch offsets place : ℕ) (x : Blocker) → verdictOf plainRules prefix clauses words scratch offsets ≡ Refused (refusal (Blocked x) place)
+    → RunBlocked (formulaOf prefix clauses) (clausesOf clauses) words place x
+refused-blocked-depends prefix clauses words scratch offsets place x = blocked-depends plainRules plain-kinds prefix clauses words scratch offsets x (apart x) place
+
+-- What blocks is an entry of the prefix: its three words are the variable, 1 and the block.
+pub refused-blocked-entry :
+    (prefix clauses words : List ℤ) (scratch offsets place : ℕ) (x : Blocker) → verdictOf plainRules prefix clauses words scratch offsets ≡ Refused (refusal (Blocked x) place)
+    → BlockerEntry prefix x
+refused-blocked-entry prefix clauses words scratch offsets place x = blocked-entry plainRules plain-kinds prefix clauses words scratch offsets x (apart x) place
 
 module _ (prefix clauses words : List ℤ) (scratch offsets : ℕ) (admitted : Admitted prefix clauses) (within : Within clauses words scratch offsets) where
   refuted :

@@ -7,21 +7,23 @@ use Rattle.qbf.specs.Literal.{same}
 use Rattle.qbf.specs.Formula.{after, existentials}
 use Rattle.qbf.specs.Path.{holds as holdsLiteral, together, joined, literals, reach}
 use Rattle.qbf.specs.Dependency.{member, pair, depends}
-use Rattle.formula.specs.Prefix.{prefixOf, quantifies}
-use Rattle.formula.specs.Word.{wordOf}
+use Rattle.formula.specs.Prefix.{prefixOf, blocksFrom, quantifies}
+use Rattle.formula.specs.Prefix.Examples.{e, a}
+use Rattle.formula.specs.Free.{occurs}
+use Rattle.formula.specs.Word.{wordOf, ordinal}
 use Rattle.formula.specs.Decode.{firstClause, clausesOf}
-use Rattle.formula.specs.Tables.{isIn, zeros, prefixRefusal, clausesRefusal, tablesRefusal}
+use Rattle.formula.specs.Tables.{isIn, zeros, prefixRefusal, clausesRefusal, wordsRefusal, tablesRefusal}
 use Rattle.formula.specs.Refusal.{refusal}
 use Rattle.formula.specs.declared.refusal.Reason.the-variants.{NoRoom, WrongPivot, Tautology, Blocked, Misstated, NoConclusion}
 use Rattle.checker.specs.declared.verdict.Verdict.the-variants.{Accepted, Refused}
 use Rattle.checker.specs.Rules.{plainRules}
 use Rattle.checker.specs.Words.{sameWord, isZero, holds, without, closes}
-use Rattle.checker.specs.Steps.{readStep, opposed, lists, covers, states, blocked, judgeResolution, judgeReduction, judgeFirst, run}
+use Rattle.checker.specs.Steps.{readStep, opposed, lists, covers, states, blocked, leftmost, blockerOf, judgeResolution, judgeReduction, judgeFirst, run}
 use Rattle.checker.specs.Verdict.{firstEmpty, sizedVerdict, verdictOf}
 
--- Source document 001's formula: prefix 1 −2 3 4; clauses {2,3} {−2,4} {−4,1} {−1,−3}.
+-- Source document 001's formula: prefix ∃1 ∀2 ∃3 ∃4; clauses {2,3} {−2,4} {−4,1} {−1,−3}.
 abbrev pub examplePrefix : List ℤ
-examplePrefix = pos 1 ∷ negsuc 1 ∷ pos 3 ∷ pos 4 ∷ []
+examplePrefix = e 1 1 (a 2 2 (e 3 3 (e 4 3 [])))
 
 abbrev pub exampleClauses : List ℤ
 exampleClauses = pos 2 ∷ pos 3 ∷ pos 0 ∷ negsuc 1 ∷ pos 4 ∷ pos 0 ∷ negsuc 3 ∷ pos 1 ∷ pos 0 ∷ negsuc 0 ∷ negsuc 2 ∷ pos 0 ∷ []
@@ -39,31 +41,39 @@ exampleSteps x =
 pub positions :
     -- b: accepted, empty clause 9, 5 steps
     (verdictOf plainRules examplePrefix exampleClauses (exampleSteps (pos 4)) 8200 9 ≡ Accepted (record { 0 = 9 }) 5)
-    -- d: a dependent existential is in the clause
+    -- d: a dependent existential is in the clause: 3, in block 2
     × (verdictOf plainRules
-    (negsuc 0 ∷ negsuc 1 ∷ pos 3 ∷ [])
+    (a 1 1 (a 2 1 (e 3 2 [])))
     (pos 1 ∷ pos 2 ∷ negsuc 2 ∷ pos 0 ∷ negsuc 0 ∷ negsuc 1 ∷ pos 3 ∷ pos 0 ∷ [])
     (pos 2 ∷ pos 1 ∷ pos 1 ∷ pos 2 ∷ negsuc 2 ∷ pos 0 ∷ [])
     8200
     3
-    ≡ Refused (refusal Blocked 3))
+    ≡ Refused (refusal (Blocked (record { variable = record { 0 = 3 }; block = 2 })) 3))
+    -- of two dependents the one leftmost in the prefix: 3, neither the smaller nor the first in its clause, which holds −3
+    × (verdictOf plainRules
+    (a 1 1 (e 3 2 (a 4 3 (e 2 4 []))))
+    (pos 1 ∷ pos 2 ∷ negsuc 2 ∷ pos 0 ∷ negsuc 0 ∷ negsuc 1 ∷ pos 3 ∷ pos 0 ∷ [])
+    (pos 2 ∷ pos 1 ∷ pos 1 ∷ pos 2 ∷ negsuc 2 ∷ pos 0 ∷ [])
+    8200
+    3
+    ≡ Refused (refusal (Blocked (record { variable = record { 0 = 3 }; block = 2 })) 3))
     -- f: nothing at all
     × (verdictOf plainRules [] [] [] 8200 0 ≡ Refused (refusal NoConclusion 0))
     -- g: the clause word 0 alone
     × (verdictOf plainRules [] (pos 0 ∷ []) [] 8200 1 ≡ Accepted (record { 0 = 1 }) 0)
     -- h: the step is right, no clause is empty
     × (verdictOf plainRules
-    (pos 1 ∷ negsuc 1 ∷ [])
+    (e 1 1 (a 2 2 []))
     (pos 1 ∷ pos 2 ∷ pos 0 ∷ [])
     (pos 2 ∷ pos 1 ∷ pos 2 ∷ pos 1 ∷ pos 0 ∷ [])
     8200
     2
     ≡ Refused (refusal NoConclusion 2))
     -- i: the empty clause is the step's
-    × (verdictOf plainRules (negsuc 0 ∷ []) (pos 1 ∷ pos 0 ∷ []) (pos 2 ∷ pos 1 ∷ pos 1 ∷ pos 0 ∷ []) 8200 2 ≡ Accepted (record { 0 = 2 }) 1)
+    × (verdictOf plainRules (a 1 1 []) (pos 1 ∷ pos 0 ∷ []) (pos 2 ∷ pos 1 ∷ pos 1 ∷ pos 0 ∷ []) 8200 2 ≡ Accepted (record { 0 = 2 }) 1)
     -- j: a universal pivot
     × (verdictOf plainRules
-    (negsuc 0 ∷ [])
+    (a 1 1 [])
     (pos 1 ∷ pos 0 ∷ negsuc 0 ∷ pos 0 ∷ [])
     (pos 1 ∷ pos 1 ∷ pos 2 ∷ pos 1 ∷ pos 0 ∷ [])
     8200
@@ -71,7 +81,7 @@ pub positions :
     ≡ Refused (refusal WrongPivot 3))
     -- k: the result holds 2 and −2
     × (verdictOf plainRules
-    (pos 1 ∷ pos 2 ∷ [])
+    (e 1 1 (e 2 1 []))
     (pos 1 ∷ pos 2 ∷ pos 0 ∷ negsuc 0 ∷ negsuc 1 ∷ pos 0 ∷ [])
     (pos 1 ∷ pos 1 ∷ pos 2 ∷ pos 1 ∷ pos 2 ∷ negsuc 1 ∷ pos 0 ∷ [])
     8200
@@ -83,5 +93,5 @@ pub positions :
     × (verdictOf plainRules examplePrefix exampleClauses (exampleSteps (pos 4)) 8199 9 ≡ Refused (refusal NoRoom 0))
     × (verdictOf plainRules examplePrefix exampleClauses (exampleSteps (pos 4)) 8200 3 ≡ Refused (refusal NoRoom 4))
     × (verdictOf plainRules examplePrefix exampleClauses (exampleSteps (pos 4)) 8200 8 ≡ Refused (refusal NoRoom 9))
-unfolding prefixOf sameWord isZero holds without firstClause closes readStep opposed lists covers states blocked judgeResolution judgeReduction judgeFirst run firstEmpty sizedVerdict verdictOf wordOf clausesOf isIn zeros prefixRefusal clausesRefusal tablesRefusal same after existentials holdsLiteral together joined literals reach member pair depends ℕ-discrete quantifies
-positions = (refl, refl, refl, refl, refl, refl, refl, refl, refl, refl, refl, refl)
+unfolding prefixOf ordinal blocksFrom occurs leftmost blockerOf sameWord isZero holds without firstClause closes readStep opposed lists covers states blocked judgeResolution judgeReduction judgeFirst run firstEmpty sizedVerdict verdictOf wordOf clausesOf isIn zeros prefixRefusal clausesRefusal wordsRefusal tablesRefusal same after existentials holdsLiteral together joined literals reach member pair depends ℕ-discrete quantifies
+positions = (refl, refl, refl, refl, refl, refl, refl, refl, refl, refl, refl, refl, refl)

@@ -1,5 +1,6 @@
 -- The three tests on the tables decide what they ask of the formula the tables denote. Assumes nothing.
 use mathlib.Core.List.{List}
+use mathlib.Core.Path.{refl}
 use lib.IntN.{ℤ}
 use Rattle.qbf.specs.Formula.{existential, universal}
 use Rattle.qbf.specs.Dependency.Laws.{depends-sound, depends-complete, depends-existential}
@@ -18,4 +19,5 @@ scope-decides prefix clauses =
       universal-complete = quantifies-complete universal (prefixOf prefix);
       dependent-sound = λ u e h. let d = depends-sound (formulaOf prefix clauses) u e h in (depends-existential (formulaOf prefix clauses) u e d, d);
       dependent-complete = λ u e d. depends-complete (formulaOf prefix clauses) u e d;
+      blocks-of = refl;
     }

@@ -12,7 +12,7 @@ use lib.IntN.{ℤ, pos}
 use Rattle.qbf.specs.Play.{Values, satisfied, falsified, lost, Lost, Won}
 use Rattle.qbf.specs.Play.Laws.{lost-any-values, won-exactly}
 use Rattle.formula.specs.Refusal.{refusal}
-use Rattle.formula.specs.Tables.{zeros, clausesRefusal, prefixRefusal, tablesRefusal, Admitted}
+use Rattle.formula.specs.Tables.{zeros, clausesRefusal, prefixRefusal, wordsRefusal, tablesRefusal, Admitted}
 use Rattle.formula.specs.Tables.Laws.{admitted-proper}
 use Rattle.formula.specs.Word.{wordOf}
 use Rattle.formula.specs.Prefix.{prefixOf, entryCount}
@@ -62,5 +62,5 @@ module _ (p c : List ℤ) (a : Admitted p c) (h : entryCount p ≤ gameBound) wh
 
 -- Known positions f and g of 01: no tables at all, and the clause word 0 alone.
 pub evaluation-known : (evaluationOf [] [] ≡ True) × (evaluationOf [] (pos 0 ∷ []) ≡ False)
-unfolding prefixOf evaluationOf tablesRefusal zeros prefixRefusal clausesRefusal wordOf clausesOf lost falsified satisfied
+unfolding prefixOf evaluationOf tablesRefusal wordsRefusal zeros prefixRefusal clausesRefusal wordOf clausesOf lost falsified satisfied
 evaluation-known = (refl, refl)

@@ -8,7 +8,8 @@ use mathlib.Core.List.{List, _++_}
 use lib.Dec.{ltb, eqb}
 use lib.IntN.{ℤ}
 use lib.ListN.{length, getD, take, drop}
-use Rattle.formula.specs.Prefix.{prefixWords}
+use Rattle.qbf.specs.Formula.{Prefix}
+use Rattle.formula.specs.Prefix.{prefixWords, entryWords, entriesIn}
 use Rattle.formula.specs.Free.{passing, existentials}
 use Rattle.formula.specs.declared.free.Completion.{Completion}
 use Rattle.formula.specs.declared.free.Completion.the-variants.{Completed, NoRoom}
@@ -20,20 +21,22 @@ isListed mark = eqb (mark % 2) 1
 unfoldable pub isFreeMark : ℕ → Bool
 isFreeMark mark = ltb 1 mark && not (isListed mark)
 
--- The free ones among the variables from 1 to v, and the words of their entries.
+-- The free ones among the variables from 1 to v.
 abbrev pub freeMarked : List ℕ → ℕ → List ℕ
 freeMarked marks v = passing (λ n. isFreeMark (getD marks n 0)) v
 
-abbrev pub freeWords : List ℕ → ℕ → List ℤ
-freeWords marks v = prefixWords (existentials (freeMarked marks v))
-
 -- The free variables' entries stand first in a table; what is behind them stays.
 pub record FreePut (marks : List ℕ) (v : ℕ) (table table′ : List ℤ) : Type 0 where
-  pub put : take (length (freeWords marks v)) table′ ≡ freeWords marks v
-  pub behind : drop (length (freeWords marks v)) table′ ≡ drop (length (freeWords marks v)) table
+  pub put : entriesIn table′ (length (freeMarked marks v)) ≡ existentials (freeMarked marks v)
+  pub behind : drop (entryWords (length (freeMarked marks v))) table′ ≡ drop (entryWords (length (freeMarked marks v))) table
 
--- What `complete` promises of the prefix table, `used` words of which are used: so many are used then, or there is no room.
+-- The entries of the completed prefix, `used` of which stand in a table.
+abbrev pub completedIn : (marks : List ℕ) (v used : ℕ) (prefix : List ℤ) → Prefix
+completedIn marks v used prefix = existentials (freeMarked marks v) ++ entriesIn prefix used
+
+-- What `complete` promises of the prefix table, in which `used` entries stand: so many words are used then, those of the completed
+-- prefix with its blocks, or there is no room.
 abbrev pub CompletionPost : (marks : List ℕ) (v used : ℕ) (prefix prefix′ : List ℤ) → Completion → Type 0
-CompletionPost marks v used prefix prefix′ (Completed total) =
-    (total ≡ length (freeWords marks v) + used) × (total ≤ length prefix′) × (take total prefix′ ≡ freeWords marks v ++ take used prefix)
-CompletionPost marks v used prefix prefix′ NoRoom = length prefix < length (freeWords marks v) + used
+CompletionPost marks v used prefix prefix′ (Completed words) =
+    (words ≡ entryWords (length (freeMarked marks v) + used)) × (words ≤ length prefix′) × (take words prefix′ ≡ prefixWords (completedIn marks v used prefix))
+CompletionPost marks v used prefix prefix′ NoRoom = length prefix < entryWords (length (freeMarked marks v) + used)

@@ -1,15 +1,16 @@
 -- Laws of free variables: which numbers pass a test, in which order they stand, and what the completion of a prefix is. Assumes nothing.
 use Prim.Native.Nat.{ℕ, zero, suc, _≤_, _<_}
 use mathlib.Core.Path.{_≡_, refl, ap, sym, _∙_}
-use mathlib.Core.Bool.{Bool, true, false, not, _&&_, _||_, cond, and-false, and-true, or-false, or-assoc, not-or-self}
-use mathlib.Core.List.{List, [], _∷_, _++_}
+use mathlib.Core.Bool.{Bool, true, false, not, _&&_, _||_, cond, and-false, and-true, or-false, or-assoc, not-or-self, false≢true}
+use mathlib.Core.Logic.{_⊎_, inl, inr}
+use mathlib.Core.List.{List, [], _∷_, _++_, List·Memᴰ, List·Memᴰ·head, List·Memᴰ·tail, List·Memᴰ·not-nil, List·Memᴰ·cases-cons}
 use native.Mathlib.Decide.{ℕ-discrete}
 use native.Mathlib.Omega.{arith}
-use borrow.Author.Tests.{eq-eqb, ne-eqb, not-true}
+use borrow.Author.Tests.{eqb-true, eq-eqb, ne-eqb, not-true}
 use lib.Dec.{eqb}
 use lib.IntN.{ℤ, natAbs}
 use lib.ListN.{length, length-append}
-use Rattle.qbf.specs.Connectives.{and-both}
+use Rattle.qbf.specs.Connectives.{and-both, or-either, or-right}
 use Rattle.qbf.specs.Formula.{Prefix, listed}
 use Rattle.formula.specs.Tables.{isIn}
 use Rattle.formula.specs.Free.{occurs, isFree, passing, free, existentials, completed, Rising, Completes}
@@ -19,6 +20,27 @@ pub in-append : (n : ℕ) (xs ys : List ℕ) → isIn n (xs ++ ys) ≡ (isIn n x
 unfolding isIn
 in-append n [] ys = refl
 in-append n (x ∷ xs) ys = rw (in-append n xs ys) (sym (or-assoc (eqb n x) (isIn n xs) (isIn n ys)))
+
+-- A variable occurs exactly where a word of it stands.
+pub occurs-found : (n : ℕ) (ws : List ℤ) → occurs n ws ≡ true → (x : ℤ) × List·Memᴰ x ws × (natAbs x ≡ n)
+unfolding occurs
+occurs-found n [] h = absurd (false≢true h)
+occurs-found n (w ∷ ws) h = go (or-either (eqb n (natAbs w)) (occurs n ws) h) (occurs-found n ws)
+  where
+    go :
+        (eqb n (natAbs w) ≡ true) ⊎ (occurs n ws ≡ true)
+        → (occurs n ws ≡ true → (x : ℤ) × List·Memᴰ x ws × (natAbs x ≡ n)) → (x : ℤ) × List·Memᴰ x (w ∷ ws) × (natAbs x ≡ n)
+    go (inl e) later = (w, List·Memᴰ·head refl, sym (eqb-true n (natAbs w) e))
+    go (inr k) later = let t = later k in (t .0, List·Memᴰ·tail (t .1), t .2)
+
+pub occurs-member : (ws : List ℤ) (x : ℤ) → List·Memᴰ x ws → occurs (natAbs x) ws ≡ true
+unfolding occurs
+occurs-member [] x m = absurd (List·Memᴰ·not-nil m)
+occurs-member (w ∷ ws) x m = go (List·Memᴰ·cases-cons m) (occurs-member ws x)
+  where
+    go : (x ≡ w) ⊎ List·Memᴰ x ws → (List·Memᴰ x ws → occurs (natAbs x) ws ≡ true) → (eqb (natAbs x) (natAbs w) || occurs (natAbs x) ws) ≡ true
+    go (inl e) later = rw (eq-eqb (natAbs x) (natAbs w) (ap natAbs e))
+    go (inr k) later = or-right (eqb (natAbs x) (natAbs w)) (occurs (natAbs x) ws) (later k)
 
 pub occurs-append : (n : ℕ) (ws vs : List ℤ) → occurs n (ws ++ vs) ≡ (occurs n ws || occurs n vs)
 unfolding occurs

@@ -1,87 +1,90 @@
--- Laws of the prefix table: how many entries there are, the entry at a place and those after it, and an entry put behind the
--- words used. Definitions: Prefix. Assumes nothing.
-use Prim.Native.Nat.{ℕ, zero, suc, _+_, _≤_, _<_}
+-- Laws of the prefix table: how many entries there are, the entry at a place and those after it, entries to words and back, blocks, an
+-- entry put behind others, blocks numbered. Definitions: Prefix. Assumes nothing.
+use Prim.Native.Nat.{ℕ, zero, suc, _+_, _-_, _*_, _/_, _≤_, _<_}
 use mathlib.Core.Path.{_≡_, refl, ap, sym, _∙_}
 use mathlib.Core.Logic.{_⊎_, inl, inr}
-use mathlib.Core.Bool.{true, false, _&&_, _||_, false≢true}
-use mathlib.Core.List.{List, [], _∷_, _++_, map, List·Memᴰ, List·Memᴰ·head, List·Memᴰ·tail, List·Memᴰ·not-nil, List·Memᴰ·cases-cons, Memᴰ·map, Memᴰ·of-map}
+use mathlib.Core.Bool.{Bool, true, false, cond, _&&_, _||_, false≢true}
+use mathlib.Core.List.{List, [], _∷_, _++_, append-nil, append-assoc, List·Memᴰ, List·Memᴰ·head, List·Memᴰ·tail, List·Memᴰ·not-nil, List·Memᴰ·cases-cons}
 use native.Mathlib.Decide.{ℕ-discrete}
-use native.Mathlib.Numerals.{add-one}
 use native.Mathlib.Nat.{le-of-suc-le-suc, not-suc-le-zero}
 use native.Mathlib.Omega.{arith}
-use borrow.Author.Tests.{ltb-true, lt-ltb, eqb-true, eq-eqb}
-use lib.ListN.{length, getD, set, take, drop, length-set, length-drop}
+use borrow.Author.Tests.{leb-true, le-leb, eqb-true, eq-eqb}
+use lib.ListN.{length, getD, set, take, drop, length-set, length-drop, drop-of-length-le}
 use lib.Dec.{eqb}
-use lib.Seq.{drop-cons, drop-set-lt, take-suc-set, getD-set-same, getD-set-other, getD-take, getD-drop, ext-getD, length-take-le}
-use lib.IntN.{ℤ, pos, negsuc, negℤ, natAbs}
-use Rattle.qbf.specs.Formula.{Quantifier, existential, universal, Entry, entry, Prefix, listed}
+use lib.Seq.{drop-cons, drop-set-lt, take-suc-set, take-all, take-add, getD-set-same, getD-set-other, getD-take, getD-drop, ext-getD, length-take-le}
+use lib.IntN.{ℤ, pos}
+use Rattle.qbf.specs.Formula.{Quantifier, existential, universal, Entry, entry, Prefix}
 use Rattle.qbf.specs.Connectives.{and-both, or-either, or-right}
 use Rattle.formula.specs.Bounds.{variableBound}
-use Rattle.formula.specs.Word.{wordOf}
-use Rattle.formula.specs.Word.Laws.{positive-word, negative-word, negative-bounded}
-use Rattle.formula.specs.Prefix.{entryOf, prefixOf, signedBy, entryWord, prefixWords, entryCount, entryAt, laterEntries, entryFits, putEntry, usedAfter, entryWords, Moved, entryShown, isQuantifier, quantifies, Entries}
+use Rattle.formula.specs.Word.{wordOf, ordinal}
+use Rattle.formula.specs.Word.Laws.{ordinal-number}
+use Rattle.formula.specs.Refusal.{noBlocker}
+use Rattle.formula.specs.Prefix.{quantifierNumber, quantifierAs, prefixOf, nextBlock, blocksFrom, withBlocks, wordsFrom, prefixWords, IsTable, entryCount, entryAt, laterEntries, entryWords, entriesIn, entryFits, putEntry, Moved, entryShown, quantifierOf, isQuantifier, quantifies, AllRanged, Entries}
 use Rattle.formula.specs.declared.literal.Variable.{Variable}
-use Rattle.formula.specs.declared.word.Word.the-variants.{Positive, Negative}
+use Rattle.formula.specs.declared.refusal.Blocker.{Blocker}
 use Rattle.formula.specs.declared.prefix.Entry.the-variants.{Existential, Universal}
 
--- One entry a word.
-pub entry-count : (ws : List ℤ) → entryCount ws ≡ length ws
-unfolding prefixOf
-entry-count [] = refl
-entry-count (w ∷ ws) = ap suc (entry-count ws)
+-- How many words entries have.
+pub words-more : (n : ℕ) → entryWords (suc n) ≡ suc (suc (suc (entryWords n)))
+unfolding entryWords
+words-more n = omega arith
 
-pub entry-variable : (w : ℤ) → entryOf w .variable ≡ natAbs w
-entry-variable (pos v) = refl
-entry-variable (negsuc n) = refl
+pub words-sum : (m n : ℕ) → entryWords (m + n) ≡ entryWords m + entryWords n
+unfolding entryWords
+words-sum m n = omega arith
 
-pub prefix-variables : (ws : List ℤ) → listed (prefixOf ws) ≡ map natAbs ws
+pub words-rise : (m n : ℕ) → m ≤ n → entryWords m ≤ entryWords n
+unfolding entryWords
+words-rise m n h = omega arith
+
+-- An entry is three words, and what is left over are fewer.
+count-within : (ws : List ℤ) → (3 * entryCount ws ≤ length ws) × (length ws < 3 * entryCount ws + 3)
 unfolding prefixOf
-prefix-variables [] = refl
-prefix-variables (w ∷ ws) = rw (entry-variable w, prefix-variables ws)
+count-within [] = (omega arith, omega arith)
+count-within (v ∷ []) = (omega arith, omega arith)
+count-within (v ∷ q ∷ []) = (omega arith, omega arith)
+count-within (v ∷ q ∷ b ∷ ws) = let k = count-within ws in (omega (arith, k .0), omega (arith, k .1))
+
+pub entry-count : (ws : List ℤ) → entryCount ws ≡ length ws / 3
+entry-count ws = let k = count-within ws in omega (arith, k .0, k .1)
+
+pub entry-words : (ws : List ℤ) → (entryWords (entryCount ws) ≤ length ws) × (length ws < entryWords (entryCount ws) + 3)
+unfolding entryWords
+entry-words ws = count-within ws
 
 -- Entries to words and back.
-pub prefix-words : (ws : List ℤ) → prefixWords (prefixOf ws) ≡ ws
-unfolding prefixOf prefixWords entryWord
-prefix-words [] = refl
-prefix-words (pos v ∷ ws) = ap {B = List ℤ} (λ r. pos v ∷ r) (prefix-words ws)
-prefix-words (negsuc n ∷ ws) = ap {B = List ℤ} (λ r. negsuc n ∷ r) (prefix-words ws)
+from-length : (last b : ℕ) (P : Prefix) → length (wordsFrom last b P) ≡ entryWords (length P)
+unfolding wordsFrom entryWords
+from-length last b [] = refl
+from-length last b (x ∷ P) = omega (arith, from-length (quantifierNumber (x .quantifier)) (nextBlock last b (quantifierNumber (x .quantifier))) P)
+
+pub words-length : (P : Prefix) → length (prefixWords P) ≡ entryWords (length P)
+words-length P = from-length 0 0 P
+
+number-back : (q : Quantifier) → quantifierAs (ordinal (pos (quantifierNumber q))) ≡ q
+unfolding ordinal wordOf
+number-back existential = refl
+number-back universal = refl
+
+pub words-entries : (last b : ℕ) (P : Prefix) → AllRanged P → prefixOf (wordsFrom last b P) ≡ P
+unfolding wordsFrom prefixOf
+words-entries last b [] h = refl
+words-entries last b (x ∷ P) h =
+    let later = words-entries (quantifierNumber (x .quantifier)) (nextBlock last b (quantifierNumber (x .quantifier))) P (λ y m. h y (List·Memᴰ·tail m)) in
+    rw (ordinal-number (x .variable) (h x (List·Memᴰ·head refl) .1), number-back (x .quantifier), later)
 
 pub prefix-none : prefixOf [] ≡ []
 unfolding prefixOf
 prefix-none = refl
 
-pub prefix-append : (ws vs : List ℤ) → prefixOf (ws ++ vs) ≡ prefixOf ws ++ prefixOf vs
-unfolding prefixOf
-prefix-append [] vs = refl
-prefix-append (w ∷ ws) vs = ap {B = Prefix} (λ r. entryOf w ∷ r) (prefix-append ws vs)
-
--- The variables of entries, told from their words.
-signed-magnitude : (q : Quantifier) (v : ℕ) → natAbs (signedBy q v) ≡ v
-signed-magnitude existential v = refl
-signed-magnitude universal zero = refl
-signed-magnitude universal (suc n) = refl
-
-pub words-listed : (P : Prefix) → listed (prefixOf (prefixWords P)) ≡ listed P
-unfolding prefixOf prefixWords entryWord
-words-listed [] = refl
-words-listed (x ∷ P) = rw (entry-variable (entryWord x), signed-magnitude (x .quantifier) (x .variable), words-listed P)
-
--- An entry of a variable other than 0 is that of its words.
-pub words-entry : (q : Quantifier) (v : ℕ) → 1 ≤ v → prefixOf (prefixWords (entry v q ∷ [])) ≡ entry v q ∷ []
-unfolding prefixOf prefixWords entryWord
-words-entry q zero h = absurd (not-suc-le-zero h)
-words-entry existential (suc n) h = refl
-words-entry universal (suc n) h = refl
-
-pub words-append : (P Q : Prefix) → prefixWords (P ++ Q) ≡ prefixWords P ++ prefixWords Q
-unfolding prefixWords
-words-append [] Q = refl
-words-append (x ∷ P) Q = ap {B = List ℤ} (λ r. entryWord x ∷ r) (words-append P Q)
-
-pub words-length : (P : Prefix) → length (prefixWords P) ≡ entryWords (length P)
-unfolding prefixWords entryWords
-words-length [] = refl
-words-length (x ∷ P) = ap suc (words-length P)
+-- Entries in front, in threes, then others.
+pub prefix-append : (n : ℕ) (ws vs : List ℤ) → length ws ≡ entryWords n → prefixOf (ws ++ vs) ≡ prefixOf ws ++ prefixOf vs
+unfolding prefixOf entryWords
+prefix-append n [] vs h = refl
+prefix-append n (v ∷ []) vs h = absurd (omega arith)
+prefix-append n (v ∷ q ∷ []) vs h = absurd (omega arith)
+prefix-append n (v ∷ q ∷ b ∷ ws) vs h =
+    ap {B = Prefix} (λ r. entry (ordinal v) (quantifierAs (ordinal q)) ∷ r) (prefix-append (n - 1) ws vs (omega arith))
 
 -- The entry at a place, then those after it.
 pub entries-drop : (ws : List ℤ) (i : ℕ) → i < entryCount ws → drop i (prefixOf ws) ≡ entryAt ws i ∷ drop (suc i) (prefixOf ws)
@@ -91,12 +94,13 @@ entries-drop ws i h = drop-cons (prefixOf ws) i (entry 0 existential) h
 pub later-entries : (ws : List ℤ) → prefixOf (laterEntries ws) ≡ drop 1 (prefixOf ws)
 unfolding prefixOf laterEntries
 later-entries [] = refl
-later-entries (w ∷ ws) = refl
+later-entries (v ∷ []) = refl
+later-entries (v ∷ q ∷ []) = refl
+later-entries (v ∷ q ∷ b ∷ ws) = refl
 
 pub later-shorter : (ws : List ℤ) → 0 < entryCount ws → length (laterEntries ws) < length ws
-unfolding prefixOf laterEntries
-later-shorter [] h = absurd (not-suc-le-zero h)
-later-shorter (w ∷ ws) h = omega arith
+unfolding laterEntries
+later-shorter ws h = omega (arith, length-drop 3 ws, entry-count ws)
 
 -- What the code is shown of an entry.
 pub shown-existential : (x : Entry) (v : Variable) → entryShown x ≡ Existential v → x ≡ entry (v .0) existential
@@ -113,40 +117,104 @@ shown-universal x v e = go (x .quantifier) refl
     go existential p = let k = rw p at e in let z : _≡_ {A = ℕ} 0 1 = cc in absurd (omega arith)
     go universal p = let k = rw p at e in let z : x .variable ≡ v .0 = cc in λ i. record { variable = z i; quantifier = p i }
 
--- The entry at a place is that of its word; what the word is recognised as shows it.
-pub entry-word : (ws : List ℤ) (i : ℕ) → i < length ws → entryAt ws i ≡ entryOf (getD ws i (pos 0))
+-- The entry at a place is that of its words, its block the third of them.
+pub entry-word : (ws : List ℤ) (i : ℕ) → i < entryCount ws → entryAt ws i ≡ entry (ordinal (getD ws (3 * i) (pos 0))) (quantifierAs (ordinal (getD ws (3 * i + 1) (pos 0))))
 unfolding prefixOf
 entry-word [] i h = absurd (not-suc-le-zero h)
-entry-word (w ∷ ws) zero h = refl
-entry-word (w ∷ ws) (suc i) h = entry-word ws i (le-of-suc-le-suc h)
+entry-word (v ∷ []) i h = absurd (not-suc-le-zero h)
+entry-word (v ∷ q ∷ []) i h = absurd (not-suc-le-zero h)
+entry-word (v ∷ q ∷ b ∷ ws) zero h = refl
+entry-word (v ∷ q ∷ b ∷ ws) (suc i) h =
+    let d : 3 * suc i ≡ suc (suc (suc (3 * i))) = omega arith in
+    let k : suc (suc (suc (3 * i))) + 1 ≡ suc (suc (suc (3 * i + 1))) = omega arith in
+    rw (d, k) (entry-word ws i (le-of-suc-le-suc h))
 
-pub entry-positive : (w : ℤ) (v : Variable) → wordOf w ≡ Positive v → Existential v ≡ entryShown (entryOf w)
-entry-positive w v e = rw (positive-word w v e)
+block-at : (last b : ℕ) (P : Prefix) (i : ℕ) → i < length P → getD (wordsFrom last b P) (3 * i + 2) (pos 0) ≡ pos (getD (blocksFrom last b P) i noBlocker .block)
+unfolding wordsFrom blocksFrom
+block-at last b [] i h = absurd (not-suc-le-zero h)
+block-at last b (x ∷ P) zero h = refl
+block-at last b (x ∷ P) (suc i) h =
+    let d : 3 * suc i + 2 ≡ suc (suc (suc (3 * i + 2))) = omega arith in
+    rw d (block-at (quantifierNumber (x .quantifier)) (nextBlock last b (quantifierNumber (x .quantifier))) P i (le-of-suc-le-suc h))
 
-pub entry-negative : (w : ℤ) (v : Variable) → wordOf w ≡ Negative v → Universal v ≡ entryShown (entryOf w)
-entry-negative w v e = rw (negative-word w v e) (shown (v .0) (negative-bounded w v e .0))
+pub entry-block : (ws : List ℤ) → IsTable ws → (i : ℕ) → i < entryCount ws → getD ws (3 * i + 2) (pos 0) ≡ pos (getD (withBlocks (prefixOf ws)) i noBlocker .block)
+entry-block ws t i h = ap (λ (us : List ℤ). getD us (3 * i + 2) (pos 0)) (sym t) ∙ block-at 0 0 (prefixOf ws) i h
+
+variable-at : (last b : ℕ) (P : Prefix) (i : ℕ) → i < length P → getD (wordsFrom last b P) (3 * i) (pos 0) ≡ pos (getD P i (entry 0 existential) .variable)
+unfolding wordsFrom
+variable-at last b [] i h = absurd (not-suc-le-zero h)
+variable-at last b (x ∷ P) zero h = refl
+variable-at last b (x ∷ P) (suc i) h =
+    let d : 3 * suc i ≡ suc (suc (suc (3 * i))) = omega arith in
+    rw d (variable-at (quantifierNumber (x .quantifier)) (nextBlock last b (quantifierNumber (x .quantifier))) P i (le-of-suc-le-suc h))
+
+quantifier-at : (last b : ℕ) (P : Prefix) (i : ℕ) → i < length P → getD (wordsFrom last b P) (3 * i + 1) (pos 0) ≡ pos (quantifierNumber (getD P i (entry 0 existential) .quantifier))
+unfolding wordsFrom
+quantifier-at last b [] i h = absurd (not-suc-le-zero h)
+quantifier-at last b (x ∷ P) zero h = refl
+quantifier-at last b (x ∷ P) (suc i) h =
+    let d : 3 * suc i + 1 ≡ suc (suc (suc (3 * i + 1))) = omega arith in
+    rw d (quantifier-at (quantifierNumber (x .quantifier)) (nextBlock last b (quantifierNumber (x .quantifier))) P i (le-of-suc-le-suc h))
+
+pub entry-variable : (ws : List ℤ) → IsTable ws → (i : ℕ) → i < entryCount ws → getD ws (3 * i) (pos 0) ≡ pos (entryAt ws i .variable)
+entry-variable ws t i h = ap (λ (us : List ℤ). getD us (3 * i) (pos 0)) (sym t) ∙ variable-at 0 0 (prefixOf ws) i h
+
+pub entry-quantifier : (ws : List ℤ) → IsTable ws → (i : ℕ) → i < entryCount ws → getD ws (3 * i + 1) (pos 0) ≡ pos (quantifierNumber (entryAt ws i .quantifier))
+entry-quantifier ws t i h = ap (λ (us : List ℤ). getD us (3 * i + 1) (pos 0)) (sym t) ∙ quantifier-at 0 0 (prefixOf ws) i h
+
+pub block-variable : (last b : ℕ) (P : Prefix) (i : ℕ) → i < length P → getD (blocksFrom last b P) i noBlocker .variable .0 ≡ getD P i (entry 0 existential) .variable
+unfolding blocksFrom
+block-variable last b [] i h = absurd (not-suc-le-zero h)
+block-variable last b (x ∷ P) zero h = refl
+block-variable last b (x ∷ P) (suc i) h = block-variable (quantifierNumber (x .quantifier)) (nextBlock last b (quantifierNumber (x .quantifier))) P i (le-of-suc-le-suc h)
+
+-- There is one for each entry, with its variable.
+pub blocks-length : (last b : ℕ) (P : Prefix) → length (blocksFrom last b P) ≡ length P
+unfolding blocksFrom
+blocks-length last b [] = refl
+blocks-length last b (x ∷ P) = ap suc (blocks-length (quantifierNumber (x .quantifier)) (nextBlock last b (quantifierNumber (x .quantifier))) P)
+
+pub blocks-listed : (last b : ℕ) (P : Prefix) (x : Entry) → List·Memᴰ x P → (c : Blocker) × List·Memᴰ c (blocksFrom last b P) × (c .variable .0 ≡ x .variable)
+unfolding blocksFrom
+blocks-listed last b [] x m = absurd (List·Memᴰ·not-nil m)
+blocks-listed last b (y ∷ P) x m =
+    go (List·Memᴰ·cases-cons m) (blocks-listed (quantifierNumber (y .quantifier)) (nextBlock last b (quantifierNumber (y .quantifier))) P x)
   where
-    shown : (n : ℕ) → 1 ≤ n → Universal (record { 0 = n }) ≡ entryShown (entryOf (negℤ (pos n)))
-    shown zero l = absurd (not-suc-le-zero l)
-    shown (suc n) l = refl
+    go :
+        (x ≡ y) ⊎ List·Memᴰ x P
+        → (List·Memᴰ x P → (c : Blocker) × List·Memᴰ c (blocksFrom (quantifierNumber (y .quantifier)) (nextBlock last b (quantifierNumber (y .quantifier))) P) × (c .variable .0 ≡ x .variable))
+        → (c : Blocker) × List·Memᴰ c (blocksFrom last b (y ∷ P)) × (c .variable .0 ≡ x .variable)
+    go (inl e) later = (
+      record { variable = record { 0 = y .variable }; block = nextBlock last b (quantifierNumber (y .quantifier)) },
+      List·Memᴰ·head refl,
+      ap (λ (z : Entry). z .variable) (sym e),
+    )
+    go (inr k) later = let c = later k in (c .0, List·Memᴰ·tail (c .1), c .2)
 
--- A word of the table is that of an entry, and an entry that of a word; the words of a table of entries are variables'.
-pub word-entry : {w : ℤ} {ws : List ℤ} → List·Memᴰ w ws → List·Memᴰ (entryOf w) (prefixOf ws)
-unfolding prefixOf
-word-entry m = Memᴰ·map entryOf m
-
-pub entry-from : (ws : List ℤ) {x : Entry} → List·Memᴰ x (prefixOf ws) → (w : ℤ) × List·Memᴰ w ws × (entryOf w ≡ x)
-unfolding prefixOf
-entry-from ws m = Memᴰ·of-map entryOf ws m
-
-pub words-ranged : (ws : List ℤ) → ((w : ℤ) → List·Memᴰ w ws → (1 ≤ natAbs w) × (natAbs w ≤ variableBound)) → Entries ws
-words-ranged ws h = record { ranged = λ x m. of-word x (entry-from ws m) }
+pub blocks-ranged : (last b : ℕ) (P : Prefix) → AllRanged P → (c : Blocker) → List·Memᴰ c (blocksFrom last b P) → c .variable .0 ≤ variableBound
+unfolding blocksFrom
+blocks-ranged last b [] r c m = absurd (List·Memᴰ·not-nil m)
+blocks-ranged last b (x ∷ P) r c m =
+    go (List·Memᴰ·cases-cons m)
+    (blocks-ranged (quantifierNumber (x .quantifier)) (nextBlock last b (quantifierNumber (x .quantifier))) P (λ y k. r y (List·Memᴰ·tail k)) c)
   where
-    of-word : (x : Entry) → ((w : ℤ) × List·Memᴰ w ws × (entryOf w ≡ x)) → (1 ≤ x .variable) × (x .variable ≤ variableBound)
-    of-word x t = rw (← t .2, entry-variable (t .0)) (h (t .0) (t .1))
+    first : Blocker
+    first = record { variable = record { 0 = x .variable }; block = nextBlock last b (quantifierNumber (x .quantifier)) }
 
-pub ranged-words : (ws : List ℤ) → Entries ws → (w : ℤ) → List·Memᴰ w ws → (1 ≤ natAbs w) × (natAbs w ≤ variableBound)
-ranged-words ws h w m = rw (← entry-variable w) (h .ranged (entryOf w) (word-entry m))
+    go :
+        (c ≡ first) ⊎ List·Memᴰ c (blocksFrom (quantifierNumber (x .quantifier)) (nextBlock last b (quantifierNumber (x .quantifier))) P)
+        → (List·Memᴰ c (blocksFrom (quantifierNumber (x .quantifier)) (nextBlock last b (quantifierNumber (x .quantifier))) P) → c .variable .0 ≤ variableBound)
+        → c .variable .0 ≤ variableBound
+    go (inl e) later = let v = r x (List·Memᴰ·head refl) .1 in let k : c .variable .0 ≡ x .variable = ap (λ (d : Blocker). d .variable .0) e in omega arith
+    go (inr k) later = later k
+
+-- A block is at most one more than the one before.
+pub block-bound : (last b q : ℕ) → nextBlock last b q ≤ b + 1
+block-bound last b q = go (eqb q last)
+  where
+    go : (e : Bool) → cond e b (b + 1) ≤ b + 1
+    go true = omega arith
+    go false = omega arith
 
 -- The entry at a place is one of them, and in range where all are.
 member-at : (P : Prefix) (i : ℕ) → i < length P → List·Memᴰ (getD P i (entry 0 existential)) P
@@ -160,48 +228,146 @@ entry-member ws i h = member-at (prefixOf ws) i h
 pub entry-at-ranged : (ws : List ℤ) → Entries ws → (i : ℕ) → i < entryCount ws → (1 ≤ entryAt ws i .variable) × (entryAt ws i .variable ≤ variableBound)
 entry-at-ranged ws h i l = h .ranged (entryAt ws i) (entry-member ws i l)
 
-pub entry-ranged : (ws : List ℤ) → Entries ws → (i : ℕ) → i < length ws → (1 ≤ natAbs (getD ws i (pos 0))) × (natAbs (getD ws i (pos 0)) ≤ variableBound)
-entry-ranged ws h i l = rw (← entry-variable (getD ws i (pos 0)), ← entry-word ws i l) (entry-at-ranged ws h i (rw (entry-count ws) l))
+-- An entry put behind others.
+pub entry-room : (room n : ℕ) → entryWords (suc n) ≤ room → entryFits room n ≡ true
+unfolding entryFits
+entry-room room n h = le-leb (entryWords (suc n)) room h
 
--- An entry put behind the words used.
-pub put-entry : (ws : List ℤ) (used : ℕ) (x : Entry) → entryFits (length ws) used ≡ true → take (usedAfter used) (putEntry ws used x) ≡ take used ws ++ prefixWords (x ∷ [])
-unfolding entryFits usedAfter putEntry prefixWords
-put-entry ws used x h = rw add-one (take-suc-set ws used (entryWord x) (ltb-true used (length ws) h))
+pub put-within : (room n : ℕ) → entryFits room n ≡ true → entryWords (suc n) ≤ room
+unfolding entryFits
+put-within room n h = leb-true (entryWords (suc n)) room h
+
+pub put-same : (ws : List ℤ) (n : ℕ) (x : Entry) (b : ℕ) → length (putEntry ws n x b) ≡ length ws
+unfolding putEntry
+put-same ws n x b = simp length-set refl
+
+pub put-before : (ws : List ℤ) (n : ℕ) (x : Entry) (b k : ℕ) → entryWords (suc n) ≤ k → drop k (putEntry ws n x b) ≡ drop k ws
+unfolding putEntry entryWords
+put-before ws n x b k h =
+    drop-set-lt k _ (3 * n + 2) (pos b) (omega arith)
+    ∙ drop-set-lt k _ (3 * n + 1) (pos (quantifierNumber (x .quantifier))) (omega arith)
+    ∙ drop-set-lt k ws (3 * n) (pos (x .variable)) (omega arith)
+
+-- The three words of an entry.
+abbrev recordOf : Entry → ℕ → List ℤ
+recordOf x b = pos (x .variable) ∷ pos (quantifierNumber (x .quantifier)) ∷ pos b ∷ []
+
+pub put-words : (ws : List ℤ) (n : ℕ) (x : Entry) (b : ℕ) → entryFits (length ws) n ≡ true → take (entryWords (suc n)) (putEntry ws n x b) ≡ take (entryWords n) ws ++ recordOf x b
+unfolding putEntry
+put-words ws n x b h = go (entryWords n) (entryWords (suc n)) (words-more n) (put-within (length ws) n h)
+  where
+    go : (k m : ℕ) → m ≡ suc (suc (suc k)) → m ≤ length ws → take m (set (set (set ws k (pos (x .variable))) (k + 1) (pos (quantifierNumber (x .quantifier)))) (k + 2) (pos b)) ≡ take k ws ++ recordOf x b
+    go k m e l =
+        let one : k + 1 ≡ suc k = omega arith in
+        let two : k + 2 ≡ suc (suc k) = omega arith in
+        rw (e, one, two)
+        (take-suc-set (set (set ws k (pos (x .variable))) (suc k) (pos (quantifierNumber (x .quantifier)))) (suc (suc k)) (pos b) (simp length-set (omega arith))
+        ∙ rw (take-suc-set (set ws k (pos (x .variable))) (suc k) (pos (quantifierNumber (x .quantifier))) (simp length-set (omega arith)), take-suc-set ws k (pos (x .variable)) (omega arith))
+        (append-assoc (take k ws ++ (pos (x .variable) ∷ [])) (pos (quantifierNumber (x .quantifier)) ∷ []) (pos b ∷ [])
+        ∙ append-assoc (take k ws) (pos (x .variable) ∷ []) (pos (quantifierNumber (x .quantifier)) ∷ pos b ∷ [])))
 
 pub put-entries :
-    (ws : List ℤ) (used v : ℕ) (q : Quantifier) → entryFits (length ws) used ≡ true → 1 ≤ v
-    → prefixOf (take (usedAfter used) (putEntry ws used (entry v q))) ≡ prefixOf (take used ws) ++ (entry v q ∷ [])
-put-entries ws used v q h l =
-    rw (put-entry ws used (entry v q) h, prefix-append (take used ws) (prefixWords (entry v q ∷ [])), words-entry q v l)
+    (ws : List ℤ) (n v : ℕ) (q : Quantifier) (b : ℕ) → entryFits (length ws) n ≡ true → v ≤ variableBound
+    → entriesIn (putEntry ws n (entry v q) b) (suc n) ≡ entriesIn ws n ++ (entry v q ∷ [])
+unfolding entriesIn prefixOf
+put-entries ws n v q b h l =
+    rw (put-words ws n (entry v q) b h)
+    (prefix-append n (take (entryWords n) ws) (recordOf (entry v q) b) (length-take-le (entryWords n) ws (omega (arith, put-within (length ws) n h, words-more n)))
+    ∙ rw (ordinal-number v l, number-back q))
 
--- How many words are used then; a table keeps its length, and what is behind the entry.
-pub used-after : (used : ℕ) (x : Entry) → usedAfter used ≡ used + length (prefixWords (x ∷ []))
-unfolding usedAfter prefixWords
-used-after used x = refl
+-- So many entries of a table.
+pub entries-length : (ws : List ℤ) (n : ℕ) → entryWords n ≤ length ws → length (entriesIn ws n) ≡ n
+unfolding entriesIn entryWords
+entries-length ws n h = omega (arith, entry-count (take (3 * n) ws), length-take-le (3 * n) ws h)
 
-pub put-same : (ws : List ℤ) (used : ℕ) (x : Entry) → length (putEntry ws used x) ≡ length ws
+pub entries-sum : (ws : List ℤ) (m n : ℕ) → entryWords m ≤ length ws → entriesIn ws (m + n) ≡ entriesIn ws m ++ prefixOf (take (entryWords n) (drop (entryWords m) ws))
+unfolding entriesIn
+entries-sum ws m n h =
+    rw (words-sum m n, take-add (entryWords m) (entryWords n) ws)
+    (prefix-append m (take (entryWords m) ws) (take (entryWords n) (drop (entryWords m) ws)) (length-take-le (entryWords m) ws h))
+
+pub entries-none : (ws : List ℤ) → entriesIn ws 0 ≡ []
+unfolding entriesIn entryWords prefixOf
+entries-none ws = refl
+
+-- An entry put in its own place leaves the entries as they are.
+put-first : (v q b : ℤ) (ws : List ℤ) (x : Entry) (c : ℕ) → putEntry (v ∷ q ∷ b ∷ ws) 0 x c ≡ recordOf x c ++ ws
+unfolding putEntry entryWords
+put-first v q b ws x c = refl
+
+put-later : (v q b : ℤ) (ws : List ℤ) (n : ℕ) (x : Entry) (c : ℕ) → putEntry (v ∷ q ∷ b ∷ ws) (suc n) x c ≡ v ∷ q ∷ b ∷ putEntry ws n x c
 unfolding putEntry
-put-same ws used x = length-set ws used (entryWord x)
+put-later v q b ws n x c =
+    let one : suc (suc (suc (entryWords n))) + 1 ≡ suc (suc (suc (entryWords n + 1))) = omega arith in
+    let two : suc (suc (suc (entryWords n))) + 2 ≡ suc (suc (suc (entryWords n + 2))) = omega arith in
+    rw (words-more n, one, two)
 
-pub put-before : (ws : List ℤ) (used : ℕ) (x : Entry) (k : ℕ) → usedAfter used ≤ k → drop k (putEntry ws used x) ≡ drop k ws
-unfolding putEntry usedAfter
-put-before ws used x k h = drop-set-lt k ws used (entryWord x) (omega arith)
+pub put-own : (ws : List ℤ) (i c : ℕ) → i < entryCount ws → entryAt ws i .variable ≤ variableBound → prefixOf (putEntry ws i (entryAt ws i) c) ≡ prefixOf ws
+unfolding prefixOf
+put-own [] i c h l = absurd (not-suc-le-zero h)
+put-own (v ∷ []) i c h l = absurd (not-suc-le-zero h)
+put-own (v ∷ q ∷ []) i c h l = absurd (not-suc-le-zero h)
+put-own (v ∷ q ∷ b ∷ ws) zero c h l = rw (put-first v q b ws (entry (ordinal v) (quantifierAs (ordinal q))) c, ordinal-number (ordinal v) l, number-back (quantifierAs (ordinal q)))
+put-own (v ∷ q ∷ b ∷ ws) (suc i) c h l =
+    rw (put-later v q b ws i (entryAt ws i) c) (ap {B = Prefix} (λ r. entry (ordinal v) (quantifierAs (ordinal q)) ∷ r) (put-own ws i c (le-of-suc-le-suc h) l))
 
-pub put-more : (used : ℕ) → used < usedAfter used
-unfolding usedAfter
-put-more used = omega arith
+-- Blocks numbered so far: the words of the first i entries stand, and those of the entries to come follow.
+pub record NumberedSoFar (table₀ table : List ℤ) (i last block : ℕ) : Type 0 where
+  pub left : i ≤ entryCount table₀
+  pub same : length table ≡ length table₀
+  pub entries : prefixOf table ≡ prefixOf table₀
+  pub done : prefixWords (prefixOf table₀) ≡ take (entryWords i) table ++ wordsFrom last block (drop i (prefixOf table₀))
+  pub low : block ≤ i
 
-pub entry-room : (room used : ℕ) (x : Entry) (P : Prefix) → used + length (prefixWords (x ∷ P)) ≤ room → entryFits room used ≡ true
-unfolding entryFits prefixWords
-entry-room room used x P h = lt-ltb used room (omega arith)
-
-pub put-within : (room used : ℕ) → entryFits room used ≡ true → usedAfter used ≤ room
-unfolding entryFits usedAfter
-put-within room used h = omega (arith, ltb-true used room h)
-
-pub words-rise : (m n : ℕ) → m ≤ n → entryWords m ≤ entryWords n
+pub number-begins : (table : List ℤ) → NumberedSoFar table table 0 0 0
 unfolding entryWords
-words-rise m n h = h
+number-begins table = record { left = omega arith; same = refl; entries = refl; done = refl; low = omega arith }
+
+module _ {table₀ table : List ℤ} {i last block : ℕ} (I : NumberedSoFar table₀ table i last block) where
+  pub number-entries : Entries table₀ → Entries table
+  number-entries E = record { ranged = rw (I .entries) (E .ranged) }
+
+  pub number-count : entryCount table ≡ entryCount table₀
+  number-count = ap {B = ℕ} (λ (P : Prefix). length P) (I .entries)
+
+  -- The next block.
+  abbrev due : ℕ
+  due = nextBlock last block (quantifierNumber (entryAt table i .quantifier))
+
+  pub number-fits : i < entryCount table → entryFits (length table) i ≡ true
+  unfolding entryWords
+  number-fits h = entry-room (length table) i (omega (arith, h, entry-words table .0))
+
+  -- The entry as the code has it: its variable, and its quantifier by the number.
+  pub number-entry : (v k : ℕ) → v ≡ entryAt table i .variable → k ≡ quantifierNumber (entryAt table i .quantifier) → entry v (quantifierOf (eqb k 1)) ≡ entryAt table i
+  number-entry v k e f = λ j. record { variable = e j; quantifier = (ap (λ n. quantifierOf (eqb n 1)) f ∙ back (entryAt table i .quantifier)) j }
+    where
+      back : (q : Quantifier) → quantifierOf (eqb (quantifierNumber q) 1) ≡ q
+      back existential = refl
+      back universal = refl
+
+  pub number-step :
+      i < entryCount table → Entries table
+      → NumberedSoFar table₀ (putEntry table i (entryAt table i) due) (suc i) (quantifierNumber (entryAt table i .quantifier)) due
+  unfolding wordsFrom
+  number-step h E =
+      record {
+        left = rw (← I .entries) h;
+        same = put-same table i (entryAt table i) due ∙ I .same;
+        entries = put-own table i due h (entry-at-ranged table E i h .1) ∙ I .entries;
+        done =
+            I .done
+            ∙ rw (← I .entries, entries-drop table i h, put-words table i (entryAt table i) due (number-fits h))
+            (sym (append-assoc (take (entryWords i) table) (recordOf (entryAt table i) due) (wordsFrom (quantifierNumber (entryAt table i .quantifier)) due (drop (suc i) (prefixOf table)))));
+        low = omega (arith, I .low, block-bound last block (quantifierNumber (entryAt table i .quantifier)));
+      }
+
+  pub number-ends : length table₀ ≡ entryWords (entryCount table₀) → entryCount table ≤ i → table ≡ prefixWords (prefixOf table₀)
+  unfolding wordsFrom
+  number-ends whole h =
+      let all : i ≡ entryCount table₀ = omega (arith, I .left, number-count) in
+      let few : length (prefixOf table₀) ≤ i = omega (arith, all) in
+      sym (I .done ∙ rw (drop-of-length-le (prefixOf table₀) few, append-nil, all) (take-all (entryWords (entryCount table₀)) table (omega (arith, I .same, whole))))
 
 -- Words moved on by so many places, the last one first: those from the place i on are moved.
 pub record MovedSoFar (used by : ℕ) (table₀ table : List ℤ) (i : ℕ) : Type 0 where

@@ -15,11 +15,13 @@ use Rattle.qbf.specs.Formula.{Entry, Prefix, listed}
 use Rattle.formula.specs.Bounds.{textBound}
 use Rattle.formula.specs.Free.{completed}
 use Rattle.formula.specs.Free.Laws.{completed-listed}
-use Rattle.formula.specs.Prefix.{prefixOf, prefixWords}
-use Rattle.formula.specs.Prefix.Laws.{prefix-words}
-use Rattle.formula.specs.Tables.{isIn, zeros, prefixRefusal, clausesRefusal, listedIn, sized, firstRefusal, ifSized, tablesRefusal, Admitted}
+use Rattle.formula.specs.Prefix.{prefixOf, entryWords}
+use Rattle.formula.specs.Tables.{isIn, zeros, listedIn, firstRefusal, tablesRefusal, Admitted}
 use Rattle.formula.specs.Tables.Laws.{
   is-in-sound,
+  table-length,
+  admitted-words,
+  admitted-clauses,
   admitted-clauses-length,
   admitted-count,
   admitted-entries,
@@ -55,16 +57,6 @@ listed-largest P n h =
     let t = Memᴰ·of-map (λ (x : Entry). x .variable) P (is-in-sound n (listed P) h) in
     omega (arith, t .2, member-largest P (t .0) (t .1))
 
--- The part of the check that judges the clause words.
-pub clauses-pass : (p c : List ℤ) → Admitted p c → clausesRefusal (listedIn p) 0 [] c ≡ none
-unfolding tablesRefusal
-clauses-pass p c a = go (sized p c) (prefixRefusal 0 [] p) (a .passes)
-  where
-    go : (b : Bool) (o : Option Refusal) → ifSized b (firstRefusal o (clausesRefusal (listedIn p) 0 [] c)) ≡ none → clausesRefusal (listedIn p) 0 [] c ≡ none
-    go true none h = h
-    go true (some r) h = let z : _≡_ {A = ℕ} 0 1 = cc in absurd (omega arith)
-    go false o h = let z : _≡_ {A = ℕ} 0 1 = cc in absurd (omega arith)
-
 -- A text that begins with `p` has no comment.
 tokens-p : (bytes : List ℕ) → tokens (112 ∷ bytes) ≡ tokensFrom 0 [] (112 ∷ bytes)
 unfolding leadFrom isBlank
@@ -72,7 +64,7 @@ tokens-p bytes = refl
 
 module _ (p c : List ℤ) (prefixRoom clauseRoom : ℕ) (a : Admitted p c) (h : length p ≤ prefixRoom) (k : length c ≤ clauseRoom) where
   prefix-lists : Lists (largest (prefixOf p)) prefixRoom [] (prefixOf p)
-  unfolding prefixWords
+  unfolding entryWords
   prefix-lists =
       record {
         range = λ n m.
@@ -80,13 +72,13 @@ module _ (p c : List ℤ) (prefixRoom clauseRoom : ℕ) (a : Admitted p c) (h : 
             rw (← t .2) (admitted-entries p c a .ranged (t .0) (t .1) .0, member-largest (prefixOf p) (t .0) (t .1));
         distinct = admitted-prefix-distinct p c a;
         fresh = λ u m n. List·Memᴰ·not-nil m;
-        within = rw (prefix-words p) (omega arith);
+        within = omega (arith, table-length p (admitted-words p c a));
       }
 
   clauses-passes : Passes prefixRoom clauseRoom (largest (prefixOf p)) (zeros c) (prefixOf p) 0 [] c
   unfolding openFrom zeros
   clauses-passes =
-      record { passes = clauses-pass p c a; count = omega arith; words = omega (arith, admitted-clauses-length p c a); room = omega arith }
+      record { passes = admitted-clauses p c a; count = omega arith; words = omega (arith, admitted-clauses-length p c a); room = omega arith }
 
   clauses-read : AllRead prefixRoom clauseRoom (largest (prefixOf p)) (zeros c) (prefixOf p) (betweenSets (largest (prefixOf p)) (zeros c) (prefixOf p)) (clausesText c) c
   clauses-read =
@@ -122,12 +114,12 @@ module _ (p c : List ℤ) (prefixRoom clauseRoom : ℕ) (a : Admitted p c) (h : 
 
   -- Every variable of the clauses is listed, so the prefix is complete.
   complete-written : completed (largest (prefixOf p)) (prefixOf p) c ≡ prefixOf p
-  complete-written = completed-listed (largest (prefixOf p)) (prefixOf p) c (all-known (listedIn p) 0 [] c (clauses-pass p c a))
+  complete-written = completed-listed (largest (prefixOf p)) (prefixOf p) c (all-known (listedIn p) 0 [] c (admitted-clauses p c a))
 
   ending-written : (text : List ℕ) → ending prefixRoom text (clauses-read .after) ≡ read p c (zeros c)
   ending-written text =
       clauses-read .among .ends text
-      ∙ rw (clauses-read .shut, le-ltb (zeros c) (zeros c) (omega arith), complete-written, prefix-words p, le-leb (length p) prefixRoom h)
+      ∙ rw (clauses-read .shut, le-ltb (zeros c) (zeros c) (omega arith), complete-written, admitted-words p c a, le-leb (length p) prefixRoom h)
 
   -- What is written is read as the tables that it was written from.
   pub written-read : reading (written p c) prefixRoom clauseRoom ≡ read p c (zeros c)

@@ -24,8 +24,8 @@ use lib.ListN.{length, length-append}
 use lib.Dec.{eqb}
 use Rattle.qbf.specs.Formula.{Quantifier, existential, universal, Entry, entry, Prefix, listed, Distinct}
 use Rattle.formula.specs.Bounds.{variableBound, countBound}
-use Rattle.formula.specs.Prefix.{prefixWords, entryFits}
-use Rattle.formula.specs.Prefix.Laws.{words-append, entry-room}
+use Rattle.formula.specs.Prefix.{entryWords, entryFits}
+use Rattle.formula.specs.Prefix.Laws.{words-rise, entry-room}
 use Rattle.formula.specs.Tables.{isIn}
 use Rattle.formula.specs.Tables.Laws.{is-in-absent}
 use Rattle.formula.specs.Decimal.{decimal}
@@ -82,7 +82,7 @@ pub record Lists (v room : ℕ) (done P : Prefix) : Type 0 where
   pub range : (u : ℕ) → List·Memᴰ u (listed P) → (1 ≤ u) × (u ≤ v)
   pub distinct : Distinct (listed P)
   pub fresh : (u : ℕ) → List·Memᴰ u (listed done) → List·Memᴰ u (listed P) → ⊥
-  pub within : length (prefixWords done) + length (prefixWords P) ≤ room
+  pub within : entryWords (length done + length P) ≤ room
 
 lists-later : {v room : ℕ} {done : Prefix} {x : Entry} {P : Prefix} → Lists v room done (x ∷ P) → Lists v room (done ++ (x ∷ [])) P
 lists-later {v} {room} {done} {x} {P} l =
@@ -90,7 +90,7 @@ lists-later {v} {room} {done} {x} {P} l =
       range = λ u m. l .range u (List·Memᴰ·tail m);
       distinct = l .distinct .1;
       fresh = λ u m k. apart u (List·Memᴰ·append-cases (listed done) (rw (map-append (λ (y : Entry). y .variable) done (x ∷ [])) at m)) k;
-      within = rw (words-append done (x ∷ []), length-append) (omega (arith, rw (words-append (x ∷ []) P, length-append) at (l .within)));
+      within = omega (arith, l .within, words-rise (length (done ++ (x ∷ [])) + length P) (length done + length (x ∷ P)) (rw length-append (omega arith)));
     }
   where
     apart : (u : ℕ) → List·Memᴰ u (listed done) ⊎ List·Memᴰ u (x .variable ∷ []) → List·Memᴰ u (listed P) → ⊥
@@ -115,7 +115,7 @@ module _ (prefixRoom clauseRoom v c : ℕ) where
 
   lists-variable :
       (q : Quantifier) (filled : Bool) (done : Prefix) (n : ℕ)
-      → 1 ≤ n → n ≤ v → v ≤ variableBound → isIn n (listed done) ≡ false → entryFits prefixRoom (length (prefixWords done)) ≡ true
+      → 1 ≤ n → n ≤ v → v ≤ variableBound → isIn n (listed done) ≡ false → entryFits prefixRoom (length done) ≡ true
       → Takes prefixRoom clauseRoom (inSet v c q filled done) (decimal n ++ (32 ∷ [])) (inSet v c q true (done ++ (entry n q ∷ [])))
   unfolding step variableReason
   lists-variable q filled done zero p h b e r = absurd (omega arith)
@@ -147,7 +147,7 @@ module _ (prefixRoom clauseRoom v c : ℕ) where
   -- An entry's text lists its variable.
   entry-takes :
       (done : Prefix) (q : Quantifier) (n last : ℕ) (s : State) → Line done last s
-      → 1 ≤ n → n ≤ v → v ≤ variableBound → isIn n (listed done) ≡ false → entryFits prefixRoom (length (prefixWords done)) ≡ true
+      → 1 ≤ n → n ≤ v → v ≤ variableBound → isIn n (listed done) ≡ false → entryFits prefixRoom (length done) ≡ true
       → Takes prefixRoom clauseRoom s (entryText last (letterOf q) n) (inSet v c q true (done ++ (entry n q ∷ [])))
   unfolding entryText
   entry-takes done q n last s o p h b e r =
@@ -165,7 +165,7 @@ module _ (prefixRoom clauseRoom v c : ℕ) where
       let q = x .quantifier in
       let r = l .range n (List·Memᴰ·head refl) in
       let e : isIn n (listed done) ≡ false = is-in-absent n (listed done) (λ m. l .fresh n m (List·Memᴰ·head refl)) in
-      let first = entry-takes done q n last s o (r .0) (r .1) b e (entry-room prefixRoom (length (prefixWords done)) x P (l .within)) in
+      let first = entry-takes done q n last s o (r .0) (r .1) b e (entry-room prefixRoom (length done) (omega (arith, l .within, words-rise (suc (length done)) (length done + length (x ∷ P)) (omega arith)))) in
       let later = prefix-takes (done ++ (x ∷ [])) P (letterOf q) (inSet v c q true (done ++ (x ∷ []))) b (set-open q) (lists-later l) in
       takes-append prefixRoom clauseRoom first
       (rw (append-assoc done (x ∷ []) P) at later)

@@ -1,29 +1,31 @@
 -- The check of tables against ProperTables, both ways, and what the layers above use of tables that pass: sizes, ranges of
 -- words, distinct and bound variables, closed clauses, and that the decoded formula is proper. Assumes nothing.
-use Prim.Native.Nat.{ℕ, zero, suc, _+_, _≤_, _<_}
+use Prim.Native.Nat.{ℕ, zero, suc, _+_, _-_, _*_, _/_, _%_, _≤_, _<_}
 use mathlib.Core.Path.{_≡_, refl, ap, sym, _∙_, subst}
 use mathlib.Core.Logic.{_⊎_, inl, inr}
-use mathlib.Core.Bool.{Bool, true, false, _&&_, false≢true}
+use mathlib.Core.Bool.{Bool, true, false, not, cond, _&&_, _||_, false≢true}
 use mathlib.Core.Option.{Option, none, some}
 use mathlib.Core.List.{List, [], _∷_, _++_, map, List·Memᴰ, List·Memᴰ·head, List·Memᴰ·tail, List·Memᴰ·not-nil, List·Memᴰ·cases-cons, Memᴰ·of-map, Memᴰ·cast}
 use native.Mathlib.Nat.{not-suc-le-zero, le-of-suc-le-suc}
 use native.Mathlib.Omega.{arith}
-use borrow.Author.Tests.{leb-true, le-leb, lt-leb, eqb-true, eq-eqb}
+use borrow.Author.Tests.{leb-true, le-leb, lt-leb, ltb-true, lt-ltb, eqb-true, eq-eqb, ne-eqb, not-true}
 use lib.ListN.{length, getD}
-use lib.Dec.{leb, eqb}
+use lib.Dec.{leb, ltb, eqb}
 use lib.IntN.{ℤ, pos, negsuc, natAbs}
 use Rattle.qbf.specs.Connectives.{and-both, or-either, or-left, or-right}
 use Rattle.qbf.specs.Literal.{Literal, Clause}
-use Rattle.qbf.specs.Formula.{Distinct, Proper, listed, variables}
-use Rattle.formula.specs.Bounds.{variableBound, countBound, matrixBound}
-use Rattle.formula.specs.Word.{wordOf}
+use Rattle.qbf.specs.Formula.{Quantifier, existential, universal, Entry, entry, Prefix, Distinct, Proper, listed, variables}
+use Rattle.formula.specs.Bounds.{variableBound, prefixBound, countBound, matrixBound}
+use Rattle.formula.specs.Word.{wordOf, ordinal}
+use Rattle.formula.specs.Word.Laws.{ordinal-bounded, ordinal-word, ordinal-number}
 pub use Rattle.formula.specs.Word.Laws.{Kind, closing, large, signed, kind}
 use Rattle.formula.specs.Refusal.{refusal}
+use Rattle.formula.specs.Refusal.Laws.{require-none}
 use Rattle.formula.specs.Decode.{literalOf, putFirst, clausesOf, firstClause, laterWords, clauseOf, formulaOf}
-use Rattle.formula.specs.Prefix.{prefixOf, entryCount, Entries}
-use Rattle.formula.specs.Prefix.Laws.{entry-count, prefix-variables, words-ranged, ranged-words}
+use Rattle.formula.specs.Prefix.{quantifierNumber, quantifierAs, prefixOf, nextBlock, wordsFrom, IsTable, entryCount, entryWords, AllRanged, Entries}
+use Rattle.formula.specs.Prefix.Laws.{entry-count, words-length, block-bound}
 use Rattle.formula.specs.Decode.Laws.{magnitude-positive, positive-magnitude, literal-variable, clause-variables, clauses-put-first, first-clause-cons, later-words-cons, clauses-first, clauses-no-zero, clause-word}
-use Rattle.formula.specs.Tables.{isIn, zeros, listing, prefixWord, prefixRefusal, literalWord, clauseWord, clausesRefusal, listedIn, sized, firstRefusal, ifSized, tablesRefusal, answerTables, tablesAnswer, Admitted}
+use Rattle.formula.specs.Tables.{isIn, zeros, variableWord, quantifierWord, blockWord, prefixRefusal, literalWord, clauseWord, clausesRefusal, listedIn, sized, firstRefusal, wordsRefusal, tablesRefusal, answerTables, tablesAnswer, Admitted}
 use Rattle.formula.specs.Tables.Proper.{ProperTables}
 use Rattle.formula.specs.declared.refusal.Refusal.{Refusal}
 use Rattle.formula.specs.declared.tables.TablesAnswer.the-variants.{Admitted as Admits, Refused as Turned}
@@ -62,25 +64,6 @@ is-in-absent v xs h = go (isIn v xs) refl
 pub absent-is-in : (v : ℕ) (xs : List ℕ) → isIn v xs ≡ false → List·Memᴰ v xs → ⊥
 absent-is-in v xs e m = false≢true (sym e ∙ is-in-complete v xs m)
 
--- How each kind is judged in the prefix.
-module _ (at : ℕ) (seen : List ℕ) (next : ℕ → Option Refusal) where
-  pub prefix-word-large : (w : ℤ) → variableBound < natAbs w → prefixWord at seen (wordOf w) next ≡ some (refusal OutOfRange at)
-  unfolding wordOf
-  prefix-word-large (pos zero) h = absurd (not-suc-le-zero h)
-  prefix-word-large (pos (suc n)) h = rw (lt-leb (suc n) variableBound h)
-  prefix-word-large (negsuc n) h = rw (lt-leb (suc n) variableBound h)
-
-  pub prefix-word-zero : (w : ℤ) → w ≡ pos 0 → prefixWord at seen (wordOf w) next ≡ some (refusal OutOfRange at)
-  unfolding wordOf
-  prefix-word-zero w e = rw e
-
-  pub prefix-word-variable :
-      (w : ℤ) → 1 ≤ natAbs w → natAbs w ≤ variableBound → prefixWord at seen (wordOf w) next ≡ listing at (isIn (natAbs w) seen) (next (natAbs w))
-  unfolding wordOf
-  prefix-word-variable (pos zero) l h = absurd (not-suc-le-zero l)
-  prefix-word-variable (pos (suc n)) l h = rw (le-leb (suc n) variableBound h)
-  prefix-word-variable (negsuc n) l h = rw (le-leb (suc n) variableBound h)
-
 -- How each kind is judged in a clause.
 module _ (known : ℕ → Bool) (at : ℕ) (seen : List ℕ) (next : List ℕ → Option Refusal) where
   pub clause-word-large : (w : ℤ) → variableBound < natAbs w → clauseWord known at seen (wordOf w) next ≡ some (refusal OutOfRange at)
@@ -101,74 +84,160 @@ module _ (known : ℕ → Bool) (at : ℕ) (seen : List ℕ) (next : List ℕ �
   clause-word-literal (pos (suc n)) l h = rw (le-leb (suc n) variableBound h)
   clause-word-literal (negsuc n) l h = rw (le-leb (suc n) variableBound h)
 
--- Prefix words that pass, after the variables `seen`.
-record PrefixPasses (seen : List ℕ) (ws : List ℤ) : Type 0 where
-  range : (w : ℤ) → List·Memᴰ w ws → (1 ≤ natAbs w) × (natAbs w ≤ variableBound)
-  distinct : Distinct (map natAbs ws)
-  fresh : (v : ℕ) → List·Memᴰ v seen → List·Memᴰ v (map natAbs ws) → ⊥
+-- Entries whose words pass, after the variables `seen`.
+pub record PrefixPasses (seen : List ℕ) (P : Prefix) : Type 0 where
+  pub range : AllRanged P
+  pub distinct : Distinct (listed P)
+  pub fresh : (v : ℕ) → List·Memᴰ v seen → List·Memᴰ v (listed P) → ⊥
 
-prefix-passes-cons :
-    (seen : List ℕ) (w : ℤ) (ws : List ℤ)
-    → 1 ≤ natAbs w
-    → natAbs w ≤ variableBound
-    → isIn (natAbs w) seen ≡ false
-    → PrefixPasses (natAbs w ∷ seen) ws
-    → PrefixPasses seen (w ∷ ws)
-prefix-passes-cons seen w ws l h e p =
+passes-none : (seen : List ℕ) → PrefixPasses seen []
+passes-none seen = record { range = λ x m. absurd (List·Memᴰ·not-nil m); distinct = tt; fresh = λ v m k. List·Memᴰ·not-nil k }
+
+passes-cons :
+    (seen : List ℕ) (x : Entry) (P : Prefix) → 1 ≤ x .variable → x .variable ≤ variableBound → isIn (x .variable) seen ≡ false
+    → PrefixPasses (x .variable ∷ seen) P → PrefixPasses seen (x ∷ P)
+passes-cons seen x P l h e p =
     record {
-      range = λ v m. ranged v (List·Memᴰ·cases-cons m);
-      distinct = (λ m. p .fresh (natAbs w) (List·Memᴰ·head refl) m, p .distinct);
+      range = λ y m. ranged y (List·Memᴰ·cases-cons m);
+      distinct = (λ m. p .fresh (x .variable) (List·Memᴰ·head refl) m, p .distinct);
       fresh = λ v m k. apart v m (List·Memᴰ·cases-cons k);
     }
   where
-    ranged : (v : ℤ) → (v ≡ w) ⊎ List·Memᴰ v ws → (1 ≤ natAbs v) × (natAbs v ≤ variableBound)
-    ranged v (inl q) = rw q (l, h)
-    ranged v (inr m) = p .range v m
+    ranged : (y : Entry) → (y ≡ x) ⊎ List·Memᴰ y P → (1 ≤ y .variable) × (y .variable ≤ variableBound)
+    ranged y (inl q) = rw q (l, h)
+    ranged y (inr m) = p .range y m
 
-    apart : (v : ℕ) → List·Memᴰ v seen → (v ≡ natAbs w) ⊎ List·Memᴰ v (map natAbs ws) → ⊥
-    apart v m (inl q) = absent-is-in (natAbs w) seen e (Memᴰ·cast (sym q) m)
+    apart : (v : ℕ) → List·Memᴰ v seen → (v ≡ x .variable) ⊎ List·Memᴰ v (listed P) → ⊥
+    apart v m (inl q) = absent-is-in (x .variable) seen e (Memᴰ·cast (sym q) m)
     apart v m (inr k) = p .fresh v (List·Memᴰ·tail m) k
 
-prefix-sound : (at : ℕ) (seen : List ℕ) (ws : List ℤ) → prefixRefusal at seen ws ≡ none → PrefixPasses seen ws
-unfolding prefixRefusal
-prefix-sound at seen [] h =
-    record { range = λ w m. absurd (List·Memᴰ·not-nil m); distinct = tt; fresh = λ v m k. List·Memᴰ·not-nil k }
-prefix-sound at seen (w ∷ ws) h = go (kind w) (λ k. prefix-sound (at + 1) (natAbs w ∷ seen) ws k)
+cons-passes :
+    (seen : List ℕ) (x : Entry) (P : Prefix) → PrefixPasses seen (x ∷ P) → (isIn (x .variable) seen ≡ false) × PrefixPasses (x .variable ∷ seen) P
+cons-passes seen x P p = (
+  is-in-absent (x .variable) seen (λ m. p .fresh (x .variable) m (List·Memᴰ·head refl)),
+  record {
+    range = λ y m. p .range y (List·Memᴰ·tail m);
+    distinct = p .distinct .1;
+    fresh = λ v m k. apart v (List·Memᴰ·cases-cons m) k;
+  },
+)
   where
-    next : ℕ → Option Refusal
-    next v = prefixRefusal (at + 1) (v ∷ seen) ws
-
-    listed-once : (b : Bool) → isIn (natAbs w) seen ≡ b → 1 ≤ natAbs w → natAbs w ≤ variableBound → listing at b (next (natAbs w)) ≡ none
-        → (next (natAbs w) ≡ none → PrefixPasses (natAbs w ∷ seen) ws)
-        → PrefixPasses seen (w ∷ ws)
-    listed-once true e l u k later = refused k
-    listed-once false e l u k later = prefix-passes-cons seen w ws l u e (later k)
-
-    go : Kind w → (next (natAbs w) ≡ none → PrefixPasses (natAbs w ∷ seen) ws) → PrefixPasses seen (w ∷ ws)
-    go (closing e) later = refused (sym (prefix-word-zero at seen next w e) ∙ h)
-    go (large l) later = refused (sym (prefix-word-large at seen next w l) ∙ h)
-    go (signed l u) later = listed-once (isIn (natAbs w) seen) refl l u (sym (prefix-word-variable at seen next w l u) ∙ h) later
-
-prefix-complete : (at : ℕ) (seen : List ℕ) (ws : List ℤ) → PrefixPasses seen ws → prefixRefusal at seen ws ≡ none
-unfolding prefixRefusal
-prefix-complete at seen [] p = refl
-prefix-complete at seen (w ∷ ws) p =
-    let r = p .range w (List·Memᴰ·head refl) in
-    let e : isIn (natAbs w) seen ≡ false = is-in-absent (natAbs w) seen (λ m. p .fresh (natAbs w) m (List·Memᴰ·head refl)) in
-    prefix-word-variable at seen (λ v. prefixRefusal (at + 1) (v ∷ seen) ws) w (r .0) (r .1)
-    ∙ rw e (prefix-complete (at + 1) (natAbs w ∷ seen) ws later)
-  where
-    apart : (v : ℕ) → (v ≡ natAbs w) ⊎ List·Memᴰ v seen → List·Memᴰ v (map natAbs ws) → ⊥
+    apart : (v : ℕ) → (v ≡ x .variable) ⊎ List·Memᴰ v seen → List·Memᴰ v (listed P) → ⊥
     apart v (inl q) k = p .distinct .0 (Memᴰ·cast (sym q) k)
     apart v (inr m) k = p .fresh v m (List·Memᴰ·tail k)
 
-    later : PrefixPasses (natAbs w ∷ seen) ws
-    later =
-        record {
-          range = λ v m. p .range v (List·Memᴰ·tail m);
-          distinct = p .distinct .1;
-          fresh = λ v m k. apart v (List·Memᴰ·cases-cons m) k;
-        }
+-- A quantifier's number.
+quantifier-number : (q : ℕ) → (eqb q 1 || eqb q 2) ≡ true → quantifierNumber (quantifierAs q) ≡ q
+quantifier-number q h = go (or-either (eqb q 1) (eqb q 2) h)
+  where
+    go : (eqb q 1 ≡ true) ⊎ (eqb q 2 ≡ true) → quantifierNumber (quantifierAs q) ≡ q
+    go (inl e) = rw (eqb-true q 1 e)
+    go (inr e) = rw (eqb-true q 2 e)
+
+number-quantifier : (q : Quantifier) → (eqb (quantifierNumber q) 1 || eqb (quantifierNumber q) 2) ≡ true
+number-quantifier existential = refl
+number-quantifier universal = refl
+
+-- An entry that passes: what its words are, and what is left to judge.
+record EntryPasses (seen : List ℕ) (last block : ℕ) (v q b : ℤ) (later : Option Refusal) : Type 0 where
+  variable : 1 ≤ ordinal v
+  fresh : isIn (ordinal v) seen ≡ false
+  quantifier : quantifierNumber (quantifierAs (ordinal q)) ≡ ordinal q
+  due : ordinal b ≡ nextBlock last block (ordinal q)
+  passes : later ≡ none
+
+entry-sound :
+    (at : ℕ) (seen : List ℕ) (last block : ℕ) (v q b : ℤ) (later : Option Refusal)
+    → variableWord at seen (ordinal v) (quantifierWord (at + 1) (ordinal q) (blockWord (at + 2) (ordinal b) (nextBlock last block (ordinal q)) later)) ≡ none
+    → EntryPasses seen last block v q b later
+entry-sound at seen last block v q b later h =
+    let a = require-none (ltb 0 (ordinal v)) _ _ h in
+    let f = require-none (not (isIn (ordinal v) seen)) _ _ (a .1) in
+    let k = require-none (eqb (ordinal q) 1 || eqb (ordinal q) 2) _ _ (f .1) in
+    let d = require-none (eqb (ordinal b) (nextBlock last block (ordinal q))) _ _ (k .1) in
+    record {
+      variable = ltb-true 0 (ordinal v) (a .0);
+      fresh = not-true (isIn (ordinal v) seen) (f .0);
+      quantifier = quantifier-number (ordinal q) (k .0);
+      due = eqb-true (ordinal b) (nextBlock last block (ordinal q)) (d .0);
+      passes = d .1;
+    }
+
+prefix-sound : (at : ℕ) (seen : List ℕ) (last block : ℕ) (ws : List ℤ) → prefixRefusal at seen last block ws ≡ none → PrefixPasses seen (prefixOf ws)
+unfolding prefixRefusal prefixOf
+prefix-sound at seen last block [] h = passes-none seen
+prefix-sound at seen last block (v ∷ []) h = passes-none seen
+prefix-sound at seen last block (v ∷ q ∷ []) h = passes-none seen
+prefix-sound at seen last block (v ∷ q ∷ b ∷ ws) h =
+    let r = entry-sound at seen last block v q b _ h in
+    passes-cons seen (entry (ordinal v) (quantifierAs (ordinal q))) (prefixOf ws) (r .variable) (ordinal-bounded v) (r .fresh)
+    (prefix-sound (at + 3) (ordinal v ∷ seen) (ordinal q) (nextBlock last block (ordinal q)) ws (r .passes))
+
+-- The words of a prefix that passes, in threes, are those of its entries.
+three-left : (n m : ℕ) → suc (suc (suc n)) ≡ 3 * m → n ≡ 3 * (m - 1)
+three-left n m e = omega arith
+
+next-positive : (last block q : ℕ) → (q ≡ last → ⊥) → 1 ≤ nextBlock last block q
+next-positive last block q n = rw (ne-eqb q last n) (omega arith)
+
+-- The block before, where there is one, is not 0.
+abbrev Begun : (last block : ℕ) → Type 0
+Begun last block = (q : ℕ) → 1 ≤ q → 1 ≤ nextBlock last block q
+
+begun-first : Begun 0 0
+begun-first q h = next-positive 0 0 q (λ e. omega arith)
+
+begun-next : (last block : ℕ) → 1 ≤ block → Begun last block
+begun-next last block h q l = go (eqb q last)
+  where
+    go : (e : Bool) → 1 ≤ cond e block (block + 1)
+    go true = h
+    go false = omega arith
+
+words-sound :
+    (at : ℕ) (seen : List ℕ) (last block n : ℕ) (ws : List ℤ) → Begun last block → length ws ≡ 3 * n → prefixRefusal at seen last block ws ≡ none
+    → wordsFrom last block (prefixOf ws) ≡ ws
+unfolding prefixRefusal prefixOf wordsFrom
+words-sound at seen last block n [] B l h = refl
+words-sound at seen last block n (v ∷ []) B l h = absurd (omega arith)
+words-sound at seen last block n (v ∷ q ∷ []) B l h = absurd (omega arith)
+words-sound at seen last block n (v ∷ q ∷ b ∷ ws) B l h =
+    let r = entry-sound at seen last block v q b _ h in
+    let positive : 1 ≤ ordinal q = numbered (quantifierAs (ordinal q)) (r .quantifier) in
+    let begun : 1 ≤ nextBlock last block (ordinal q) = B (ordinal q) positive in
+    let later = words-sound (at + 3) (ordinal v ∷ seen) (ordinal q) (nextBlock last block (ordinal q)) (n - 1) ws (begun-next (ordinal q) (nextBlock last block (ordinal q)) begun) (three-left (length ws) n l) (r .passes) in
+    rw (r .quantifier, later, ← r .due)
+    (rw (← ordinal-word v (r .variable), ← ordinal-word q positive, ← ordinal-word b (rw (r .due) begun)) refl)
+  where
+    numbered : (k : Quantifier) → quantifierNumber k ≡ ordinal q → 1 ≤ ordinal q
+    numbered existential e = omega (arith, e)
+    numbered universal e = omega (arith, e)
+
+-- Entries that pass: so do their words, where the blocks stay within the bound.
+pub words-pass :
+    (at : ℕ) (seen : List ℕ) (last block : ℕ) (P : Prefix) → block + length P ≤ variableBound → PrefixPasses seen P
+    → prefixRefusal at seen last block (wordsFrom last block P) ≡ none
+unfolding prefixRefusal wordsFrom
+words-pass at seen last block [] h p = refl
+words-pass at seen last block (x ∷ P) h p =
+    let c = cons-passes seen x P p in
+    let r = p .range x (List·Memᴰ·head refl) in
+    let next = nextBlock last block (quantifierNumber (x .quantifier)) in
+    let low : next ≤ block + 1 = block-bound last block (quantifierNumber (x .quantifier)) in
+    rw (
+      ordinal-number (x .variable) (r .1),
+      number-ordinal (x .quantifier),
+      ordinal-number next (omega arith),
+      lt-ltb 0 (x .variable) (r .0),
+      c .0,
+      number-quantifier (x .quantifier),
+      eq-eqb next next refl,
+    )
+    (words-pass (at + 3) (x .variable ∷ seen) (quantifierNumber (x .quantifier)) next P (omega arith) (c .1))
+  where
+    number-ordinal : (q : Quantifier) → ordinal (pos (quantifierNumber q)) ≡ quantifierNumber q
+    number-ordinal existential = ordinal-number 1 (omega arith)
+    number-ordinal universal = ordinal-number 2 (omega arith)
 
 -- Clauses and their closing 0s.
 pub zeros-cons : (w : ℤ) (ws : List ℤ) → (w ≡ pos 0 → ⊥) → zeros (w ∷ ws) ≡ zeros ws
@@ -398,41 +467,46 @@ or-else-first (some r) b h = refused h
 
 record Parts (p c : List ℤ) : Type 0 where
   sizes : sized p c ≡ true
-  prefix : prefixRefusal 0 [] p ≡ none
+  threes : length p % 3 ≡ 0
+  prefix : prefixRefusal 0 [] 0 0 p ≡ none
   clauses : clausesRefusal (listedIn p) 0 [] c ≡ none
 
 admitted-parts : (p c : List ℤ) → Admitted p c → Parts p c
-unfolding tablesRefusal
-admitted-parts p c a = go (sized p c) refl (a .passes)
-  where
-    go : (b : Bool) → sized p c ≡ b → ifSized b (firstRefusal (prefixRefusal 0 [] p) (clausesRefusal (listedIn p) 0 [] c)) ≡ none → Parts p c
-    go true e h =
-        let both = or-else-first (prefixRefusal 0 [] p) (clausesRefusal (listedIn p) 0 [] c) h in
-        record { sizes = e; prefix = both .0; clauses = both .1 }
-    go false e h = refused h
+unfolding tablesRefusal wordsRefusal
+admitted-parts p c a =
+    let sizes = require-none (sized p c) _ _ (a .passes) in
+    let threes = require-none (eqb (length p % 3) 0) _ _ (sizes .1) in
+    let both = or-else-first (prefixRefusal 0 [] 0 0 p) (clausesRefusal (listedIn p) 0 [] c) (threes .1) in
+    record { sizes = sizes .0; threes = eqb-true (length p % 3) 0 (threes .0); prefix = both .0; clauses = both .1 }
 
-pub sized-bounds : (p c : List ℤ) → sized p c ≡ true → (length p ≤ variableBound) × (length c ≤ matrixBound) × (zeros c ≤ countBound)
+pub sized-bounds : (p c : List ℤ) → sized p c ≡ true → (length p ≤ prefixBound) × (length c ≤ matrixBound) × (zeros c ≤ countBound)
 sized-bounds p c h =
-    let a = and-both (leb (length p) variableBound && leb (length c) matrixBound) (leb (zeros c) countBound) h in
-    let b = and-both (leb (length p) variableBound) (leb (length c) matrixBound) (a .0) in
-    (leb-true (length p) variableBound (b .0), leb-true (length c) matrixBound (b .1), leb-true (zeros c) countBound (a .1))
+    let a = and-both (leb (length p) prefixBound && leb (length c) matrixBound) (leb (zeros c) countBound) h in
+    let b = and-both (leb (length p) prefixBound) (leb (length c) matrixBound) (a .0) in
+    (leb-true (length p) prefixBound (b .0), leb-true (length c) matrixBound (b .1), leb-true (zeros c) countBound (a .1))
 
-pub bounds-sized : (p c : List ℤ) → length p ≤ variableBound → length c ≤ matrixBound → zeros c ≤ countBound → sized p c ≡ true
-bounds-sized p c h k l = rw (le-leb (length p) variableBound h, le-leb (length c) matrixBound k, le-leb (zeros c) countBound l)
+pub bounds-sized : (p c : List ℤ) → length p ≤ prefixBound → length c ≤ matrixBound → zeros c ≤ countBound → sized p c ≡ true
+bounds-sized p c h k l = rw (le-leb (length p) prefixBound h, le-leb (length c) matrixBound k, le-leb (zeros c) countBound l)
+
+-- The words of a table of entries are in threes.
+pub table-length : (p : List ℤ) → IsTable p → length p ≡ 3 * entryCount p
+unfolding entryWords
+table-length p t = ap {B = ℕ} (λ (ws : List ℤ). length ws) (sym t) ∙ words-length (prefixOf p)
 
 -- Tables pass exactly when they are proper.
 pub admitted-tables : (p c : List ℤ) → Admitted p c → ProperTables p c
 admitted-tables p c a =
     let parts = admitted-parts p c a in
     let sizes = sized-bounds p c (parts .sizes) in
-    let P = prefix-sound 0 [] p (parts .prefix) in
+    let P = prefix-sound 0 [] 0 0 p (parts .prefix) in
     let C = clauses-sound (listedIn p) 0 [] c (parts .clauses) in
     record {
-      prefix-length = rw (entry-count p) (sizes .0);
+      prefix-length = omega (arith, entry-count p, sizes .0);
       clauses-length = sizes .1;
       count = sizes .2;
-      prefix-range = words-ranged p (P .range);
-      prefix-distinct = rw (prefix-variables p) (P .distinct);
+      prefix-table = words-sound 0 [] 0 0 (length p / 3) p begun-first (omega (arith, parts .threes)) (parts .prefix);
+      prefix-range = record { ranged = P .range };
+      prefix-distinct = P .distinct;
       clause-range = C .range;
       clause-bound = λ w m z. is-in-sound (natAbs w) (listed (prefixOf p)) (C .bound w m z);
       clause-distinct = clauses-split {P = λ (D : List ℤ). Distinct (map natAbs D)} c (C .distinct) (C .later);
@@ -440,12 +514,15 @@ admitted-tables p c a =
     }
 
 pub tables-admitted : (p c : List ℤ) → ProperTables p c → Admitted p c
-unfolding tablesRefusal
+unfolding tablesRefusal wordsRefusal
 tables-admitted p c t =
-    let sizes : sized p c ≡ true = bounds-sized p c (rw (entry-count p) at (t .prefix-length)) (t .clauses-length) (t .count) in
-    let P : prefixRefusal 0 [] p ≡ none =
-    prefix-complete 0 [] p
-    (record { range = ranged-words p (t .prefix-range); distinct = rw (prefix-variables p) at (t .prefix-distinct); fresh = λ v m k. List·Memᴰ·not-nil m }) in
+    let words : length p ≡ 3 * entryCount p = table-length p (t .prefix-table) in
+    let sizes : sized p c ≡ true = bounds-sized p c (omega (arith, words, t .prefix-length)) (t .clauses-length) (t .count) in
+    let threes : eqb (length p % 3) 0 ≡ true = eq-eqb (length p % 3) 0 (omega (arith, words)) in
+    let P : prefixRefusal 0 [] 0 0 p ≡ none =
+    ap (prefixRefusal 0 [] 0 0) (sym (t .prefix-table))
+    ∙ words-pass 0 [] 0 0 (prefixOf p) (omega (arith, t .prefix-length))
+    (record { range = t .prefix-range .ranged; distinct = t .prefix-distinct; fresh = λ v m k. List·Memᴰ·not-nil m }) in
     let C : clausesRefusal (listedIn p) 0 [] c ≡ none =
     clauses-complete (listedIn p) 0 [] c
     (record {
@@ -457,7 +534,7 @@ tables-admitted p c t =
       closed = t .closed;
       begun = λ v m. absurd (List·Memᴰ·not-nil m);
     }) in
-    record { passes = rw (sizes, P, C) }
+    record { passes = rw (sizes, threes, P, C) }
 
 -- What an answer of `check_tables` says of the tables.
 pub answer-admitted : (p c : List ℤ) (v n : ℕ) → tablesAnswer p c ≡ Admits v n → Admitted p c × (v ≡ entryCount p) × (n ≡ zeros c)
@@ -494,11 +571,12 @@ module _ (p c : List ℤ) (a : Admitted p c) where
   pub admitted-count : zeros c ≤ 8192
   admitted-count = admitted-tables p c a .count
 
-  pub admitted-prefix-word : (w : ℤ) → List·Memᴰ w p → (1 ≤ natAbs w) × (natAbs w ≤ 1024)
-  admitted-prefix-word = ranged-words p (admitted-tables p c a .prefix-range)
+  -- The part of the check that judges the clause words.
+  pub admitted-clauses : clausesRefusal (listedIn p) 0 [] c ≡ none
+  admitted-clauses = admitted-parts p c a .clauses
 
-  pub admitted-prefix-at : (i : ℕ) (d : ℤ) → i < length p → (1 ≤ natAbs (getD p i d)) × (natAbs (getD p i d) ≤ 1024)
-  admitted-prefix-at i d h = admitted-prefix-word (getD p i d) (getD-member p i d h)
+  pub admitted-words : IsTable p
+  admitted-words = admitted-tables p c a .prefix-table
 
   pub admitted-entries : Entries p
   admitted-entries = admitted-tables p c a .prefix-range

@@ -1,6 +1,6 @@
--- What the parts of the check of tables find: marks of listed variables, the run of literals that a clause
+-- What the parts of the check of tables find: marks of listed variables, one entry judged, the run of literals that a clause
 -- begins with, how far it goes without a clash, and one clause judged. Laws are in the crate's proofs/Scan.antt.
-use Prim.Native.Nat.{ℕ, zero, suc, _≤_, _<_}
+use Prim.Native.Nat.{ℕ, zero, suc, _+_, _≤_, _<_}
 use mathlib.Core.Path.{_≡_}
 use mathlib.Core.Bool.{Bool, true, false, not, _&&_}
 use mathlib.Core.Option.{Option, none, some}
@@ -10,19 +10,18 @@ use lib.Dec.{eqb}
 use lib.IntN.{ℤ, pos, natAbs}
 use Rattle.formula.specs.Refusal.{unless}
 use Rattle.formula.specs.Bounds.{variableBound, inRange}
-use Rattle.formula.specs.Tables.{isIn, prefixRefusal, clausesRefusal, listedIn, firstRefusal}
+use Rattle.formula.specs.Word.{ordinal}
+use Rattle.formula.specs.Tables.{isIn, prefixRefusal, clausesRefusal}
 use Rattle.formula.specs.declared.refusal.Refusal.{Refusal}
 use Rattle.formula.specs.declared.tables.Check.{Check}
 use Rattle.formula.specs.declared.tables.Check.the-variants.{Passed, Refused}
+use Rattle.formula.specs.declared.tables.EntryCheck.{EntryCheck}
+use Rattle.formula.specs.declared.tables.EntryCheck.the-variants.{Passed as EntryPassed, Refused as EntryRefused}
 use Rattle.formula.specs.declared.tables.ClauseCheck.{ClauseCheck}
 use Rattle.formula.specs.declared.tables.ClauseCheck.the-variants.{Closed, Refused as Stopped}
 
 abbrev pub checkOf : Option Refusal → Check
 checkOf r = unless Refused r Passed
-
--- Prefix words, then clause words.
-unfoldable pub wordsRefusal : List ℤ → List ℤ → Option Refusal
-wordsRefusal prefix clauses = firstRefusal (prefixRefusal 0 [] prefix) (clausesRefusal (listedIn prefix) 0 [] clauses)
 
 -- A byte for each variable number, 1 where it is listed.
 unfoldable pub marked : List ℕ → ℕ → Bool
@@ -35,6 +34,17 @@ pub record Marks (marks : List ℕ) (seen : List ℕ) : Type 0 where
 unfoldable pub variablesBefore : List ℤ → ℕ → List ℕ
 variablesBefore ws zero = []
 variablesBefore ws (suc n) = natAbs (getD ws n (pos 0)) ∷ variablesBefore ws n
+
+-- An entry judged, its first word at the place `at`, `seen` being the variables before it: the check refuses, or goes on behind the entry with its
+-- quantifier and its block, its variable marked.
+abbrev pub EntryStep : (ws : List ℤ) (at last block : ℕ) (marks : List ℕ) → EntryCheck → (marks′ : List ℕ) → Type 0
+EntryStep ws at last block marks (EntryRefused r) marks′ = (seen : List ℕ) → Marks marks seen → prefixRefusal at seen last block (drop at ws) ≡ some r
+EntryStep ws at last block marks (EntryPassed q b) marks′ =
+    ((seen : List ℕ) → Marks marks seen
+    → (prefixRefusal at seen last block (drop at ws) ≡ prefixRefusal (at + 3) (ordinal (getD ws at (pos 0)) ∷ seen) q b (drop (at + 3) ws))
+    × Marks marks′ (ordinal (getD ws at (pos 0)) ∷ seen))
+    × (length marks′ ≡ length marks)
+    × (b ≤ block + 1)
 
 -- One word further where a test is true.
 abbrev pub further : Bool → ℕ → ℕ

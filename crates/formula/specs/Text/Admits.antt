@@ -1,21 +1,21 @@
 -- What is read is admitted: the words that a text is read as, with the completed prefix, pass the check of tables, and C is their number
 -- of clauses. A property of each state is kept by every token. Assumes nothing.
-use Prim.Native.Nat.{ℕ, zero, suc, _+_, _≤_, _<_}
+use Prim.Native.Nat.{ℕ, zero, suc, _+_, _*_, _%_, _≤_, _<_}
 use mathlib.Core.Path.{_≡_, refl, ap, sym, _∙_, subst}
 use mathlib.Core.Bool.{Bool, true, false, _||_, or-true, or-false, false≢true}
 use mathlib.Core.Option.{Option, none, some}
-use mathlib.Core.List.{List, [], _∷_, _++_, append-assoc, append-nil}
+use mathlib.Core.List.{List, [], _∷_, _++_, append-assoc, append-nil, List·Memᴰ·not-nil}
 use native.Mathlib.Decide.{ℕ-discrete}
 use native.Mathlib.Omega.{arith}
 use borrow.Author.Tests.{ltb-true, ltb-false, leb-true, le-leb, eq-eqb, ne-eqb}
 use lib.ListN.{length, length-append, length-map}
 use lib.Dec.{leb, ltb, eqb}
 use lib.IntN.{ℤ, pos}
-use Rattle.formula.specs.Bounds.{variableBound, countBound, matrixBound, textBound}
+use Rattle.formula.specs.Bounds.{variableBound, prefixBound, countBound, matrixBound, textBound}
 use Rattle.qbf.specs.Formula.{Quantifier, existential, universal, Entry, entry, Prefix, listed}
 use Rattle.formula.specs.Word.{wordOf, signed}
-use Rattle.formula.specs.Prefix.{entryWord, prefixWords, entryFits, entryWords}
-use Rattle.formula.specs.Prefix.Laws.{words-listed, words-length}
+use Rattle.formula.specs.Prefix.{prefixOf, prefixWords, entryFits, entryWords}
+use Rattle.formula.specs.Prefix.Laws.{words-entries, words-length}
 use Rattle.formula.specs.Refusal.{refusal, require, unless}
 use Rattle.formula.specs.Tables.{
   isIn,
@@ -24,29 +24,23 @@ use Rattle.formula.specs.Tables.{
   literalWord,
   clauseWord,
   clausesRefusal,
+  wordsRefusal,
   tablesRefusal,
   Admitted,
 }
+use Rattle.formula.specs.Tables.Laws.{words-pass}
 use Rattle.formula.specs.Token.{Token, same, pText, cnfText, aText, eText, Number, natural, negative, noNumber, numberOf, tokens}
 use Rattle.formula.specs.Text.{Reading, read, refused, State, wantsP, wantsCnf, wantsV, wantsC, betweenSets, inSet, clauses, stopped, openClause, openFrom, isOpen, headerNumber, opens, setToken, putLiteral, clauseToken, clausesToken, atEnd, clausesEnding, tablesEnding, step, run, ending, reading}
 use Rattle.formula.specs.Text.Laws.{variable-fine, literal-fine, closing-fine}
-use Rattle.formula.specs.Text.Distinct.{Apart, Ranged, apart-append, ranged-append, ranged-each, rising-apart, apart-few}
-use Rattle.formula.specs.Free.{occurs, existentials, completed}
-use Rattle.formula.specs.Free.Laws.{listed-append, listed-existentials, completion, completed-lists}
+use Rattle.formula.specs.Text.Distinct.{PrefixFine, prefix-empty, prefix-more, completed-fine, fine-ranged, fine-few, apart-distinct}
+use Rattle.formula.specs.Free.{occurs, completed}
+use Rattle.formula.specs.Free.Laws.{completed-lists}
 use Rattle.formula.specs.Text.Clauses.Laws.{open-literal, open-closing, zeros-literal, zeros-closing, occurs-literal, occurs-closing}
 use Rattle.formula.specs.declared.refusal.Reason.the-variants.{Headless, Oversized, NoRoom, BadToken, Miscount}
 use Rattle.formula.specs.declared.refusal.Reason.{Reason}
 use Rattle.formula.specs.declared.refusal.Refusal.{Refusal}
 
--- A variable within the range that was not seen: as an entry of the prefix, and with a sign as a word of a clause.
-prefix-entry :
-    (at : ℕ) (seen : List ℕ) (q : Quantifier) (n : ℕ) (rest : List ℤ) → (n ≡ 0 → ⊥) → n ≤ variableBound → isIn n seen ≡ false
-    → prefixRefusal at seen (prefixWords (entry n q ∷ []) ++ rest) ≡ prefixRefusal (at + length (prefixWords (entry n q ∷ []))) (n ∷ seen) rest
-unfolding wordOf entryWord prefixWords prefixRefusal
-prefix-entry at seen q zero rest z h f = absurd (z refl)
-prefix-entry at seen existential (suc n) rest z h f = rw (le-leb (suc n) variableBound h, f)
-prefix-entry at seen universal (suc n) rest z h f = rw (le-leb (suc n) variableBound h, f)
-
+-- A variable with a sign within the range as a word of a clause.
 clause-word : (known : ℕ → Bool) (at : ℕ) (seen : List ℕ) (positive : Bool) (n : ℕ) (next : List ℕ → Option Refusal) → (n ≡ 0 → ⊥) → n ≤ variableBound → clauseWord known at seen (wordOf (signed positive n)) next ≡ literalWord at (known n) (isIn n seen) (next (n ∷ seen))
 unfolding wordOf
 clause-word known at seen positive zero next z h = absurd (z refl)
@@ -55,50 +49,6 @@ clause-word known at seen false (suc n) next z h = rw (le-leb (suc n) variableBo
 
 length-snoc : (ws : List ℤ) (w : ℤ) → length (ws ++ (w ∷ [])) ≡ length ws + 1
 length-snoc ws w = length-append ws (w ∷ [])
-
--- The entries list different variables from 1 to v.
-pub record PrefixFine (v : ℕ) (P : Prefix) : Type 0 where
-  pub apart : Apart (listed P)
-  pub ranged : Ranged v (listed P)
-
--- Their words pass the check.
-prefix-passes :
-    (v : ℕ) → v ≤ variableBound → (at : ℕ) (seen : List ℕ) (P : Prefix) → PrefixFine v P → ((n : ℕ) → isIn n (listed P) ≡ true → isIn n seen ≡ false)
-    → prefixRefusal at seen (prefixWords P) ≡ none
-unfolding prefixRefusal prefixWords isIn
-prefix-passes v b at seen [] F fresh = refl
-prefix-passes v b at seen (x ∷ P) F fresh =
-    prefix-entry at seen (x .quantifier) (x .variable) (prefixWords P) (λ z. omega (arith, F .ranged .0, z)) (omega (arith, b, F .ranged .1)) (fresh (x .variable) (rw (eq-eqb (x .variable) (x .variable) refl)))
-    ∙ prefix-passes v b _ (x .variable ∷ seen) P (record { apart = F .apart .1; ranged = F .ranged .2 }) (λ n e. later n e (ℕ-discrete n (x .variable)))
-  where
-    later : (n : ℕ) → isIn n (listed P) ≡ true → Dec (n ≡ x .variable) → (eqb n (x .variable) || isIn n seen) ≡ false
-    later n e (yes q) = absurd (false≢true (sym (F .apart .0) ∙ rw q at e))
-    later n e (no q) = rw (ne-eqb n (x .variable) q) (fresh n (rw e (or-true (eqb n (x .variable)))))
-
-prefix-empty : (v : ℕ) → PrefixFine v []
-prefix-empty v = record { apart = tt; ranged = tt }
-
-prefix-more : (v : ℕ) (P : Prefix) (q : Quantifier) (n : ℕ) → PrefixFine v P → 1 ≤ n → n ≤ v → isIn n (listed P) ≡ false → PrefixFine v (P ++ (entry n q ∷ []))
-unfolding isIn
-prefix-more v P q n F z l f =
-    record {
-      apart = subst Apart (sym (listed-append P (entry n q ∷ []))) (apart-append (listed P) (n ∷ []) (F .apart) (refl, tt) (λ m e. only m e (ℕ-discrete m n)));
-      ranged = subst (Ranged v) (sym (listed-append P (entry n q ∷ []))) (ranged-append v (listed P) (n ∷ []) (F .ranged) (z, l, tt));
-    }
-  where
-    only : (m : ℕ) → isIn m (listed P) ≡ true → Dec (m ≡ n) → (eqb m n || false) ≡ false
-    only m e (yes k) = absurd (false≢true (sym f ∙ rw k at e))
-    only m e (no k) = rw (ne-eqb m n k)
-
--- The completed prefix does so too.
-completed-fine : (v : ℕ) (P : Prefix) (words : List ℤ) → PrefixFine v P → PrefixFine v (completed v P words)
-completed-fine v P words F =
-    let C = completion v P words in
-    let e : listed (completed v P words) ≡ C .added ++ listed P = listed-append (existentials (C .added)) P ∙ ap (λ (ns : List ℕ). ns ++ listed P) (listed-existentials (C .added)) in
-    record {
-      apart = subst Apart (sym e) (apart-append (C .added) (listed P) (rising-apart 0 v (C .added) (C .rising)) (F .apart) (λ n m. C .only n m .3));
-      ranged = subst (Ranged v) (sym e) (ranged-append v (C .added) (listed P) (ranged-each v (C .added) (λ n m. (C .only n m .0, C .only n m .1))) (F .ranged));
-    }
 
 -- The clause words pass for whatever prefix has their variables: what follows them is checked with the open clause as seen.
 pub record ClausesPass (v c : ℕ) (words : List ℤ) : Type 0 where
@@ -181,7 +131,7 @@ module _ (prefixRoom clauseRoom : ℕ) where
       require-sound filled at BadToken (betweenSets v c P) (λ e. h)
   set-sound at v c q filled P (natural (suc n)) h =
       unless-sound at _ (inSet v c q true (P ++ (entry (suc n) q ∷ []))) λ e.
-      let f = variable-fine v (suc n) (isIn (suc n) (listed P)) (entryFits prefixRoom (length (prefixWords P))) e in
+      let f = variable-fine v (suc n) (isIn (suc n) (listed P)) (entryFits prefixRoom (length P)) e in
       (h .0, h .1, prefix-more v P q (suc n) (h .2) (omega arith) (f .inRange) (f .fresh))
   set-sound at v c q filled P (negative n) h = tt
   set-sound at v c q filled P noNumber h = tt
@@ -229,21 +179,31 @@ module _ (prefixRoom clauseRoom : ℕ) where
   run-sound s [] h = h
   run-sound s (t ∷ ts) h = run-sound (step prefixRoom clauseRoom s t) ts (step-sound s t h)
 
+-- Entries that list different variables pass the check as words, and are the entries of these.
+fine-passes : (v : ℕ) (P : Prefix) → v ≤ variableBound → PrefixFine v P → prefixRefusal 0 [] 0 0 (prefixWords P) ≡ none
+fine-passes v P h F =
+    words-pass 0 [] 0 0 P (omega (arith, fine-few v P F))
+    (record { range = fine-ranged v P h F; distinct = apart-distinct (listed P) (F .apart); fresh = λ n m k. List·Memᴰ·not-nil m })
+
+pub fine-entries : (v : ℕ) (P : Prefix) → v ≤ variableBound → PrefixFine v P → prefixOf (prefixWords P) ≡ P
+fine-entries v P h F = words-entries 0 0 P (fine-ranged v P h F)
+
 -- The completed tables, with no clause open, are admitted.
 admits : (v c : ℕ) (P : Prefix) (words : List ℤ) → Sound (clauses v c P words) → openClause words ≡ [] → Admitted (prefixWords (completed v P words)) words
-unfolding tablesRefusal clausesRefusal isIn entryWords
+unfolding tablesRefusal wordsRefusal clausesRefusal entryWords
 admits v c P words h e =
     let Q : Prefix = completed v P words in
-    let F = completed-fine v P words (h .2) in
+    let F = completed-fine v v P words (omega arith) (h .2) in
     let K = h .3 in
-    let few = apart-few v (listed Q) (F .apart) (F .ranged) in
-    let a : leb (length (prefixWords Q)) variableBound ≡ true = le-leb (length (prefixWords Q)) variableBound (omega (arith, few, length-map Q (λ (x : Entry). x .variable), words-length Q, h .0)) in
+    let long : length (prefixWords Q) ≡ 3 * length Q = words-length Q in
+    let a : leb (length (prefixWords Q)) prefixBound ≡ true = le-leb (length (prefixWords Q)) prefixBound (omega (arith, long, fine-few v Q F, h .0)) in
+    let t : eqb (length (prefixWords Q) % 3) 0 ≡ true = eq-eqb (length (prefixWords Q) % 3) 0 (omega (arith, long)) in
     let b : leb (length words) matrixBound ≡ true = le-leb (length words) matrixBound (K .short) in
     let d : leb (zeros words) countBound ≡ true = le-leb (zeros words) countBound (omega (arith, K .few, h .1)) in
-    let p : prefixRefusal 0 [] (prefixWords Q) ≡ none = prefix-passes v (h .0) 0 [] Q F (λ n m. refl) in
+    let p : prefixRefusal 0 [] 0 0 (prefixWords Q) ≡ none = fine-passes v Q (h .0) F in
     let has : (n : ℕ) → 1 ≤ n → occurs n words ≡ true → isIn n (listed Q) ≡ true = λ n l o. completed-lists v P words n l (K .ranged n l o) o in
     let q : clausesRefusal (λ m. isIn m (listed Q)) 0 [] words ≡ none = rw e at (rw append-nil at (K .passes (λ m. isIn m (listed Q)) has [])) in
-    record { passes = rw (a, b, d, p) (ap (λ (L : List ℕ). clausesRefusal (λ m. isIn m L) 0 [] words) (words-listed Q) ∙ q) }
+    record { passes = rw (a, b, d, t, p) (ap (λ (R : Prefix). clausesRefusal (λ m. isIn m (listed R)) 0 [] words) (fine-entries v Q (h .0) F) ∙ q) }
 
 pub record ReadAdmitted (prefix words : List ℤ) (count : ℕ) : Type 0 where
   pub admitted : Admitted prefix words

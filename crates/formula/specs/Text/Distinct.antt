@@ -1,15 +1,23 @@
--- Different numbers, each from 1 to n: of lists put together and of rising ones; they are at most n many. Assumes nothing.
+-- Different numbers, each from 1 to n: of lists put together and of rising ones; they are at most n many. Then prefixes that list different
+-- variables. Assumes nothing.
 use Prim.Native.Nat.{ℕ, zero, suc, _≤_}
-use mathlib.Core.Path.{_≡_, refl, ap}
-use mathlib.Core.Bool.{Bool, true, false, _||_, cond, or-true}
-use mathlib.Core.List.{List, [], _∷_, _++_}
+use mathlib.Core.Path.{_≡_, refl, ap, sym, _∙_, subst}
+use mathlib.Core.Logic.{_⊎_, inl, inr}
+use mathlib.Core.Bool.{Bool, true, false, _||_, cond, or-true, false≢true}
+use mathlib.Core.List.{List, [], _∷_, _++_, List·Memᴰ, List·Memᴰ·not-nil, List·Memᴰ·cases-cons}
+use native.Mathlib.Decide.{ℕ-discrete}
 use native.Mathlib.Omega.{arith}
-use borrow.Author.Tests.{eqb-true, eqb-false, eq-eqb}
-use lib.ListN.{length}
+use borrow.Author.Tests.{eqb-true, eqb-false, eq-eqb, ne-eqb}
+use lib.ListN.{length, length-map}
+use lib.IntN.{ℤ}
 use lib.Dec.{eqb}
+use Rattle.qbf.specs.Formula.{Quantifier, Entry, entry, Prefix, listed, Distinct}
+use Rattle.formula.specs.Bounds.{variableBound}
+use Rattle.formula.specs.Prefix.{AllRanged}
 use Rattle.formula.specs.Tables.{isIn}
-use Rattle.formula.specs.Free.{Rising}
-use Rattle.formula.specs.Free.Laws.{in-append, rising-range}
+use Rattle.formula.specs.Tables.Laws.{absent-is-in}
+use Rattle.formula.specs.Free.{existentials, completed, Rising}
+use Rattle.formula.specs.Free.Laws.{in-append, rising-range, listed-append, listed-existentials, completion}
 
 -- No number stands twice; each is from 1 to n.
 abbrev pub Apart : List ℕ → Type 0
@@ -109,3 +117,52 @@ apart-few zero (x ∷ xs) a r = absurd (omega (arith, r .0, r .1))
 apart-few (suc n) xs a r =
     let h = apart-few n (without (suc n) xs) (apart-without (suc n) xs a) (ranged-without n xs r) in
     omega (arith, h, length-without (suc n) xs a)
+
+-- The entries list different variables from 1 to v.
+pub record PrefixFine (v : ℕ) (P : Prefix) : Type 0 where
+  pub apart : Apart (listed P)
+  pub ranged : Ranged v (listed P)
+
+pub prefix-empty : (v : ℕ) → PrefixFine v []
+prefix-empty v = record { apart = tt; ranged = tt }
+
+pub prefix-more : (v : ℕ) (P : Prefix) (q : Quantifier) (n : ℕ) → PrefixFine v P → 1 ≤ n → n ≤ v → isIn n (listed P) ≡ false → PrefixFine v (P ++ (entry n q ∷ []))
+unfolding isIn
+prefix-more v P q n F z l f =
+    record {
+      apart = subst Apart (sym (listed-append P (entry n q ∷ []))) (apart-append (listed P) (n ∷ []) (F .apart) (refl, tt) (λ m e. only m e (ℕ-discrete m n)));
+      ranged = subst (Ranged v) (sym (listed-append P (entry n q ∷ []))) (ranged-append v (listed P) (n ∷ []) (F .ranged) (z, l, tt));
+    }
+  where
+    only : (m : ℕ) → isIn m (listed P) ≡ true → Dec (m ≡ n) → (eqb m n || false) ≡ false
+    only m e (yes k) = absurd (false≢true (sym f ∙ rw k at e))
+    only m e (no k) = rw (ne-eqb m n k)
+
+-- The completed prefix does so too.
+pub completed-fine : (b v : ℕ) (P : Prefix) (words : List ℤ) → v ≤ b → PrefixFine b P → PrefixFine b (completed v P words)
+completed-fine b v P words h F =
+    let C = completion v P words in
+    let e : listed (completed v P words) ≡ C .added ++ listed P = listed-append (existentials (C .added)) P ∙ ap (λ (ns : List ℕ). ns ++ listed P) (listed-existentials (C .added)) in
+    record {
+      apart = subst Apart (sym e) (apart-append (C .added) (listed P) (rising-apart 0 v (C .added) (C .rising)) (F .apart) (λ n m. C .only n m .3));
+      ranged = subst (Ranged b) (sym e) (ranged-append b (C .added) (listed P) (ranged-each b (C .added) (λ n m. (C .only n m .0, omega (arith, C .only n m .1, h)))) (F .ranged));
+    }
+
+-- They are entries in range, and no more than the bound; none is listed twice.
+pub fine-ranged : (v : ℕ) (P : Prefix) → v ≤ variableBound → PrefixFine v P → AllRanged P
+fine-ranged v P h F = go P (F .ranged)
+  where
+    go : (Q : Prefix) → Ranged v (listed Q) → AllRanged Q
+    go [] r x m = absurd (List·Memᴰ·not-nil m)
+    go (y ∷ Q) r x m = own (List·Memᴰ·cases-cons m) (go Q (r .2) x)
+      where
+        own : (x ≡ y) ⊎ List·Memᴰ x Q → (List·Memᴰ x Q → (1 ≤ x .variable) × (x .variable ≤ variableBound)) → (1 ≤ x .variable) × (x .variable ≤ variableBound)
+        own (inl e) later = rw e (r .0, omega (arith, r .1, h))
+        own (inr k) later = later k
+
+pub fine-few : (v : ℕ) (P : Prefix) → PrefixFine v P → length P ≤ v
+fine-few v P F = omega (arith, apart-few v (listed P) (F .apart) (F .ranged), length-map P (λ (x : Entry). x .variable))
+
+pub apart-distinct : (xs : List ℕ) → Apart xs → Distinct xs
+apart-distinct [] a = tt
+apart-distinct (x ∷ xs) a = (absent-is-in x xs (a .0), apart-distinct xs (a .1))

@@ -8,7 +8,8 @@ use lib.IntN.{pos, negsuc}
 use Rattle.formula.specs.Refusal.{refusal}
 use Rattle.formula.specs.declared.refusal.Reason.{Reason}
 use Rattle.formula.specs.declared.refusal.Refusal.{Refusal}
-use Rattle.formula.specs.Prefix.{entryWord, prefixWords, entryFits}
+use Rattle.formula.specs.Prefix.{wordsFrom, entryWords, entryFits}
+use Rattle.formula.specs.Prefix.Examples.{e, a}
 use Rattle.formula.specs.Tables.{isIn, zeros}
 use Rattle.formula.specs.Position.{feeds, sinceFeed}
 use Rattle.formula.specs.Free.{occurs, passing}
@@ -36,22 +37,22 @@ bytes (c then s) = code c ∷ bytes s
 abbrev pub at : Reason → (place line column : ℕ) → Refusal
 at r place line column = record { reason = r; place = place; line = line; column = column }
 
--- With room for eight words in each table.
+-- With room for eight entries and eight clause words.
 unfoldable pub reads : String → Reading
-unfolding bytes entryWord prefixWords entryFits isIn zeros isDigit isBlank leadFrom tokensFrom same allDigits valueFrom numberOf feeds sinceFeed openFrom variableReason literalReason closingReason occurs passing step run ending reading
-reads s = reading (bytes s) 8 8
+unfolding bytes wordsFrom entryWords entryFits isIn zeros isDigit isBlank leadFrom tokensFrom same allDigits valueFrom numberOf feeds sinceFeed openFrom variableReason literalReason closingReason occurs passing step run ending reading
+reads s = reading (bytes s) 24 8
 
 -- 01's two texts: bytes that part nothing glue into one token; a line end closes nothing.
 pub comma-glues : reads "p cnf 2 1\ne 1 2 0\n1,2 0\n" ≡ refused (at BadToken 18 3 1)
 unfolding reads
 comma-glues = refl
 
-pub line-end-closes-nothing : reads "p cnf 2 1\ne 1 2 0\n1\n2 0\n" ≡ read (pos 1 ∷ pos 2 ∷ []) (pos 1 ∷ pos 2 ∷ pos 0 ∷ []) 1
+pub line-end-closes-nothing : reads "p cnf 2 1\ne 1 2 0\n1\n2 0\n" ≡ read (e 1 1 (e 2 1 [])) (pos 1 ∷ pos 2 ∷ pos 0 ∷ []) 1
 unfolding reads
 line-end-closes-nothing = refl
 
 -- A comment, then all on one line; neighbouring sets of one letter and a universal last set are accepted.
-pub one-line : reads "c by hand\n\np cnf 3 2 e 1 0 e 3 0 a 2 0 -1 2 0 0" ≡ read (pos 1 ∷ pos 3 ∷ negsuc 1 ∷ []) (negsuc 0 ∷ pos 2 ∷ pos 0 ∷ pos 0 ∷ []) 2
+pub one-line : reads "c by hand\n\np cnf 3 2 e 1 0 e 3 0 a 2 0 -1 2 0 0" ≡ read (e 1 1 (e 3 1 (a 2 2 []))) (negsuc 0 ∷ pos 2 ∷ pos 0 ∷ pos 0 ∷ []) 2
 unfolding reads
 one-line = refl
 
@@ -101,10 +102,14 @@ pub no-room : reads "p cnf 2 9 e 1 0 1 0 0 0 0 0 0 0 0 0" ≡ refused (at NoRoom
 unfolding reads
 no-room = refl
 
--- Variables that no set binds stand ahead of the sets, rising; a clash of theirs is one, and above V they are out of range.
-pub free-ahead : reads "p cnf 4 2 a 3 0 4 -2 0 3 2 0" ≡ read (pos 2 ∷ pos 4 ∷ negsuc 2 ∷ []) (pos 4 ∷ negsuc 1 ∷ pos 0 ∷ pos 3 ∷ pos 2 ∷ pos 0 ∷ []) 2
+-- Variables that no set binds stand ahead of the sets, rising, and in the block of a first set of existentials; a clash of theirs is one, and above V they are out of range.
+pub free-ahead : reads "p cnf 4 2 a 3 0 4 -2 0 3 2 0" ≡ read (e 2 1 (e 4 1 (a 3 2 []))) (pos 4 ∷ negsuc 1 ∷ pos 0 ∷ pos 3 ∷ pos 2 ∷ pos 0 ∷ []) 2
 unfolding reads
 free-ahead = refl
+
+pub free-block : reads "p cnf 3 1 e 3 0 a 2 0 1 0" ≡ read (e 1 1 (e 3 1 (a 2 2 []))) (pos 1 ∷ pos 0 ∷ []) 1
+unfolding reads
+free-block = refl
 
 pub free-clash : reads "p cnf 2 1\ne 1 0\n2 1 -2 0\n" ≡ refused (at Clash 20 3 5)
 unfolding reads

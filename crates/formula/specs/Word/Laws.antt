@@ -11,7 +11,7 @@ use lib.Dec.{leb}
 use lib.IntN.{ℤ, pos, negsuc, negℤ, natAbs}
 use Rattle.qbf.specs.Literal.{Literal, literal}
 use Rattle.formula.specs.Bounds.{variableBound}
-use Rattle.formula.specs.Word.{positive, negative, wordOf, isZero, variableOf, slotOf, opposite, slotWith}
+use Rattle.formula.specs.Word.{positive, negative, wordOf, isZero, variableOf, ordinalOf, ordinal, slotOf, opposite, slotWith}
 use Rattle.formula.specs.Decode.{literalOf}
 use Rattle.formula.specs.declared.literal.Variable.{Variable}
 use Rattle.formula.specs.declared.word.Word.{Word}
@@ -237,3 +237,37 @@ slot-bound w = go (recognised w)
     go (nothing (inr e)) = rw e (omega arith)
     go (names v true o b e q) = rw e (omega arith)
     go (names v false o b e q) = rw e (omega arith)
+
+-- The number that a word is: within the bound, its word where it is none but 0, and the number of its word.
+pub ordinal-bounded : (w : ℤ) → ordinal w ≤ variableBound
+unfolding ordinal wordOf
+ordinal-bounded (pos zero) = omega arith
+ordinal-bounded (pos (suc n)) = go (leb (suc n) variableBound) refl
+  where
+    go : (b : Bool) → leb (suc n) variableBound ≡ b → ordinalOf (positive b (suc n)) ≤ variableBound
+    go true e = leb-true (suc n) variableBound e
+    go false e = omega arith
+ordinal-bounded (negsuc n) = go (leb (suc n) variableBound)
+  where
+    go : (b : Bool) → ordinalOf (negative b (suc n)) ≤ variableBound
+    go true = omega arith
+    go false = omega arith
+
+pub ordinal-word : (w : ℤ) → 1 ≤ ordinal w → w ≡ pos (ordinal w)
+unfolding ordinal wordOf
+ordinal-word (pos zero) h = absurd (not-suc-le-zero h)
+ordinal-word (pos (suc n)) h = go (leb (suc n) variableBound) h
+  where
+    go : (b : Bool) → 1 ≤ ordinalOf (positive b (suc n)) → pos (suc n) ≡ pos (ordinalOf (positive b (suc n)))
+    go true k = refl
+    go false k = absurd (not-suc-le-zero k)
+ordinal-word (negsuc n) h = go (leb (suc n) variableBound) h
+  where
+    go : (b : Bool) → 1 ≤ ordinalOf (negative b (suc n)) → negsuc n ≡ pos (ordinalOf (negative b (suc n)))
+    go true k = absurd (not-suc-le-zero k)
+    go false k = absurd (not-suc-le-zero k)
+
+pub ordinal-number : (n : ℕ) → n ≤ variableBound → ordinal (pos n) ≡ n
+unfolding ordinal wordOf
+ordinal-number zero h = refl
+ordinal-number (suc n) h = rw (le-leb (suc n) variableBound h)

@@ -18,7 +18,8 @@ use Rattle.formula.specs.Decimal.{digits, decimal}
 use Rattle.formula.specs.Decode.Laws.{positive-magnitude}
 use Rattle.formula.specs.Free.{occurs, passing}
 use Rattle.formula.specs.Position.{lineFeed}
-use Rattle.formula.specs.Prefix.{entryWord, prefixWords}
+use Rattle.formula.specs.Prefix.{wordsFrom}
+use Rattle.formula.specs.Prefix.Examples.{e}
 use Rattle.formula.specs.Tables.{isIn}
 use Rattle.formula.specs.Tables.Laws.{absent-is-in}
 use Rattle.formula.specs.Text.Examples.{bytes}
@@ -192,8 +193,8 @@ two-lines =
     refl refl refl refl refl refl
 
 -- The tables that this text denotes, and the least room for them.
-pub two-lines-tables : LaidOut twoLines (pos 1 ∷ pos 2 ∷ []) (pos 1 ∷ pos 2 ∷ pos 0 ∷ []) 1 2 3
-unfolding bytes flatMap testAll testDistinct isIn occurs passing entryWord prefixWords
+pub two-lines-tables : LaidOut twoLines (e 1 1 (e 2 1 [])) (pos 1 ∷ pos 2 ∷ pos 0 ∷ []) 1 6 3
+unfolding bytes flatMap testAll testDistinct isIn occurs passing wordsFrom
 two-lines-tables =
     record {
       v = 2;

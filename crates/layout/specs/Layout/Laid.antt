@@ -12,7 +12,7 @@ use lib.ListN.{length, length-append}
 use Rattle.qbf.specs.Formula.{Quantifier, existential, universal, entry, Prefix, listed}
 use Rattle.formula.specs.Bounds.{variableBound, countBound}
 use Rattle.formula.specs.Decimal.{decimal}
-use Rattle.formula.specs.Prefix.{prefixWords, entryFits}
+use Rattle.formula.specs.Prefix.{entryFits}
 use Rattle.formula.specs.Refusal.{require, unless}
 use Rattle.formula.specs.Tables.{isIn, zeros}
 use Rattle.formula.specs.Text.{
@@ -155,7 +155,7 @@ module _ (prefixRoom clauseRoom : ℕ) where
   set-told at v c q full P done bytes (natural zero) e T =
       require-told full at BadToken (betweenSets v c P) (done ++ (bytes ∷ [])) (λ f. close-told v c q P done bytes (rw f at T) (natural-is bytes 0 e))
   set-told at v c q full P done bytes (natural (suc n)) e T =
-      unless-told at (variableReason v (suc n) (isIn (suc n) (listed P)) (entryFits prefixRoom (length (prefixWords P)))) (inSet v c q true (P ++ (entry (suc n) q ∷ []))) (done ++ (bytes ∷ []))
+      unless-told at (variableReason v (suc n) (isIn (suc n) (listed P)) (entryFits prefixRoom (length P))) (inSet v c q true (P ++ (entry (suc n) q ∷ []))) (done ++ (bytes ∷ []))
       (λ x. list-told v c q full P done bytes (suc n) T (natural-is bytes (suc n) e) (omega arith))
   set-told at v c q full P done bytes (negative n) e T = tt
   set-told at v c q full P done bytes noNumber e T = tt

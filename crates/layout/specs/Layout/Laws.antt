@@ -11,15 +11,14 @@ use lib.Dec.{leb, ltb}
 use lib.IntN.{ℤ, pos, negsuc}
 use lib.ListN.{length, drop, length-append, drop-of-length-le}
 use lib.Seq.{drop-at}
-use Rattle.qbf.specs.Formula.{Prefix, listed, Distinct}
-use Rattle.qbf.specs.Formula.Laws.{distinct-rest}
+use Rattle.qbf.specs.Formula.{Prefix, listed}
 use Rattle.formula.specs.Bounds.{variableBound, textBound}
 use Rattle.formula.specs.Decimal.{decimal}
 use Rattle.formula.specs.Decode.{putFirst, clausesOf}
 use Rattle.formula.specs.Decode.Laws.{clauses-no-zero}
 use Rattle.formula.specs.Free.{free, existentials, completed}
-use Rattle.formula.specs.Prefix.{prefixWords}
-use Rattle.formula.specs.Prefix.Laws.{words-listed, words-append}
+use Rattle.formula.specs.Prefix.{prefixWords, entryWords}
+use Rattle.formula.specs.Prefix.Laws.{words-length, words-rise}
 use Rattle.formula.specs.Refusal.{refusal, require}
 use Rattle.formula.specs.Tables.{zeros, Admitted}
 use Rattle.formula.specs.Tables.Laws.{zeros-clauses, admitted-tables}
@@ -46,8 +45,8 @@ use Rattle.formula.specs.Text.{
   ending,
   reading,
 }
-use Rattle.formula.specs.Text.Admits.{PrefixFine, Sound, run-sound, ReadAdmitted, read-admitted}
-use Rattle.formula.specs.Text.Distinct.{Ranged}
+use Rattle.formula.specs.Text.Admits.{Sound, run-sound, ReadAdmitted, read-admitted}
+use Rattle.formula.specs.Text.Distinct.{Ranged, PrefixFine, apart-distinct}
 use Rattle.formula.specs.RoundTrip.Clauses.{among-sets}
 use Rattle.formula.specs.RoundTrip.Laws.{written-read}
 use Rattle.formula.specs.Write.{literalText, written}
@@ -97,9 +96,9 @@ layout-read {text} {v} {sets} {Cs} L prefixRoom clauseRoom R F =
     added : Prefix
     added = existentials (free v (entriesOf sets) (wordsOf Cs))
 
-    room : length (prefixWords (entriesOf sets)) ≤ prefixRoom
+    room : entryWords (length (entriesOf sets)) ≤ prefixRoom
     room =
-        omega (arith, F .prefix-room, ap {B = ℕ} (λ (ws : List ℤ). length ws) (words-append added (entriesOf sets)), length-append (prefixWords added) (prefixWords (entriesOf sets)))
+        omega (arith, F .prefix-room, words-length (added ++ entriesOf sets), words-rise (length (entriesOf sets)) (length (added ++ entriesOf sets)) (omega (arith, length-append added (entriesOf sets))))
 
     W : WordsRead prefixRoom clauseRoom v (length Cs) (entriesOf sets) (betweenSets v (length Cs) (entriesOf sets)) (flatMap clauseTokens Cs) (wordsOf Cs) (length Cs)
     W =
@@ -238,7 +237,7 @@ module _ (text : List ℕ) (rp rc : ℕ) (short : length text ≤ textBound) whe
             record {
               listed-range = ranged-member v (listed E) (fine .ranged);
               literal-range = rw W (T .range);
-              listed-once = distinct-rest (existentials (free v E words)) E (subst Distinct (words-listed (completed v E words)) (t .prefix-distinct));
+              listed-once = apart-distinct (listed E) (fine .apart);
               once-in-clause = t .clause-distinct;
             };
         fits =

@@ -15,8 +15,8 @@ use Rattle.formula.specs.Decimal.{decimal}
 use Rattle.formula.specs.Decimal.Laws.{decimal-small}
 use Rattle.formula.specs.Decode.Laws.{magnitude-positive}
 use Rattle.formula.specs.Free.Laws.{listed-append}
-use Rattle.formula.specs.Prefix.{prefixWords, entryFits}
-use Rattle.formula.specs.Prefix.Laws.{words-append, entry-room}
+use Rattle.formula.specs.Prefix.{entryWords, entryFits}
+use Rattle.formula.specs.Prefix.Laws.{words-rise, entry-room}
 use Rattle.formula.specs.RoundTrip.Scan.{decimal-number, minus-number, decimal-unlike}
 use Rattle.formula.specs.RoundTrip.Clauses.{open-word, zeros-word, Among, among-clauses}
 use Rattle.formula.specs.Tables.{isIn, zeros}
@@ -66,7 +66,7 @@ module _ (prefixRoom clauseRoom : ℕ) where
   entriesWith q ns = map (λ (n : ℕ). entry n q) ns
 
   list-step :
-      (v c : ℕ) (q : Quantifier) (filled : Bool) (P : Prefix) (n : ℕ) → 1 ≤ n → n ≤ v → isIn n (listed P) ≡ false → entryFits prefixRoom (length (prefixWords P)) ≡ true
+      (v c : ℕ) (q : Quantifier) (filled : Bool) (P : Prefix) (n : ℕ) → 1 ≤ n → n ≤ v → isIn n (listed P) ≡ false → entryFits prefixRoom (length P) ≡ true
       → (at : ℕ) → step prefixRoom clauseRoom (inSet v c q filled P) (record { bytes = decimal n; place = at }) ≡ inSet v c q true (P ++ (entry n q ∷ []))
   unfolding step variableReason
   list-step v c q filled P zero l h f r at = absurd (omega arith)
@@ -74,15 +74,15 @@ module _ (prefixRoom clauseRoom : ℕ) where
 
   variables-walk :
       (v c : ℕ) (q : Quantifier) (filled : Bool) (P : Prefix) (ns : List ℕ) → ((n : ℕ) → List·Memᴰ n ns → (1 ≤ n) × (n ≤ v)) → Distinct (listed (P ++ entriesWith q ns))
-      → length (prefixWords (P ++ entriesWith q ns)) ≤ prefixRoom → Walks (inSet v c q filled P) (map decimal ns) (inSet v c q (filledAfter filled ns) (P ++ entriesWith q ns))
+      → entryWords (length (P ++ entriesWith q ns)) ≤ prefixRoom → Walks (inSet v c q filled P) (map decimal ns) (inSet v c q (filledAfter filled ns) (P ++ entriesWith q ns))
   variables-walk v c q filled P [] r d h = ap (λ (Q : Prefix). inSet v c q filled Q) (sym (append-nil P))
   variables-walk v c q filled P (n ∷ ns) r d h =
       let own = r n (List·Memᴰ·head refl) in
       let fresh : isIn n (listed P) ≡ false = is-in-absent n (listed P) (distinct-absent (listed P) n (listed (entriesWith q ns)) (subst Distinct (listed-append P (entry n q ∷ entriesWith q ns)) d)) in
-      let long = ap {B = ℕ} (λ (ws : List ℤ). length ws) (words-append P (entry n q ∷ entriesWith q ns)) ∙ length-append (prefixWords P) (prefixWords (entry n q ∷ entriesWith q ns)) in
-      let fits : entryFits prefixRoom (length (prefixWords P)) ≡ true = entry-room prefixRoom (length (prefixWords P)) (entry n q) (entriesWith q ns) (omega (arith, long, h)) in
+      let long : suc (length P) ≤ length (P ++ (entry n q ∷ entriesWith q ns)) = rw length-append (omega arith) in
+      let fits : entryFits prefixRoom (length P) ≡ true = entry-room prefixRoom (length P) (omega (arith, h, words-rise (suc (length P)) (length (P ++ (entry n q ∷ entriesWith q ns))) long)) in
       let on : (P ++ (entry n q ∷ [])) ++ entriesWith q ns ≡ P ++ (entry n q ∷ entriesWith q ns) = append-assoc P (entry n q ∷ []) (entriesWith q ns) in
-      (inSet v c q true (P ++ (entry n q ∷ [])), list-step v c q filled P n (own .0) (own .1) fresh fits, later ns on (variables-walk v c q true (P ++ (entry n q ∷ [])) ns (λ m k. r m (List·Memᴰ·tail k)) (subst (λ (Q : Prefix). Distinct (listed Q)) (sym on) d) (subst (λ (Q : Prefix). length (prefixWords Q) ≤ prefixRoom) (sym on) h)))
+      (inSet v c q true (P ++ (entry n q ∷ [])), list-step v c q filled P n (own .0) (own .1) fresh fits, later ns on (variables-walk v c q true (P ++ (entry n q ∷ [])) ns (λ m k. r m (List·Memᴰ·tail k)) (subst (λ (Q : Prefix). Distinct (listed Q)) (sym on) d) (subst (λ (Q : Prefix). entryWords (length Q) ≤ prefixRoom) (sym on) h)))
     where
       later :
           (ms : List ℕ) {Q R : Prefix} → Q ≡ R → Walks (inSet v c q true (P ++ (entry n q ∷ []))) (map decimal ns) (inSet v c q (filledAfter true ms) Q)
@@ -101,7 +101,7 @@ module _ (prefixRoom clauseRoom : ℕ) where
 
   set-walk :
       (v c : ℕ) (P : Prefix) (s : QuantifierSet) → 1 ≤ length (s .variables) → ((n : ℕ) → List·Memᴰ n (s .variables) → (1 ≤ n) × (n ≤ v)) → Distinct (listed (P ++ setEntries s))
-      → length (prefixWords (P ++ setEntries s)) ≤ prefixRoom → Walks (betweenSets v c P) (setTokens s) (betweenSets v c (P ++ setEntries s))
+      → entryWords (length (P ++ setEntries s)) ≤ prefixRoom → Walks (betweenSets v c P) (setTokens s) (betweenSets v c (P ++ setEntries s))
   set-walk v c P s l r d h =
       (inSet v c (s .quantifier) false P, letter-step v c P (s .quantifier), walks-append (inSet v c (s .quantifier) false P) (inSet v c (s .quantifier) true (P ++ setEntries s)) (betweenSets v c (P ++ setEntries s)) (map decimal (s .variables)) (decimal 0 ∷ []) (full (s .variables) l (variables-walk v c (s .quantifier) false P (s .variables) r d h)) (betweenSets v c (P ++ setEntries s), close-step v c (s .quantifier) (P ++ setEntries s), refl))
     where
@@ -129,14 +129,14 @@ listed-with q (n ∷ ns) = ap {B = List ℕ} (λ r. n ∷ r) (listed-with q ns)
 module _ (prefixRoom clauseRoom : ℕ) where
   pub sets-walk :
       (v c : ℕ) (P : Prefix) (sets : List QuantifierSet) → Sets sets → ((n : ℕ) → List·Memᴰ n (listed (entriesOf sets)) → n ≤ v) → Distinct (listed (P ++ entriesOf sets))
-      → length (prefixWords (P ++ entriesOf sets)) ≤ prefixRoom → Walks prefixRoom clauseRoom (betweenSets v c P) (flatMap setTokens sets) (betweenSets v c (P ++ entriesOf sets))
+      → entryWords (length (P ++ entriesOf sets)) ≤ prefixRoom → Walks prefixRoom clauseRoom (betweenSets v c P) (flatMap setTokens sets) (betweenSets v c (P ++ entriesOf sets))
   unfolding flatMap
   sets-walk v c P [] f r d h = ap (λ (Q : Prefix). betweenSets v c Q) (sym (append-nil P))
   sets-walk v c P (s ∷ sets) f r d h =
       let on : (P ++ setEntries s) ++ entriesOf sets ≡ P ++ (setEntries s ++ entriesOf sets) = append-assoc P (setEntries s) (entriesOf sets) in
       let apart : Distinct (listed ((P ++ setEntries s) ++ entriesOf sets)) = subst (λ (Q : Prefix). Distinct (listed Q)) (sym on) d in
-      let room : length (prefixWords ((P ++ setEntries s) ++ entriesOf sets)) ≤ prefixRoom = subst (λ (Q : Prefix). length (prefixWords Q) ≤ prefixRoom) (sym on) h in
-      let part = ap {B = ℕ} (λ (ws : List ℤ). length ws) (words-append (P ++ setEntries s) (entriesOf sets)) ∙ length-append (prefixWords (P ++ setEntries s)) (prefixWords (entriesOf sets)) in
+      let room : entryWords (length ((P ++ setEntries s) ++ entriesOf sets)) ≤ prefixRoom = subst (λ (Q : Prefix). entryWords (length Q) ≤ prefixRoom) (sym on) h in
+      let part = words-rise (length (P ++ setEntries s)) (length ((P ++ setEntries s) ++ entriesOf sets)) (omega (arith, length-append (P ++ setEntries s) (entriesOf sets))) in
       walks-append prefixRoom clauseRoom (betweenSets v c P) (betweenSets v c (P ++ setEntries s)) (betweenSets v c (P ++ (setEntries s ++ entriesOf sets))) (setTokens s) (flatMap setTokens sets)
       (set-walk prefixRoom clauseRoom v c P s (f .0) (λ n m. (f .1 n m, r n (member-left (setEntries s) (entriesOf sets) (rw (listed-with (s .quantifier) (s .variables)) m)))) (distinct-left (P ++ setEntries s) (entriesOf sets) apart) (omega (arith, part, room)))
       (subst (λ (Q : Prefix). Walks prefixRoom clauseRoom (betweenSets v c (P ++ setEntries s)) (flatMap setTokens sets) (betweenSets v c Q)) on (sets-walk v c (P ++ setEntries s) sets (f .2) (λ n m. r n (member-right (setEntries s) (entriesOf sets) m)) apart room))

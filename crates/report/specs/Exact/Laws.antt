@@ -104,7 +104,7 @@ program-within formula proof h k =
       formula-fits = h;
       proof-fits = k;
       steps-fit = λ prefix clauses count e note words laid.
-          let a = read-admitted formula 1024 16384 prefix clauses count e .admitted in
+          let a = read-admitted formula 3072 16384 prefix clauses count e .admitted in
           let n : length proof ≡ length note + 4 * length words + 12 = rw laid (file-of-length note words count) in (
             omega arith,
             words-within clauses words scratchBound 16384 (omega arith) (omega arith) (omega (arith, admitted-closed prefix clauses a, admitted-count prefix clauses a)),

@@ -10,7 +10,7 @@ use lib.Dec.{eqb}
 use lib.ListN.{length, getD, take, drop}
 use lib.Seq.{drop-cons, drop-nil, drop-length, drop-drop}
 use Rattle.qbf.specs.Connectives.{and-both}
-use Rattle.formula.specs.Refusal.{number, Named, named, table, rowAt, word, Tagged}
+use Rattle.formula.specs.Refusal.{number, Named, named, table, rowAt, word, TaggedNumber}
 use Rattle.formula.specs.declared.refusal.Reason.{Reason}
 use Rattle.formula.specs.declared.refusal.Reason.the-variants.{Headless}
 use Rattle.formula.specs.Token.{same}
@@ -80,9 +80,9 @@ filled-at (w ∷ ws) (x ∷ xs) h i l = go i l (and-both (eqb (length w) 14 && s
     go (suc k) l t later = later k (le-of-suc-le-suc l) (t .1)
 
 -- The row of a number is filled up to 14 bytes, and holds the word of its reason.
-module _ (ws : List (List ℕ)) (f : filled ws table ≡ true) (r : Reason) (n : ℕ) (t : Tagged r n) where
+module _ (ws : List (List ℕ)) (f : filled ws table ≡ true) (n : ℕ) (t : TaggedNumber n) where
   pub row-length : length (getD ws (n - 1) []) ≡ 14
   row-length = filled-at ws table f (n - 1) (omega (arith, t .1, t .2)) .0
 
-  pub row-word : n ≡ number r → wordIn (getD ws (n - 1) []) ≡ word r
-  row-word e = filled-at ws table f (n - 1) (omega (arith, t .1, t .2)) .1 ∙ ap (λ (m : ℕ). rowAt m .bytes) e
+  pub row-word : (r : Reason) → n ≡ number r → wordIn (getD ws (n - 1) []) ≡ word r
+  row-word r e = filled-at ws table f (n - 1) (omega (arith, t .1, t .2)) .1 ∙ ap (λ (m : ℕ). rowAt m .bytes) e

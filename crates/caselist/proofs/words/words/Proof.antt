@@ -14,7 +14,7 @@ abbrev μ-loop : tie.MeasureT-loop
 μ-loop text table₀ n₀ at₀ table n at = length text - at
 
 loop-less : tie.Need-loop-less Inv-loop μ-loop
-loop-less c = omega (arith, c .after .ensures .1 (omega arith))
+loop-less c = omega (arith, c .next-word .ensures (omega arith))
 
 loop-again : tie.Need-loop-again Inv-loop μ-loop
 loop-again c = simp length-set (c .before .before .before .before .before .before .loop .inv)

@@ -5,7 +5,7 @@ use Rattle.cases.proofs.list.run_case.Statement.{statement}
 use Rattle.cases.proofs.list.run_case.Tie as tie
 
 returns : tie.Need-returns
-returns c = λ h. omega (arith, c .before .before .before .before .before .next-field .ensures .1 h)
+returns c = λ h. omega (arith, c .before .before .before .before .before .before .next-field .ensures .1 h)
 
 returns-2 : tie.Need-returns-2
 returns-2 c = λ h. omega (arith, c .before .before .before .before .before .next-field .ensures .1 h)

@@ -8,10 +8,10 @@ use Rattle.cases.proofs.tables.number_words.Statement.{statement}
 use Rattle.cases.proofs.tables.number_words.Tie as tie
 
 abbrev Inv-loop : tie.InvT-loop
-Inv-loop table₀ i₀ table i = length table ≡ length table₀
+Inv-loop table₀ in-turn i₀ table i = length table ≡ length table₀
 
 abbrev μ-loop : tie.MeasureT-loop
-μ-loop table₀ i₀ table i = length table - i
+μ-loop table₀ in-turn i₀ table i = length table - i
 
 loop-less : tie.Need-loop-less Inv-loop μ-loop
 loop-less c = simp length-set (omega arith)
@@ -26,10 +26,10 @@ number-words-spec =
     Inv-loop
     μ-loop
     (λ c. refl)
-    (λ c. omega arith)
     (λ c κs. search needs)
     (λ c. search needs)
     (λ c. search needs)
+    (λ c. omega arith)
     loop-less
     loop-again
     (λ c. search needs)

@@ -1,12 +1,16 @@
--- `reduce_on` makes the row in scratch, asks it of the clause, and judges the result. Assumes nothing.
+-- `reduce_on` makes the row in scratch, asks it of the clause, and names what blocks or judges the result. Assumes nothing.
 use mathlib.Core.Path.{_≡_, refl, ap, sym, _∙_}
 use lib.ListN.{take, drop}
 use Rattle.dependency.specs.Scratch.{own}
 use Rattle.formula.specs.Decode.{clauseAt, formulaOf}
+use Rattle.formula.specs.Tables.Laws.{admitted-words, admitted-entries}
+use Rattle.formula.specs.declared.refusal.Blocker.{Blocker}
+use Rattle.formula.specs.declared.refusal.Reason.the-variants.{Blocked}
 use borrow.Author.Needs.{needs}
 use Rattle.checker.specs.Steps.{blocked}
 use Rattle.checker.specs.Verdict.{scopeOf}
-use Rattle.checker.specs.Blocked.Laws.{row-blocked}
+use Rattle.checker.specs.Blocked.Laws.{row-blocked, row-blocker}
+use Rattle.checker.specs.declared.result.Judgement.the-variants.{Wrong}
 use Rattle.checker.specs.Step.Laws.{part-back, row-kept, clean-bound}
 use Rattle.checker.proofs.reduce.reduce_on.Statement.{statement}
 use Rattle.checker.proofs.reduce.reduce_on.Tie as tie
@@ -36,8 +40,23 @@ row-touches-requires c κs =
     let start = made .before .before .before in
     clean-bound (start .args .scratch .now) (made .make-row .last .1 .1 .1 .0) (start .pre .0) (made .make-row .kept .1 .1 .1 .0)
 
+find-blocker-requires : tie.Need-find-blocker-requires
+find-blocker-requires c κs =
+    let made = c .before .before .before .before .before .before in
+    let start = made .before .before .before in
+    let prefix = start .args .prefix .now in
+    let clauses = start .args .clauses .now in
+    (admitted-entries prefix clauses (start .pre .1 .0), (admitted-words prefix clauses (start .pre .1 .0), clean-bound (start .args .scratch .now) (made .make-row .last .1 .1 .1 .0) (start .pre .0) (made .make-row .kept .1 .1 .1 .0)))
+
 returns : tie.Need-returns
-returns c = rw (← blocked-at (c .before), c .if1 .taken) (record { answer = refl; kept = kept-at (c .before .before .before .before .before) })
+returns c =
+    let touched = c .before .before .before in
+    let made = touched .before .before .before .before in
+    let start = made .before .before .before in
+    let prefix = start .args .prefix .now in
+    let clauses = start .args .clauses .now in
+    let named = row-blocker prefix clauses (start .args .variable .0) (start .args .scratch .now) (made .make-row .last .1 .1 .1 .0) (made .make-row .ensures) (admitted-entries prefix clauses (start .pre .1 .0)) (clauseAt (start .args .words .now) (start .args .from)) in
+    rw (← blocked-at touched, c .before .before .if1 .taken) (record { answer = ap (λ (b : Blocker). Wrong (Blocked b)) (c .find-blocker .ensures ∙ named); kept = kept-at made })
 
 judge-reduct-requires : tie.Need-judge-reduct-requires
 judge-reduct-requires c κs =
@@ -59,6 +78,7 @@ reduce-on-spec =
     (tie.spec
     make-row-requires
     row-touches-requires
+    find-blocker-requires
     (λ c. search needs)
     returns
     (λ c. search needs)

@@ -39,7 +39,7 @@ loop-again c =
     let mark : c .before .is-free .result ≡ isFreeMark (getD marks (suc (l .v)) 0) = rw add-one at (c .before .is-free .ensures) in
     rw add-one
     (⊎-elim
-    (λ b. rw (b .4, b .5, rw add-one at (b .2 .ensures .1), b .2 .ensures .0) (put-adds (s .pre .2) h (l .inv) (sym mark ∙ b .0 .taken)))
+    (λ b. rw (b .4, b .5, rw add-one at (b .2 .ensures .1), rw add-one at (b .2 .ensures .0)) (put-adds (s .pre .2) h (l .inv) (sym mark ∙ b .0 .taken) (omega (arith, h, s .pre .0))))
     (λ b. rw (b .1, b .2) (put-skips (s .pre .2) h (l .inv) (sym mark ∙ b .0 .left)))
     (c .if1 .came))
 

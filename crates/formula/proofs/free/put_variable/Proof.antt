@@ -1,9 +1,12 @@
 -- `put_variable` makes the variable, which is in range, and puts its entry. Assumes nothing.
-use mathlib.Core.Path.{sym, _∙_}
+use mathlib.Core.Path.{refl, sym, _∙_}
 use native.Mathlib.Omega.{arith}
 use borrow.Author.Needs.{needs}
 use Rattle.formula.specs.Bounds.{variableBound, inRange}
 use Rattle.formula.specs.Bounds.Laws.{variable-made, variable-refused, above-range}
+use lib.ListN.{length}
+use Rattle.formula.specs.Prefix.{entryWords}
+use Rattle.formula.specs.Prefix.Laws.{put-within}
 use Rattle.formula.proofs.free.put_variable.Statement.{statement}
 use Rattle.formula.proofs.free.put_variable.Tie as tie
 
@@ -13,6 +16,13 @@ put-entry-requires c κs =
     let k = c .before .before .variable .given in
     let made = variable-made (inRange (args .n) variableBound) (args .n) (k .0 .0) (sym (c .before .before .before .before .new .ensures) ∙ k .1) in
     (c .before .before .before .before .before .pre .2, omega (arith, made .1, c .before .before .before .before .before .pre .1))
+
+add-result : tie.Need-add-result
+unfolding entryWords
+add-result c =
+    let s = c .before .before .before .before .before .before .before in
+    let h = put-within (length (s .args .prefix .now)) (s .args .entries) (s .pre .2) in
+    search needs
 
 returns : tie.Need-returns
 returns c =
@@ -25,7 +35,7 @@ returns-2 c =
     let args = c .before .before .before .before .before .before .before .args in
     let k = c .before .before .before .before .variable .given in
     let made = variable-made (inRange (args .n) variableBound) (args .n) (k .0 .0) (sym (c .before .before .before .before .before .before .new .ensures) ∙ k .1) in
-    (c .before .put-entry .ensures .0, rw (made .1) (c .before .put-entry .ensures .1))
+    (refl, rw (made .1) (c .before .put-entry .ensures))
 
 pub put-variable-spec : {M : Type 1} → statement M
 put-variable-spec =
@@ -35,6 +45,7 @@ put-variable-spec =
     (λ c. search needs)
     (λ c. search needs)
     put-entry-requires
+    add-result
     returns
     (λ c. search needs)
     returns-2)

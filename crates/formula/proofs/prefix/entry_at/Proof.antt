@@ -1,73 +1,105 @@
--- `entry_at` shows the entry of the word at its place, by what the word is. Assumes nothing.
-use Prim.Native.Nat.{_≤_, _<_}
+-- `entry_at` shows the entry of the words at its place. Assumes nothing.
+use Prim.Native.Nat.{_+_, _*_, _≤_, _<_}
 use mathlib.Core.Path.{_≡_, ap, sym, _∙_}
 use native.Mathlib.Omega.{arith}
+use borrow.Author.Needs.{needs}
+use borrow.Author.Tests.{eq-eqb, ne-eqb}
 use lib.ListN.{length, getD}
-use lib.IntN.{ℤ, pos, natAbs}
+use lib.IntN.{ℤ, pos}
 use mir.Syntax.{w32}
 use mir.Val.{toZ, ofZ}
-use Rattle.formula.specs.Word.{wordOf}
-use Rattle.formula.specs.Word.Laws.{zero-word, not-too-large}
-use Rattle.formula.specs.Prefix.{entryShown}
-use Rattle.formula.specs.Prefix.Laws.{entry-count, entry-word, entry-positive, entry-negative, entry-ranged}
-use Rattle.formula.specs.declared.word.Word.the-variants.{Zero}
-use borrow.Author.Needs.{needs}
+use Rattle.qbf.specs.Formula.{Entry}
+use Rattle.formula.specs.Bounds.{variableBound, inRange}
+use Rattle.formula.specs.Bounds.Laws.{variable-made, variable-refused, above-range}
+use Rattle.formula.specs.Word.{ordinal}
+use Rattle.formula.specs.Word.Laws.{ordinal-bounded}
+use Rattle.formula.specs.Prefix.{entryAt}
+use Rattle.formula.specs.Prefix.Laws.{entry-count, entry-word, entry-at-ranged}
 use Rattle.formula.proofs.prefix.entry_at.Statement.{statement}
 use Rattle.formula.proofs.prefix.entry_at.Tie as tie
 
--- the place is one of the table
-within : (c : tie.Start) → c .args .place < length (c .args .prefix .now)
-within c = omega (arith, entry-count (c .args .prefix .now), c .pre .1)
+-- the record is one of the table
+below : (c : tie.Start) → 3 * c .args .place + 2 < length (c .args .prefix .now)
+below c = omega (arith, entry-count (c .args .prefix .now), c .pre .1)
 
--- the word there
-abbrev word : (c : tie.Start) → ℤ
-word c = getD (c .args .prefix .now) (c .args .place) (pos 0)
+-- its first two words
+abbrev first : (c : tie.Start) → ℤ
+first c = getD (c .args .prefix .now) (3 * c .args .place) (pos 0)
 
-told : (c : tie.After-of) → c .of .result ≡ wordOf (word (c .before .before))
-told c = let e : toZ w32 (ofZ w32 (word (c .before .before))) ≡ word (c .before .before) = search needs in rw e at (c .of .ensures)
+abbrev second : (c : tie.Start) → ℤ
+second c = getD (c .args .prefix .now) (3 * c .args .place + 1) (pos 0)
 
-not-zero : (w : ℤ) {A : Type 0} → 1 ≤ natAbs w → wordOf w ≡ Zero → A
-not-zero w h e = let z : natAbs w ≡ 0 = ap natAbs (zero-word w e) in absurd (omega arith)
+told : (c : tie.After-ordinal) → c .ordinal .result ≡ ordinal (first (c .before .before))
+told c = let e : toZ w32 (ofZ w32 (first (c .before .before))) ≡ first (c .before .before) = search needs in rw e at (c .ordinal .ensures)
 
-mul-of : tie.Need-mul-of
-mul-of c = let h = within c in search needs
+told-2 : (c : tie.After-ordinal2) → c .ordinal2 .result ≡ ordinal (second (c .before .before .before .before .before .before .before .before))
+told-2 c =
+    let s = c .before .before .before .before .before .before .before .before in
+    let e : toZ w32 (ofZ w32 (second s)) ≡ second s = search needs in
+    rw e at (c .ordinal2 .ensures)
+
+-- the variable made
+made : (c : tie.After-known-told) → ordinal (first (c .before .before .before .before .before .before)) ≡ c .before .v .given .0 .0 .0
+made c =
+    let n = c .before .before .before .before .ordinal .result in
+    let m = variable-made (inRange n variableBound) n (c .before .v .given .0 .0) (sym (c .before .before .before .new .ensures) ∙ c .before .v .given .1) in
+    sym (told (c .before .before .before .before)) ∙ m .1
+
+mul-at : tie.Need-mul-at
+mul-at c = let h = below c in search needs
+
+mul-ordinal : tie.Need-mul-ordinal
+mul-ordinal c = let h = below c in search needs
+
+slice-1 : tie.Need-shared-slice-copy-out-ordinal
+slice-1 c = omega (arith, below c)
+
+add-ordinal : tie.Need-add-ordinal
+add-ordinal c = let h = below (c .before .before .before .before .before .before) in search needs
+
+mul-ordinal-2 : tie.Need-mul-ordinal-2
+mul-ordinal-2 c = let h = below (c .before .before .before .before .before .before) in search needs
+
+slice-2 : tie.Need-shared-slice-copy-out-ordinal-2
+slice-2 c = omega (arith, below (c .before .before .before .before .before .before))
 
 returns : tie.Need-returns
 returns c =
-    let s = c .before .before .before .before .before in
-    not-zero (word s) (entry-ranged (s .args .prefix .now) (s .pre .0) (s .args .place) (within s) .0) (sym (told (c .before .before .before)) ∙ c .before .enum-told .given .1)
+    let s = c .before .before .before .before .before .before .before .before .before in
+    let q : ordinal (second s) ≡ 2 = sym (told-2 (c .before)) ∙ c .if1 .taken in
+    rw (entry-word (s .args .prefix .now) (s .args .place) (s .pre .1), made (c .before .before .before), q)
 
 returns-2 : tie.Need-returns-2
 returns-2 c =
-    let s = c .before .before .before .before .before in
-    not-too-large (word s) (entry-ranged (s .args .prefix .now) (s .pre .0) (s .args .place) (within s) .1) (sym (told (c .before .before .before)) ∙ c .before .enum-told2 .given .1)
+    let s = c .before .before .before .before .before .before in
+    let n = c .before .before .before .before .ordinal .result in
+    let outside = variable-refused (inRange n variableBound) n (sym (c .before .before .before .new .ensures) ∙ c .before .enum-told .given .1) in
+    let w : entryAt (s .args .prefix .now) (s .args .place) .variable ≡ ordinal (first s) = ap (λ (x : Entry). x .variable) (entry-word (s .args .prefix .now) (s .args .place) (s .pre .1)) in
+    let least : 1 ≤ n = rw (told (c .before .before .before .before), ← w) (entry-at-ranged (s .args .prefix .now) (s .pre .0) (s .args .place) (s .pre .1) .0) in
+    absurd (omega (arith, above-range n variableBound least outside, told (c .before .before .before .before), ordinal-bounded (first s)))
 
 returns-3 : tie.Need-returns-3
 returns-3 c =
-    let s = c .before .before .before .before .before in
-    entry-positive (word s) (c .before .v .given .0 .0) (sym (told (c .before .before .before)) ∙ c .before .v .given .1)
-    ∙ ap entryShown (sym (entry-word (s .args .prefix .now) (s .args .place) (within s)))
-
-returns-4 : tie.Need-returns-4
-returns-4 c =
-    let s = c .before .before .before .before .before in
-    entry-negative (word s) (c .before .v2 .given .0 .0) (sym (told (c .before .before .before)) ∙ c .before .v2 .given .1)
-    ∙ ap entryShown (sym (entry-word (s .args .prefix .now) (s .args .place) (within s)))
+    let s = c .before .before .before .before .before .before .before .before .before in
+    let q : ordinal (second s) ≡ 2 → ⊥ = λ e. c .if1 .left (told-2 (c .before) ∙ e) in
+    rw (entry-word (s .args .prefix .now) (s .args .place) (s .pre .1), made (c .before .before .before), ne-eqb (ordinal (second s)) 2 q)
 
 pub entry-at-spec : {M : Type 1} → statement M
 entry-at-spec =
     tie.close
     (tie.spec
-    mul-of
-    within
+    mul-at
+    mul-ordinal
+    slice-1
+    (λ c κs. search needs)
     (λ c κs. search needs)
     (λ c. search needs)
     (λ c κs. search needs)
     (λ c. search needs)
+    add-ordinal
+    mul-ordinal-2
+    slice-2
     (λ c κs. search needs)
-    (λ c. search needs)
-    (λ c. search needs)
     returns
     returns-2
-    returns-3
-    returns-4)
+    returns-3)

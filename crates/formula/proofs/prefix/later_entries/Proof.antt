@@ -1,4 +1,4 @@
--- `later_entries`: the words after the first. Assumes nothing.
+-- `later_entries`: the words after the first three. Assumes nothing.
 use Prim.Native.Nat.{_-_}
 use native.Mathlib.Omega.{arith}
 use lib.ListN.{length, drop, length-drop}
@@ -17,7 +17,7 @@ part-result-start c = omega (arith, entry-count (c .args .prefix .now))
 
 returns : tie.Need-returns
 unfolding laterEntries
-returns c = let ws = c .before .args .prefix .now in take-all (length ws - 1) (drop 1 ws) (omega (arith, length-drop 1 ws))
+returns c = let ws = c .before .args .prefix .now in take-all (length ws - 3) (drop 3 ws) (omega (arith, length-drop 3 ws))
 
 pub later-entries-spec : {M : Type 1} → statement M
 later-entries-spec = tie.close (tie.spec sub-result part-result-start (λ c. search needs) returns)

@@ -1,7 +1,7 @@
 -- `fill_tables` reads the sets, then the clauses, then completes the prefix. Assumes nothing.
 use mathlib.Core.Path.{_∙_}
 use lib.ListN.{length}
-use Rattle.formula.specs.Text.Fill.Laws.{listed-none, fill-completed, fill-crowded}
+use Rattle.formula.specs.Text.Fill.Laws.{listed-none, completed-fits, fill-completed, fill-crowded}
 use borrow.Author.Needs.{needs}
 use Rattle.formula.proofs.read.fill_tables.Statement.{statement}
 use Rattle.formula.proofs.read.fill_tables.Tie as tie
@@ -11,15 +11,15 @@ read-sets-requires c κs = let k = c .before .before .before in ((k .pre .0 .0, 
 
 read-clauses-requires : tie.Need-read-clauses-requires
 read-clauses-requires c κs =
-    let sets = rw (c .before .before .before .used .given .1) at (c .before .before .before .before .before .before .read-sets .ensures) in
+    let sets = rw (c .before .before .before .entries .given .1) at (c .before .before .before .before .before .before .read-sets .ensures) in
     ((sets .3, c .before .before .before .before .before .before .before .before .before .before .pre .0 .1), (search needs, search needs, sets .1 .size))
 
 complete-requires : tie.Need-complete-requires
 complete-requires c κs =
     let s = c .before .before .before .before .before .before .before .before .before .before .before .before .before .before .before .before .before in
-    let sets = rw (c .before .before .before .before .before .before .before .before .before .before .used .given .1) at (c .before .before .before .before .before .before .before .before .before .before .before .before .before .read-sets .ensures) in
+    let sets = rw (c .before .before .before .before .before .before .before .before .before .before .entries .given .1) at (c .before .before .before .before .before .before .before .before .before .before .before .before .before .read-sets .ensures) in
     let clauses = rw (c .before .before .before .words .given .1) at (c .before .before .before .before .before .before .read-clauses .ensures (length (s .args .prefix .now)) _ (sets .1)) in
-    (sets .2, s .pre .1 .0, clauses .2 .size)
+    ((sets .2, s .pre .1 .0, clauses .2 .size), completed-fits _ _ _ _ _ (s .pre .1 .0) (clauses .2) (sets .1 .fine))
 
 returns : tie.Need-returns
 returns c =
@@ -30,7 +30,7 @@ returns c =
 returns-2 : tie.Need-returns-2
 returns-2 c =
     let args = c .before .before .before .before .before .before .before .before .before .before .before .before .before .before .before .args in
-    let sets = rw (c .before .before .before .before .before .before .before .before .used .given .1) at (c .before .before .before .before .before .before .before .before .before .before .before .read-sets .ensures) in
+    let sets = rw (c .before .before .before .before .before .before .before .before .entries .given .1) at (c .before .before .before .before .before .before .before .before .before .before .before .read-sets .ensures) in
     let clauses = rw (c .before .r2 .given .1) at (c .before .before .before .before .read-clauses .ensures (length (args .prefix .now)) _ (sets .1)) in
     sets .0 (args .count) (length (args .clauses .now)) ∙ clauses
 
@@ -39,7 +39,7 @@ returns-3 c =
     let s = c .before .before .before .before .before .before .before .before .before .before .before .before .before .before .before .before .before .before .before .before .before .before in
     let args = s .args in
     let read = c .before .before .before .before .before .before .before .before .before .before .before .before .before .before .before .before .before .before .read-sets in
-    let listed = c .before .before .before .before .before .before .before .before .before .before .before .before .before .before .before .used .given in
+    let listed = c .before .before .before .before .before .before .before .before .before .before .before .before .before .before .before .entries .given in
     let sets = rw (listed .1) at (read .ensures) in
     let written = c .before .before .before .before .before .before .before .before .before .before .before .read-clauses in
     let counted = c .before .before .before .before .before .before .before .before .words .given in
@@ -52,7 +52,7 @@ returns-4 c =
     let s = c .before .before .before .before .before .before .before .before .before .before .before .before .before .before .before .before .before .before .before .before .before .before in
     let args = s .args in
     let read = c .before .before .before .before .before .before .before .before .before .before .before .before .before .before .before .before .before .before .read-sets in
-    let listed = c .before .before .before .before .before .before .before .before .before .before .before .before .before .before .before .used .given in
+    let listed = c .before .before .before .before .before .before .before .before .before .before .before .before .before .before .before .entries .given in
     let sets = rw (listed .1) at (read .ensures) in
     let written = c .before .before .before .before .before .before .before .before .before .before .before .read-clauses in
     let counted = c .before .before .before .before .before .before .before .before .words .given in

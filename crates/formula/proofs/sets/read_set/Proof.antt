@@ -14,15 +14,15 @@ use Rattle.formula.proofs.sets.read_set.Statement.{statement}
 use Rattle.formula.proofs.sets.read_set.Tie as tie
 
 abbrev Inv-loop : tie.InvT-loop
-Inv-loop text variables existential prefix₀ used marks₀ from n₀ prefix marks at n = SetSoFar text (from .place) variables (quantifierOf existential) used prefix₀ prefix marks (at .place) n × PositionIn text at
+Inv-loop text variables existential prefix₀ entries marks₀ from n₀ prefix marks at n = SetSoFar text (from .place) variables (quantifierOf existential) entries prefix₀ prefix marks (at .place) n × PositionIn text at
 
 abbrev μ-loop : tie.MeasureT-loop
-μ-loop text variables existential prefix₀ used marks₀ from n₀ prefix marks at n = length text - at .place
+μ-loop text variables existential prefix₀ entries marks₀ from n₀ prefix marks at n = length text - at .place
 
 loop-holds : tie.Need-loop-holds Inv-loop μ-loop
 loop-holds c =
     let args = c .before .args in
-    (set-begins (args .text .now) (args .from .place) (args .variables) (quantifierOf (args .existential)) (args .used) (args .prefix .now) (args .marks .now) (c .before .pre .1 .1) (c .before .pre .1 .2), c .before .pre .0 .0)
+    (set-begins (args .text .now) (args .from .place) (args .variables) (quantifierOf (args .existential)) (args .entries) (args .prefix .now) (args .marks .now) (c .before .pre .1 .1) (c .before .pre .1 .2), c .before .pre .0 .0)
 
 -- the token that was found
 found : (c : tie.After-known-told2 Inv-loop μ-loop) → let g = c .before .token .given .0 in let l = c .before .before .before .before in Finds (l .before .before .args .text .now) (l .loop .at .place) (g .0) (g .1 .0) (g .1 .1 .0)

@@ -13,10 +13,10 @@ use Rattle.formula.proofs.sets.read_sets.Statement.{statement}
 use Rattle.formula.proofs.sets.read_sets.Tie as tie
 
 abbrev Inv-loop : tie.InvT-loop
-Inv-loop text variables prefix₀ marks₀ from used₀ e a prefix marks at used = SetsSoFar text (from .place) variables prefix₀ prefix marks (at .place) used × PositionIn text at
+Inv-loop text variables prefix₀ marks₀ from entries₀ e a prefix marks at entries = SetsSoFar text (from .place) variables prefix₀ prefix marks (at .place) entries × PositionIn text at
 
 abbrev μ-loop : tie.MeasureT-loop
-μ-loop text variables prefix₀ marks₀ from used₀ e a prefix marks at used = length text - at .place
+μ-loop text variables prefix₀ marks₀ from entries₀ e a prefix marks at entries = length text - at .place
 
 loop-holds : tie.Need-loop-holds Inv-loop μ-loop
 loop-holds c =

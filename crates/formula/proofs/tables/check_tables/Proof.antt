@@ -4,10 +4,10 @@ use mathlib.Core.Bool.{true, false}
 use lib.ListN.{length}
 use lib.Dec.{leb}
 use denote.Enum.Declared.{tagOf}
-use Rattle.formula.specs.Bounds.{variableBound, matrixBound, countBound}
+use Rattle.formula.specs.Bounds.{prefixBound, matrixBound, countBound}
 use Rattle.formula.specs.Bounds.Laws.{fit-made, fit-refused, clauses-made}
 use Rattle.formula.specs.Tables.{zeros, sized}
-use Rattle.formula.proofs.bounds.VariableCountFit as variable-fit
+use Rattle.formula.proofs.bounds.PrefixFit as prefix-fit
 use Rattle.formula.proofs.bounds.MatrixFit as matrix-fit
 use Rattle.formula.proofs.bounds.ClauseCountFit as count-fit
 use Rattle.formula.proofs.Scan.{sizes-refused, words-refused, words-admitted}
@@ -28,11 +28,11 @@ second c = c .before .before .before .before .before
 returns : tie.Need-returns
 returns c =
     let a = c .before .before .before .before .args in
-    let e : leb (length (a .prefix .now)) variableBound ≡ false = fit-refused _ _ _ _ (sym (c .before .before .new2 .ensures) ∙ c .enum-told2 .given .1) (ap (tagOf variable-fit.the-type)) in
+    let e : leb (length (a .prefix .now)) prefixBound ≡ false = fit-refused _ _ _ _ (sym (c .before .before .new2 .ensures) ∙ c .enum-told2 .given .1) (ap (tagOf prefix-fit.the-type)) in
     rw (c .before .before .before .new .ensures) (sym (sizes-refused (a .prefix .now) (a .clauses .now) (rw e)))
 
-prefix-within : (c : tie.After-enum-told) → leb (length (start c .args .prefix .now)) variableBound ≡ true
-prefix-within c = fit-made _ _ _ _ (sym (c .before .before .new2 .ensures) ∙ c .enum-told .given .1) (λ z. ap (tagOf variable-fit.the-type) (sym z)) .0
+prefix-within : (c : tie.After-enum-told) → leb (length (start c .args .prefix .now)) prefixBound ≡ true
+prefix-within c = fit-made _ _ _ _ (sym (c .before .before .new2 .ensures) ∙ c .enum-told .given .1) (λ z. ap (tagOf prefix-fit.the-type) (sym z)) .0
 
 returns-2 : tie.Need-returns-2
 returns-2 c =

@@ -7,21 +7,23 @@ use mathlib.Core.List.{List, [], _∷_, _++_}
 use native.Mathlib.Nat.{le-of-suc-le-suc, not-suc-le-zero}
 use native.Mathlib.Omega.{arith}
 use borrow.Author.Tests.{le-leb, lt-leb}
-use lib.ListN.{length, getD, take, replicate, length-replicate, length-append}
+use lib.ListN.{length, getD, take, replicate, length-replicate, length-append, length-map}
 use lib.Seq.{length-take-le}
 use lib.Dec.{leb}
 use lib.IntN.{ℤ, pos}
 use Rattle.formula.specs.Bounds.{variableBound, textBound}
 use Rattle.formula.specs.Clear.{clearFrom}
-use Rattle.formula.specs.Free.{isFree, free, existentials, completed}
-use Rattle.formula.specs.Free.Complete.{isFreeMark, freeWords, CompletionPost}
+use Rattle.qbf.specs.Formula.{existential, entry}
+use Rattle.formula.specs.Free.{isFree, existentials, completed}
+use Rattle.formula.specs.Free.Complete.{isFreeMark, freeMarked, completedIn, CompletionPost}
 use Rattle.formula.specs.Free.Laws.{passing-same}
-use Rattle.formula.specs.Prefix.{prefixOf, prefixWords}
-use Rattle.formula.specs.Prefix.Laws.{prefix-words, words-append}
+use Rattle.formula.specs.Prefix.{prefixWords, entryWords, entriesIn}
+use Rattle.formula.specs.Prefix.Laws.{words-length, entries-length}
 use Rattle.formula.specs.Refusal.{refusal, inText}
 use Rattle.formula.specs.Tables.{isIn}
 use Rattle.formula.specs.Token.{firstToken}
 use Rattle.formula.specs.Text.{Reading, padded, refused, wantsP, completing, reading, readingFrom, ReadPost}
+use Rattle.formula.specs.Text.Distinct.{PrefixFine, prefix-empty, completed-fine}
 use Rattle.formula.specs.Text.Sets.{Listed}
 use Rattle.formula.specs.Text.Clauses.{MarksFree}
 use Rattle.formula.specs.Text.Fill.{FillPost}
@@ -44,6 +46,7 @@ listed-none =
       nought = unmarked (suc variableBound) 0;
       says = λ v h. rw unmarked;
       small = λ v. rw unmarked (omega arith);
+      fine = prefix-empty variableBound;
     }
 
 cleared-rest : (n : ℕ) (table : List ℤ) → n ≤ length table → clearFrom (pos 0) n table ≡ take n table ++ replicate (length table - n) (pos 0)
@@ -84,28 +87,34 @@ pub reading-long : (text : List ℕ) (prefixRoom clauseRoom : ℕ) → leb (leng
 unfolding reading
 reading-long text prefixRoom clauseRoom e = rw e
 
--- The words of the completed prefix, by the marks: the free variables' ahead of the listed ones'.
-completed-words :
-    (v used : ℕ) (prefix words : List ℤ) (marks : List ℕ) → v ≤ variableBound → MarksFree marks (prefixOf (take used prefix)) words
-    → prefixWords (completed v (prefixOf (take used prefix)) words) ≡ freeWords marks v ++ take used prefix
-completed-words v used prefix words marks b F =
-    words-append (existentials (free v (prefixOf (take used prefix)) words)) (prefixOf (take used prefix))
-    ∙ rw (prefix-words (take used prefix), passing-same (isFree (prefixOf (take used prefix)) words) (λ n. isFreeMark (getD marks n 0)) v (λ n l h. F .frees n l (omega (arith, b))))
+-- The completed prefix, by the marks: the free variables' entries ahead of the listed ones.
+pub completed-marked :
+    (v used : ℕ) (prefix words : List ℤ) (marks : List ℕ) → v ≤ variableBound → MarksFree marks (entriesIn prefix used) words
+    → completed v (entriesIn prefix used) words ≡ completedIn marks v used prefix
+completed-marked v used prefix words marks b F =
+    rw (passing-same (isFree (entriesIn prefix used) words) (λ n. isFreeMark (getD marks n 0)) v (λ n l h. F .frees n l (omega (arith, b))))
+
+pub completed-fits :
+    (v used : ℕ) (prefix words : List ℤ) (marks : List ℕ) → v ≤ variableBound → MarksFree marks (entriesIn prefix used) words
+    → PrefixFine variableBound (entriesIn prefix used) → PrefixFine variableBound (completedIn marks v used prefix)
+completed-fits v used prefix words marks b F fine = rw (← completed-marked v used prefix words marks b F) (completed-fine variableBound v (entriesIn prefix used) words b fine)
 
 -- What `complete` answers decides what is read.
-module _ (prefixRoom : ℕ) (text : List ℕ) (v c used n : ℕ) (prefix prefix′ clauses′ : List ℤ) (marks : List ℕ) (b : v ≤ variableBound) (h : used ≤ length prefix) (room : length prefix ≡ prefixRoom) (k : n ≤ length clauses′) (F : MarksFree marks (prefixOf (take used prefix)) (take n clauses′)) where
+module _ (prefixRoom : ℕ) (text : List ℕ) (v c used n : ℕ) (prefix prefix′ clauses′ : List ℤ) (marks : List ℕ) (b : v ≤ variableBound) (h : entryWords used ≤ length prefix) (room : length prefix ≡ prefixRoom) (k : n ≤ length clauses′) (F : MarksFree marks (entriesIn prefix used) (take n clauses′)) where
   abbrev completedReading : Reading
-  completedReading = completing prefixRoom text (completed v (prefixOf (take used prefix)) (take n clauses′)) (take n clauses′) c
+  completedReading = completing prefixRoom text (completed v (entriesIn prefix used) (take n clauses′)) (take n clauses′) c
 
-  total-length : length (freeWords marks v ++ take used prefix) ≡ length (freeWords marks v) + used
-  total-length = length-append (freeWords marks v) (take used prefix) ∙ rw (length-take-le used prefix h)
+  total-length : length (prefixWords (completedIn marks v used prefix)) ≡ entryWords (length (freeMarked marks v) + used)
+  total-length =
+      words-length (completedIn marks v used prefix)
+      ∙ ap entryWords (length-append (existentials (freeMarked marks v)) (entriesIn prefix used) ∙ rw (length-map (freeMarked marks v) (λ (m : ℕ). entry m existential), entries-length prefix used h))
 
   pub fill-completed : (total : ℕ) → length prefix′ ≡ length prefix → CompletionPost marks v used prefix prefix′ (Completed total) → FillPost completedReading prefix′ clauses′ (Read total n c)
   fill-completed total l post =
-      let fits : leb (length (freeWords marks v ++ take used prefix)) prefixRoom ≡ true = le-leb (length (freeWords marks v ++ take used prefix)) prefixRoom (omega (arith, total-length, post .0, post .1, l, room)) in
-      (rw (completed-words v used prefix (take n clauses′) marks b F, fits, post .2), post .1, k)
+      let fits : leb (length (prefixWords (completedIn marks v used prefix))) prefixRoom ≡ true = le-leb _ prefixRoom (rw (total-length, ← post .0) (omega (arith, post .1, l, room))) in
+      (rw (completed-marked v used prefix (take n clauses′) marks b F, fits, post .2), post .1, k)
 
   pub fill-crowded : CompletionPost marks v used prefix prefix′ NoRoom → completedReading ≡ refused (inText text (length text) Lacks)
   fill-crowded post =
-      let short : leb (length (freeWords marks v ++ take used prefix)) prefixRoom ≡ false = lt-leb (length (freeWords marks v ++ take used prefix)) prefixRoom (omega (arith, total-length, post, room)) in
-      rw (completed-words v used prefix (take n clauses′) marks b F, short)
+      let short : leb (length (prefixWords (completedIn marks v used prefix))) prefixRoom ≡ false = lt-leb _ prefixRoom (rw total-length (omega (arith, post, room))) in
+      rw (completed-marked v used prefix (take n clauses′) marks b F, short)

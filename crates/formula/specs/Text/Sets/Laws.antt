@@ -1,22 +1,23 @@
 -- Laws of reading the sets: the marks of the variables listed, and one law for each outcome of a token in a set.
 -- Assumes nothing.
-use Prim.Native.Nat.{ℕ, zero, suc, _≤_, _<_, min}
+use Prim.Native.Nat.{ℕ, zero, suc, _+_, _≤_, _<_, min}
 use mathlib.Core.Path.{_≡_, refl, sym, _∙_}
 use mathlib.Core.Bool.{Bool, true, false, _||_, or-true, or-false}
 use mathlib.Core.Option.{Option, none, some}
 use mathlib.Core.List.{List, [], _∷_, _++_}
 use native.Mathlib.Decide.{ℕ-discrete}
+use native.Mathlib.Numerals.{add-one}
 use native.Mathlib.Omega.{arith}
 use borrow.Author.Tests.{leb-true, leb-false, lt-leb, lt-ltb, le-ltb, eq-eqb, ne-eqb}
 use lib.ListN.{length, getD, set, take, length-set}
-use lib.Seq.{getD-set-same, getD-set-other, length-take-le}
+use lib.Seq.{getD-set-same, getD-set-other}
 use lib.Dec.{ltb, leb, eqb}
 use lib.IntN.{ℤ}
 use Rattle.qbf.specs.Formula.{Quantifier, entry, Prefix, listed}
 use Rattle.formula.specs.Bounds.{variableBound}
 use Rattle.formula.specs.Refusal.{refusedAt, unless}
-use Rattle.formula.specs.Prefix.{prefixOf, entryFits, usedAfter, quantifierOf}
-use Rattle.formula.specs.Prefix.Laws.{prefix-none, prefix-words, put-entries, put-more, put-within}
+use Rattle.formula.specs.Prefix.{entriesIn, entryWords, entryFits, quantifierOf}
+use Rattle.formula.specs.Prefix.Laws.{entries-none, entries-length, put-entries, put-within}
 use Rattle.formula.specs.Tables.{isIn, zeros}
 use Rattle.formula.specs.Position.Cursor.{PositionIn}
 use Rattle.formula.specs.Token.{tokensAt, same, aText, eText, Number, natural, numberOf}
@@ -24,7 +25,7 @@ use Rattle.formula.specs.Token.Scan.{tooLarge, shown}
 use Rattle.formula.specs.Token.Laws.{Finds}
 use Rattle.formula.specs.Token.Numbers.{shown-natural, shown-negative, shown-no-number}
 use Rattle.formula.specs.Text.{betweenSets, inSet, clauses, stopped, atEnd, opens, openFrom, variableReason, setToken, clausesToken, step, ending, readingFrom}
-use Rattle.formula.specs.Text.Distinct.{or-no}
+use Rattle.formula.specs.Text.Distinct.{or-no, prefix-more}
 use Rattle.formula.specs.Text.Laws.{variable-fine, from-end, from-token, from-refused}
 use Rattle.formula.specs.Text.Sets.{Listed, listing, ListingPost, setClosing, SetTokenPost, SetPost, SetsPost}
 use Rattle.formula.specs.declared.refusal.Reason.the-variants.{BadToken, Unfinished}
@@ -48,9 +49,9 @@ listed-snoc v (x ∷ P) n q = go (eqb v (x .variable)) (listed-snoc v P n q)
     go false e = e
 
 -- The marks after a variable is listed.
-listed-more : (marks : List ℕ) (P : Prefix) (q : Quantifier) (n : ℕ) → n ≤ variableBound → 0 < n → Listed marks P → Listed (set marks n 1) (P ++ (entry n q ∷ []))
-listed-more marks P q n h z L =
-    record { size = rw length-set (L .size); nought = rw (getD-set-other marks n 0 1 0 (λ e. omega arith)) (L .nought); says = λ v k. says v k (ℕ-discrete v n); small = λ v. small v (ℕ-discrete v n) }
+listed-more : (marks : List ℕ) (P : Prefix) (q : Quantifier) (n : ℕ) → n ≤ variableBound → 0 < n → ltb 0 (getD marks n 0) ≡ false → Listed marks P → Listed (set marks n 1) (P ++ (entry n q ∷ []))
+listed-more marks P q n h z fresh L =
+    record { size = rw length-set (L .size); nought = rw (getD-set-other marks n 0 1 0 (λ e. omega arith)) (L .nought); says = λ v k. says v k (ℕ-discrete v n); small = λ v. small v (ℕ-discrete v n); fine = prefix-more variableBound P q n (L .fine) z h (L .says n h ∙ fresh) }
   where
     inside : n < length marks
     inside = omega (arith, L .size)
@@ -66,38 +67,38 @@ listed-more marks P q n h z L =
     small v (no e) = rw (getD-set-other marks n v 1 0 e) (L .small v)
 
 -- What a number other than 0 does to the state and to the tables, by its answer.
-module _ {n v : ℕ} {q : Quantifier} {used : ℕ} {prefix : List ℤ} {marks : List ℕ} {prefix′ : List ℤ} {marks′ : List ℕ} {answer : SetStep} (filled : Bool) (small : v ≤ variableBound) (room : used ≤ length prefix) (L : Listed marks (prefixOf (take used prefix))) (z : 0 < n) (post : ListingPost n v q used prefix marks prefix′ marks′ answer) where
+module _ {n v : ℕ} {q : Quantifier} {used : ℕ} {prefix : List ℤ} {marks : List ℕ} {prefix′ : List ℤ} {marks′ : List ℕ} {answer : SetStep} (filled : Bool) (small : v ≤ variableBound) (room : entryWords used ≤ length prefix) (L : Listed marks (entriesIn prefix used)) (z : 0 < n) (post : ListingPost n v q used prefix marks prefix′ marks′ answer) where
   -- It is judged by its mark.
   abbrev judged : Option Reason
   judged = variableReason v n (ltb 0 (getD marks n 0)) (entryFits (length prefix) used)
 
   -- The number k as the code has it, at most one more than the largest word; above V both are refused so.
-  set-judged : (k place c clauseRoom : ℕ) → min k tooLarge ≡ n → setToken (length prefix) clauseRoom place v c q filled (prefixOf (take used prefix)) (natural k) ≡ unless (stopped place) judged (inSet v c q true (prefixOf (take used prefix) ++ (entry k q ∷ [])))
+  set-judged : (k place c clauseRoom : ℕ) → min k tooLarge ≡ n → setToken (length prefix) clauseRoom place v c q filled (entriesIn prefix used) (natural k) ≡ unless (stopped place) judged (inSet v c q true (entriesIn prefix used ++ (entry k q ∷ [])))
   unfolding variableReason
   set-judged zero place c clauseRoom e = absurd (omega arith)
   set-judged (suc k) place c clauseRoom e = go (leb (suc k) v) refl
     where
-      go : (b : Bool) → leb (suc k) v ≡ b → setToken (length prefix) clauseRoom place v c q filled (prefixOf (take used prefix)) (natural (suc k)) ≡ unless (stopped place) judged (inSet v c q true (prefixOf (take used prefix) ++ (entry (suc k) q ∷ [])))
+      go : (b : Bool) → leb (suc k) v ≡ b → setToken (length prefix) clauseRoom place v c q filled (entriesIn prefix used) (natural (suc k)) ≡ unless (stopped place) judged (inSet v c q true (entriesIn prefix used ++ (entry (suc k) q ∷ [])))
       go true f =
           let s : suc k ≡ n = omega (arith, leb-true (suc k) v f, small) in
-          rw (prefix-words (take used prefix), length-take-le used prefix room, ← s, L .says (suc k) (omega (arith, leb-true (suc k) v f, small)))
+          rw (entries-length prefix used room, ← s, L .says (suc k) (omega (arith, leb-true (suc k) v f, small)))
       go false f = rw (f, lt-leb n v (omega (arith, leb-false (suc k) v f, small)))
 
   pub variable-post : (m : Number) → shown m ≡ Natural n → SetTokenPost m v q filled used prefix marks prefix′ marks′ answer
   variable-post m sh = let k = shown-natural m n sh in rw (k .1) (go (k .0) (k .2) judged refl (post .answers))
     where
-      go : (k : ℕ) → min k tooLarge ≡ n → (o : Option Reason) → judged ≡ o → answer ≡ listing (usedAfter used) o → SetTokenPost (natural k) v q filled used prefix marks prefix′ marks′ answer
+      go : (k : ℕ) → min k tooLarge ≡ n → (o : Option Reason) → judged ≡ o → answer ≡ listing (used + 1) o → SetTokenPost (natural k) v q filled used prefix marks prefix′ marks′ answer
       go k s none e a =
           let f = variable-fine v n (ltb 0 (getD marks n 0)) (entryFits (length prefix) used) e in
           let is : k ≡ n = omega (arith, f .inRange, small) in
           let stored = rw a at (post .stores) in
-          let pushed : prefixOf (take (usedAfter used) prefix′) ≡ prefixOf (take used prefix) ++ (entry n q ∷ []) = rw (stored .0) (put-entries prefix used n q (f .room) z) in
+          let pushed : entriesIn prefix′ (used + 1) ≡ entriesIn prefix used ++ (entry n q ∷ []) = rw (stored .0, add-one) (put-entries prefix used n q 0 (f .room) (omega (arith, f .inRange, small))) in
           rw a (record {
             states = λ p c rc. rw pushed (set-judged k p c rc s ∙ rw (e, is));
             stores = (
-              put-more used,
-              put-within (length prefix) used (f .room),
-              rw (pushed, stored .1) (listed-more marks (prefixOf (take used prefix)) q n (omega (arith, f .inRange, small)) z L),
+              omega arith,
+              rw add-one (put-within (length prefix) used (f .room)),
+              rw (pushed, stored .1) (listed-more marks (entriesIn prefix used) q n (omega (arith, f .inRange, small)) z (f .fresh) L),
             );
           })
       go k s (some r) e a = rw a (record { states = λ p c rc. set-judged k p c rc s ∙ rw e; stores = tt })
@@ -119,14 +120,14 @@ no-number-post v q filled used prefix marks prefix′ marks′ m sh = rw (shown-
 
 -- In a set, at the place `at`: `used` words were used as it began, n are now.
 pub record SetSoFar (text : List ℕ) (start v : ℕ) (q : Quantifier) (used : ℕ) (prefix₀ prefix : List ℤ) (marks : List ℕ) (at n : ℕ) : Type 0 where
-  pub room : n ≤ length prefix
+  pub room : entryWords n ≤ length prefix
   pub more : used ≤ n
   pub same : length prefix ≡ length prefix₀
-  pub listed : Listed marks (prefixOf (take n prefix))
+  pub listed : Listed marks (entriesIn prefix n)
   pub on : start ≤ at
-  pub reads : (c clauseRoom : ℕ) → readingFrom (length prefix₀) clauseRoom text (inSet v c q false (prefixOf (take used prefix₀))) start ≡ readingFrom (length prefix₀) clauseRoom text (inSet v c q (ltb used n) (prefixOf (take n prefix))) at
+  pub reads : (c clauseRoom : ℕ) → readingFrom (length prefix₀) clauseRoom text (inSet v c q false (entriesIn prefix₀ used)) start ≡ readingFrom (length prefix₀) clauseRoom text (inSet v c q (ltb used n) (entriesIn prefix n)) at
 
-pub set-begins : (text : List ℕ) (start v : ℕ) (q : Quantifier) (used : ℕ) (prefix : List ℤ) (marks : List ℕ) → used ≤ length prefix → Listed marks (prefixOf (take used prefix)) → SetSoFar text start v q used prefix prefix marks start used
+pub set-begins : (text : List ℕ) (start v : ℕ) (q : Quantifier) (used : ℕ) (prefix : List ℤ) (marks : List ℕ) → entryWords used ≤ length prefix → Listed marks (entriesIn prefix used) → SetSoFar text start v q used prefix prefix marks start used
 set-begins text start v q used prefix marks h L =
     record { room = h; more = omega arith; same = refl; listed = L; on = omega arith; reads = λ c rc. rw (le-ltb used used (omega arith)) }
 
@@ -137,7 +138,7 @@ module _ {text : List ℕ} {start v : ℕ} {q : Quantifier} {used : ℕ} {prefix
 
   module _ {shows : Shown} {p k : Position} (f : Finds text at shows p k) where
     -- The token at hand goes to the set.
-    set-step : (c rc : ℕ) → readingFrom (length prefix₀) rc text (inSet v c q false (prefixOf (take used prefix₀))) start ≡ readingFrom (length prefix₀) rc text (setToken (length prefix₀) rc (p .place) v c q (ltb used n) (prefixOf (take n prefix)) (numberOf (f .bytes))) (k .place)
+    set-step : (c rc : ℕ) → readingFrom (length prefix₀) rc text (inSet v c q false (entriesIn prefix₀ used)) start ≡ readingFrom (length prefix₀) rc text (setToken (length prefix₀) rc (p .place) v c q (ltb used n) (entriesIn prefix n) (numberOf (f .bytes))) (k .place)
     unfolding step
     set-step c rc = I .reads c rc ∙ from-token (length prefix₀) rc text _ f
 
@@ -161,23 +162,27 @@ module _ {text : List ℕ} {start v : ℕ} {q : Quantifier} {used : ℕ} {prefix
 
 -- Between sets, at the place `at`: `used` words are used.
 pub record SetsSoFar (text : List ℕ) (start v : ℕ) (prefix₀ prefix : List ℤ) (marks : List ℕ) (at used : ℕ) : Type 0 where
-  pub room : used ≤ length prefix
+  pub room : entryWords used ≤ length prefix
   pub same : length prefix ≡ length prefix₀
-  pub listed : Listed marks (prefixOf (take used prefix))
-  pub reads : (c clauseRoom : ℕ) → readingFrom (length prefix₀) clauseRoom text (betweenSets v c []) start ≡ readingFrom (length prefix₀) clauseRoom text (betweenSets v c (prefixOf (take used prefix))) at
+  pub listed : Listed marks (entriesIn prefix used)
+  pub reads : (c clauseRoom : ℕ) → readingFrom (length prefix₀) clauseRoom text (betweenSets v c []) start ≡ readingFrom (length prefix₀) clauseRoom text (betweenSets v c (entriesIn prefix used)) at
+
+none-used : {n : ℕ} → entryWords 0 ≤ n
+unfolding entryWords
+none-used = omega arith
 
 pub sets-begin : (text : List ℕ) (start v : ℕ) (prefix : List ℤ) (marks : List ℕ) → Listed marks [] → SetsSoFar text start v prefix prefix marks start 0
 sets-begin text start v prefix marks L =
-    record { room = omega arith; same = refl; listed = rw prefix-none L; reads = λ c rc. rw prefix-none }
+    record { room = none-used; same = refl; listed = rw entries-none L; reads = λ c rc. rw entries-none }
 
 module _ {text : List ℕ} {start v : ℕ} {prefix₀ prefix : List ℤ} {marks : List ℕ} {at : Position} {used : ℕ} (within : PositionIn text at) (I : SetsSoFar text start v prefix₀ prefix marks (at .place) used) where
   -- The sets are over where the same is read from the clauses on.
-  over : ((c rc : ℕ) → readingFrom (length prefix₀) rc text (betweenSets v c (prefixOf (take used prefix))) (at .place) ≡ readingFrom (length prefix₀) rc text (clauses v c (prefixOf (take used prefix)) []) (at .place)) → SetsPost text start v prefix₀ prefix marks (Sets used at)
+  over : ((c rc : ℕ) → readingFrom (length prefix₀) rc text (betweenSets v c (entriesIn prefix used)) (at .place) ≡ readingFrom (length prefix₀) rc text (clauses v c (entriesIn prefix used) []) (at .place)) → SetsPost text start v prefix₀ prefix marks (Sets used at)
   over e = (λ c rc. I .reads c rc ∙ e c rc, I .listed, I .room, within)
 
   pub sets-end : tokensAt text (at .place) ≡ [] → SetsPost text start v prefix₀ prefix marks (Sets used at)
   unfolding ending openFrom zeros
-  sets-end e = over (λ c rc. from-end (length prefix₀) rc text (betweenSets v c (prefixOf (take used prefix))) (at .place) e ∙ sym (from-end (length prefix₀) rc text (clauses v c (prefixOf (take used prefix)) []) (at .place) e))
+  sets-end e = over (λ c rc. from-end (length prefix₀) rc text (betweenSets v c (entriesIn prefix used)) (at .place) e ∙ sym (from-end (length prefix₀) rc text (clauses v c (entriesIn prefix used) []) (at .place) e))
 
   module _ {shows : Shown} {p k : Position} (f : Finds text (at .place) shows p k) where
     -- A token that is no quantifier's letter.
@@ -185,15 +190,15 @@ module _ {text : List ℕ} {start v : ℕ} {prefix₀ prefix : List ℤ} {marks 
     unfolding step
     sets-over h =
         let both = or-no (same (f .bytes) eText) (same (f .bytes) aText) h in
-        over (λ c rc. from-token (length prefix₀) rc text (betweenSets v c (prefixOf (take used prefix))) f ∙ rw (both .0, both .1) (sym (from-token (length prefix₀) rc text (clauses v c (prefixOf (take used prefix)) []) f)))
+        over (λ c rc. from-token (length prefix₀) rc text (betweenSets v c (entriesIn prefix used)) f ∙ rw (both .0, both .1) (sym (from-token (length prefix₀) rc text (clauses v c (entriesIn prefix used) []) f)))
 
     module _ (h : (same (f .bytes) eText || same (f .bytes) aText) ≡ true) where
       -- The letter opens a set.
-      opens-set : (c rc : ℕ) → readingFrom (length prefix₀) rc text (betweenSets v c []) start ≡ readingFrom (length prefix₀) rc text (inSet v c (quantifierOf (same (f .bytes) eText)) false (prefixOf (take used prefix))) (k .place)
+      opens-set : (c rc : ℕ) → readingFrom (length prefix₀) rc text (betweenSets v c []) start ≡ readingFrom (length prefix₀) rc text (inSet v c (quantifierOf (same (f .bytes) eText)) false (entriesIn prefix used)) (k .place)
       unfolding step
-      opens-set c rc = I .reads c rc ∙ from-token (length prefix₀) rc text (betweenSets v c (prefixOf (take used prefix))) f ∙ rw (go (same (f .bytes) eText) (same (f .bytes) aText) h)
+      opens-set c rc = I .reads c rc ∙ from-token (length prefix₀) rc text (betweenSets v c (entriesIn prefix used)) f ∙ rw (go (same (f .bytes) eText) (same (f .bytes) aText) h)
         where
-          go : (e a : Bool) → (e || a) ≡ true → opens e a v c (prefixOf (take used prefix)) (clausesToken (length prefix₀) rc (p .place) v c (prefixOf (take used prefix)) [] (numberOf (f .bytes))) ≡ inSet v c (quantifierOf e) false (prefixOf (take used prefix))
+          go : (e a : Bool) → (e || a) ≡ true → opens e a v c (entriesIn prefix used) (clausesToken (length prefix₀) rc (p .place) v c (entriesIn prefix used) [] (numberOf (f .bytes))) ≡ inSet v c (quantifierOf e) false (entriesIn prefix used)
           go true a h = refl
           go false true h = refl
           go false false h = let z : _≡_ {A = ℕ} 0 1 = cc in absurd (omega arith)

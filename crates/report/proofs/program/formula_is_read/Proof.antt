@@ -10,12 +10,12 @@ use Rattle.report.proofs.program.formula_is_read.Tie as tie
 returns : tie.Need-returns
 returns c =
     let settle = c .before .before .before .before in
-    sym (settled-tells (length-replicate {0} {A = ℤ} 1024 (pos 0)) (length-replicate {0} {A = ℤ} 16384 (pos 0)) (settle .settle-formula .ensures) (c .enum-told .given .1))
+    sym (settled-tells (length-replicate {0} {A = ℤ} 3072 (pos 0)) (length-replicate {0} {A = ℤ} 16384 (pos 0)) (settle .settle-formula .ensures) (c .enum-told .given .1))
 
 returns-2 : tie.Need-returns-2
 returns-2 c =
     let settle = c .before .before .before .before in
-    sym (settled-tells (length-replicate {0} {A = ℤ} 1024 (pos 0)) (length-replicate {0} {A = ℤ} 16384 (pos 0)) (settle .settle-formula .ensures) (c .enum-told2 .given .1))
+    sym (settled-tells (length-replicate {0} {A = ℤ} 3072 (pos 0)) (length-replicate {0} {A = ℤ} 16384 (pos 0)) (settle .settle-formula .ensures) (c .enum-told2 .given .1))
 
 pub formula-is-read-spec : {M : Type 1} → statement M
 formula-is-read-spec =

@@ -14,8 +14,8 @@ returns : tie.Need-returns
 returns c =
     let called = c .before .before .before .before .before .before .before in
     line-printed
-    {room = lent fileBound (replicate 1024 (pos 0)) (replicate 16384 (pos 0)) (replicate 16384 (pos 0)) (replicate scratchBound 0) (replicate 16384 0)}
-    (rw (length-replicate {0} {A = ℤ} 1024 (pos 0), length-replicate {0} {A = ℤ} 16384 (pos 0), length-replicate {0} {A = ℕ} scratchBound 0, length-replicate {0} {A = ℕ} 16384 0))
+    {room = lent fileBound (replicate 3072 (pos 0)) (replicate 16384 (pos 0)) (replicate 16384 (pos 0)) (replicate scratchBound 0) (replicate 16384 0)}
+    (rw (length-replicate {0} {A = ℤ} 3072 (pos 0), length-replicate {0} {A = ℤ} 16384 (pos 0), length-replicate {0} {A = ℕ} scratchBound 0, length-replicate {0} {A = ℕ} 16384 0))
     (called .check-line .ensures)
 
 pub program-line-spec : {M : Type 1} → statement M

@@ -16,9 +16,9 @@ returns : tie.Need-returns
 returns c =
     let called = c .before .before .before .before .before in
     text-printed
-    {room = lent fileBound (replicate 1024 (pos 0)) (replicate 16384 (pos 0)) [] (replicate scratchBound 0) []}
+    {room = lent fileBound (replicate 3072 (pos 0)) (replicate 16384 (pos 0)) [] (replicate scratchBound 0) []}
     refl
-    (length-replicate {0} {A = ℤ} 1024 (pos 0))
+    (length-replicate {0} {A = ℤ} 3072 (pos 0))
     (length-replicate {0} {A = ℤ} 16384 (pos 0))
     (length-replicate {0} {A = ℕ} scratchBound 0)
     (called .dependency-lines .ensures)

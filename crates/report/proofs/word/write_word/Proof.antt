@@ -14,13 +14,13 @@ abbrev row : (c : tie.After-number) → List ℕ
 row c = getD (c .before .words .result) (c .number .result - 1) []
 
 long : (c : tie.After-number) → length (row c) ≡ 14
-long c = row-length (c .before .words .result) (c .before .words .ensures) _ (c .number .result) (c .number .ensures .1)
+long c = row-length (c .before .words .result) (c .before .words .ensures) (c .number .result) (c .number .ensures .1)
 
 -- what stands before the dot, and how much that is
 spelled : (c : tie.After-undotted) → take (c .undotted .result) (row (c .before .before .before)) ≡ word (c .before .before .before .before .before .before .args .reason)
 spelled c =
     let n = c .before .before .before in
-    rw (c .undotted .ensures) (word-first (row n) ∙ row-word (n .before .words .result) (n .before .words .ensures) _ (n .number .result) (n .number .ensures .1) (n .number .ensures .0))
+    rw (c .undotted .ensures) (word-first (row n) ∙ row-word (n .before .words .result) (n .before .words .ensures) (n .number .result) (n .number .ensures .1) (n .before .before .before .args .reason) (n .number .ensures .0))
 
 short : (c : tie.After-undotted) → c .undotted .result ≤ 14
 short c = omega (arith, c .undotted .ensures, word-shorter (row (c .before .before .before)), long (c .before .before .before))

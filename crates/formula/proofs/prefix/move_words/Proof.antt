@@ -1,4 +1,4 @@
--- `move_entries` has moved the words from a place on. Assumes nothing.
+-- `move_words` has moved the words from a place on. Assumes nothing.
 use Prim.Native.Nat.{suc, _+_, _-_, _<_}
 use mathlib.Core.Path.{_≡_}
 use native.Mathlib.Omega.{arith}
@@ -8,8 +8,8 @@ use lib.IntN.{pos}
 use mir.Syntax.{w32}
 use mir.Val.{toZ, ofZ}
 use Rattle.formula.specs.Prefix.Laws.{MovedSoFar, move-begins, move-step, move-ends}
-use Rattle.formula.proofs.prefix.move_entries.Statement.{statement}
-use Rattle.formula.proofs.prefix.move_entries.Tie as tie
+use Rattle.formula.proofs.prefix.move_words.Statement.{statement}
+use Rattle.formula.proofs.prefix.move_words.Tie as tie
 
 abbrev Inv-loop : tie.InvT-loop
 Inv-loop prefix₀ used by i₀ prefix i = MovedSoFar used by prefix₀ prefix i
@@ -53,8 +53,8 @@ returns c =
     let none-left : l .i ≡ 0 = omega (arith, c .loop-test .left) in
     move-ends (c .before .before .pre) (rw none-left at (l .inv))
 
-pub move-entries-spec : {M : Type 1} → statement M
-move-entries-spec =
+pub move-words-spec : {M : Type 1} → statement M
+move-words-spec =
     tie.close
     (tie.spec
     Inv-loop
