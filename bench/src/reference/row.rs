@@ -34,8 +34,9 @@ fn with_universal(prefix: &[i32], variable: i32) -> Result<Vec<Entry>, Refusal> 
     }
 }
 
-/// The same row by passes over the clause words until nothing changes. It needs no occurrences and is the
-/// faster way to a single row of a dense formula; a long chain of clauses can cost it a pass a link.
+/// The same row by passes over the clause words, in turn from the first and from the last, until nothing
+/// changes. It needs no occurrences and is the faster way to a single row of a dense formula; a long chain
+/// of clauses in no order can cost it a pass for every few links.
 pub fn row_by_passes(prefix: &[i32], clauses: &[i32], variable: i32) -> Result<Row, Refusal> {
     check_tables(prefix, clauses)?;
     let scope = Scope::of(&with_universal(prefix, variable)?, variable);
@@ -92,36 +93,57 @@ impl Scope {
 
 /// The literals reached, and the passes it took.
 fn reached_by_passes(clauses: &[i32], start: i32, scope: &Scope) -> ([bool; LITERALS], usize) {
-    let mut reached = [false; LITERALS];
-    let mut entries = [false; LITERALS];
-    entries[literal_index(start)] = true;
-    let mut left = 2 * scope.variables.len();
+    let mut search = Search::from(start, scope);
     let mut before = usize::MAX;
     let mut passes = 0;
-    while left > 0 && left < before {
-        before = left;
+    while search.left > 0 && search.left < before {
+        before = search.left;
+        let in_order = clauses.split(|&word| word == 0);
+        match passes % 2 {
+            0 => in_order.for_each(|clause| search.visit(clause, scope)),
+            _ => in_order.rev().for_each(|clause| search.visit(clause, scope)),
+        }
         passes += 1;
-        for clause in clauses.split(|&word| word == 0) {
-            let is_entry = |literal: &&i32| entries[literal_index(**literal)];
-            let mut entered = clause.iter().filter(is_entry);
-            let Some(&first) = entered.next() else {
-                continue;
-            };
-            if left == 0 {
-                break;
-            }
-            let several = entered.next().is_some();
-            for &literal in clause {
-                let index = literal_index(literal);
-                if (several || literal != first) && scope.holds(literal) && !reached[index] {
-                    reached[index] = true;
-                    entries[literal_index(-literal)] = true;
-                    left -= 1;
-                }
+    }
+    (search.reached, passes)
+}
+
+/// A search by passes: what it reached, the literals from which paths go on, and how many of the scope's
+/// literals it has not reached.
+struct Search {
+    reached: [bool; LITERALS],
+    entries: [bool; LITERALS],
+    left: usize,
+}
+
+impl Search {
+    fn from(start: i32, scope: &Scope) -> Search {
+        let mut entries = [false; LITERALS];
+        entries[literal_index(start)] = true;
+        Search {
+            reached: [false; LITERALS],
+            entries,
+            left: 2 * scope.variables.len(),
+        }
+    }
+
+    /// Reaches the literals of a clause that have an entry beside them.
+    fn visit(&mut self, clause: &[i32], scope: &Scope) {
+        let is_entry = |literal: &&i32| self.entries[literal_index(**literal)];
+        let mut entered = clause.iter().filter(is_entry);
+        let Some(&first) = entered.next() else {
+            return;
+        };
+        let several = entered.next().is_some();
+        for &literal in clause {
+            let index = literal_index(literal);
+            if (several || literal != first) && scope.holds(literal) && !self.reached[index] {
+                self.reached[index] = true;
+                self.entries[literal_index(-literal)] = true;
+                self.left -= 1;
             }
         }
     }
-    (reached, passes)
 }
 
 /// Where each clause begins, and for each literal the clauses that hold it.

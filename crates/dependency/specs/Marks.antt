@@ -3,7 +3,8 @@
 -- A literal marked 2 or 3 is an entry: in a clause that holds it, the literals of other variables are reached. Laws are in
 -- Marks/Laws.antt.
 pub mod Laws
-use Prim.Native.Nat.{ℕ, _<_}
+pub mod Places
+use Prim.Native.Nat.{ℕ, _-_, _<_}
 use mathlib.Core.Path.{_≡_}
 use mathlib.Core.Bool.{Bool, true, false}
 use mathlib.Core.List.{List, [], _∷_}
@@ -57,6 +58,15 @@ pub record ClauseReached (ws : List ℤ) (from entry : ℕ) (m m′ : List ℕ) 
   pub marks : m′ ≡ reachClause entry (clauseAt ws from) m
   pub later : drop next ws ≡ wordsAfter ws from
   pub further : from < length ws → from < next
+
+-- A clause ends before the place `end`, which is behind its 0 or the table's end; and where that clause begins.
+abbrev pub Boundary : List ℤ → (end : ℕ) → Type 0
+Boundary ws end = 0 < end → wordsAfter ws (end - 1) ≡ drop end ws
+
+pub record ClauseBefore (ws : List ℤ) (end from : ℕ) : Type 0 where
+  pub before : from < end
+  pub ends : wordsAfter ws from ≡ drop end ws
+  pub boundary : Boundary ws from
 
 unfoldable pub pass : List (List ℤ) → List ℕ → List ℕ
 pass [] m = m

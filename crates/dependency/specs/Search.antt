@@ -1,7 +1,8 @@
--- A search for the paths from one literal of a universal: the marks it starts with, passes over the clauses until one
--- changes nothing, and what the marks then say. The theorem is in Search/Laws.antt; what it joins: Initial, Invariant, Closed.
+-- A search for the paths from one literal of a universal: the marks it starts with, passes over the clauses in both directions until
+-- one changes nothing, and what the marks then say. The theorem is in Search/Laws.antt; what it joins: Initial, Invariant, Closed.
 pub mod Laws
 pub mod Count
+pub mod Order
 pub mod Progress
 pub mod Frame
 pub mod Entries
@@ -12,7 +13,7 @@ pub mod Rows
 use Prim.Native.Nat.{ℕ, zero, suc, _+_, _*_}
 use mathlib.Core.Path.{_≡_}
 use mathlib.Core.Bool.{Bool, true, false, not, _&&_, _||_}
-use mathlib.Core.List.{List, [], _∷_, _++_, List·Memᴰ}
+use mathlib.Core.List.{List, [], _∷_, _++_, reverse, List·Memᴰ}
 use lib.ListN.{length, getD, set}
 use lib.Dec.{eqb}
 use lib.IntN.{ℤ}
@@ -38,15 +39,26 @@ unfoldable pub ones : List ℕ → ℕ
 ones [] = 0
 ones (x ∷ m) = select (eqb x 1) 1 0 + ones m
 
+-- The clauses as a pass takes them: from the first to the last, or back.
+abbrev pub ordered : (back : Bool) → List (List ℤ) → List (List ℤ)
+ordered false Cs = Cs
+ordered true Cs = reverse Cs
+
+-- The pass behind n others goes back where n is odd.
+unfoldable pub odd : ℕ → Bool
+odd zero = false
+odd (suc n) = not (odd n)
+
 unfoldable pub passes : ℕ → List (List ℤ) → List ℕ → List ℕ
 passes zero Cs m = m
-passes (suc n) Cs m = pass Cs (passes n Cs m)
+passes (suc n) Cs m = pass (ordered (odd n) Cs) (passes n Cs m)
 
--- Passes from m have come to m′, which one pass more leaves as it is.
+-- Passes from m have come to m′, which a pass in one of the directions leaves as it is.
 pub record Settled (Cs : List (List ℤ)) (m m′ : List ℕ) : Type 0 where
   pub count : ℕ
   pub passed : m′ ≡ passes count Cs m
-  pub still : pass Cs m′ ≡ m′
+  pub back : Bool
+  pub still : pass (ordered back Cs) m′ ≡ m′
 
 -- What the marks say once the search from the literal of u with this sign has ended.
 pub record Searched (F : Formula) (u : ℕ) (sign : Bool) (m : List ℕ) : Type 0 where

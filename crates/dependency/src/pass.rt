@@ -1,8 +1,11 @@
-// A pass over the clauses: each clause's entries first, then the literals that they reach.
+// A pass over the clauses, from the first to the last or back: each clause's entries first, then the literals that they reach.
 ghost use mathlib.Core.Path.{_≡_};
+ghost use mathlib.Core.List.{reverse};
+ghost use Prim.Native.Nat.{_<_, _≤_};
 ghost use lib.ListN.{length};
 ghost use Rattle.formula.specs.Decode.{clausesOf, clauseAt};
-ghost use Rattle.dependency.specs.Marks.{clauseEntry, ClauseReached, pass};
+ghost use Rattle.dependency.specs.Marks.{clauseEntry, ClauseReached, Boundary, ClauseBefore, pass};
+ghost use Rattle.dependency.specs.Search.{ordered};
 use crate::marks::reach_word;
 use crate::marks::see_word;
 use formula::word::Word;
@@ -45,8 +48,8 @@ fn reach_clause(clauses: &[i32], from: usize, entry: usize, marks: &mut [u8]) ->
     i
 }
 
-// One pass: every clause once, in order.
-pub fn pass(clauses: &[i32], marks: &mut [u8])
+// One pass from the first clause to the last.
+fn pass_forth(clauses: &[i32], marks: &mut [u8])
     requires { ⌜ length (now marks) ≡ 2050 ⌝ }
     ensures { λ r. ⌜ now (marks .exit) ≡ pass (clausesOf (now (clauses .entry))) (now (marks .entry)) ⌝ }
 {
@@ -54,5 +57,48 @@ pub fn pass(clauses: &[i32], marks: &mut [u8])
     while at < clauses.len() {
         let entry = clause_entry(clauses, at, marks);
         at = reach_clause(clauses, at, entry, marks);
+    }
+}
+
+// Where the clause begins that ends before `end`: behind the 0 of the one before it, or with the table.
+fn clause_start(clauses: &[i32], end: usize) -> usize
+    requires { ⌜ 0 < end ⌝ ∗ ⌜ end ≤ length (now clauses) ⌝ ∗ ⌜ Boundary (now clauses) end ⌝ }
+    ensures { λ r. ⌜ ClauseBefore (now (clauses .entry)) end r ⌝ }
+{
+    let mut i = end - 1;
+    while 0 < i {
+        let j = i - 1;
+        let word = clauses[j];
+        if Word::is_zero(word) {
+            return i;
+        }
+        i = j;
+    }
+    i
+}
+
+// One pass from the last clause to the first.
+fn pass_back(clauses: &[i32], marks: &mut [u8])
+    requires { ⌜ length (now marks) ≡ 2050 ⌝ }
+    ensures { λ r. ⌜ now (marks .exit) ≡ pass (reverse (clausesOf (now (clauses .entry)))) (now (marks .entry)) ⌝ }
+{
+    let mut end = clauses.len();
+    while 0 < end {
+        let from = clause_start(clauses, end);
+        let entry = clause_entry(clauses, from, marks);
+        reach_clause(clauses, from, entry, marks);
+        end = from;
+    }
+}
+
+// One pass, in either direction.
+pub fn pass(clauses: &[i32], back: bool, marks: &mut [u8])
+    requires { ⌜ length (now marks) ≡ 2050 ⌝ }
+    ensures { λ r. ⌜ now (marks .exit) ≡ pass (ordered back (clausesOf (now (clauses .entry)))) (now (marks .entry)) ⌝ }
+{
+    if back {
+        pass_back(clauses, marks);
+    } else {
+        pass_forth(clauses, marks);
     }
 }

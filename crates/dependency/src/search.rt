@@ -1,4 +1,5 @@
-// A search for the paths from one literal of a universal: which literals may be passed, then passes until one changes nothing.
+// A search for the paths from one literal of a universal: which literals may be passed, then passes until one changes nothing, in turn from
+// the first clause to the last and back, so that a chain of clauses listed along a path or against it takes few.
 ghost use mathlib.Core.Path.{_≡_};
 ghost use Prim.Native.Nat.{_<_, _≤_};
 ghost use lib.ListN.{length, drop};
@@ -37,13 +38,15 @@ fn settle(clauses: &[i32], marks: &mut [u8])
     ensures { λ r. ⌜ Settled (clausesOf (now (clauses .entry))) (now (marks .entry)) (now (marks .exit)) ⌝ }
 {
     let mut left = count_open(marks);
+    let mut back = false;
     while 0 < left {
-        pass(clauses, marks);
+        pass(clauses, back, marks);
         let fewer = count_open(marks);
         if fewer == left {
             return;
         }
         left = fewer;
+        back = !back;
     }
 }
 

@@ -3,7 +3,7 @@
 use Prim.Native.Nat.{ℕ, _≤_, _<_}
 use mathlib.Core.Path.{_≡_, ap, sym, _∙_}
 use mathlib.Core.Logic.{_⊎_, inl, inr}
-use mathlib.Core.Bool.{not}
+use mathlib.Core.Bool.{Bool, not}
 use mathlib.Core.List.{List, map, List·Memᴰ, Memᴰ·of-map}
 use native.Mathlib.Omega.{arith}
 use borrow.Author.Tests.{eq-eqb, ne-eqb}
@@ -17,6 +17,8 @@ use Rattle.formula.specs.Word.Laws.{word-of-literal}
 use Rattle.qbf.specs.Path.Laws.{closed-holds-paths}
 use Rattle.formula.specs.Decode.{literalOf, clauseOf}
 use Rattle.dependency.specs.Marks.{reachAt, clauseEntry, pass}
+use Rattle.dependency.specs.Search.{ordered}
+use Rattle.dependency.specs.Search.Order.{member-ordered}
 use Rattle.dependency.specs.Search.Entries.{byte, entry-past}
 use Rattle.dependency.specs.Search.Progress.{still-clause, still-word}
 use Rattle.dependency.specs.Search.Invariant.{Entered, Kept, inside, reach-signed}
@@ -36,7 +38,8 @@ reach-at-still m entry v at z n e h =
 
 module _ (Cs : List (List ℤ)) (X : List ℕ) (a : Literal) (m : List ℕ)
     (kept : Kept (map clauseOf Cs) X a m)
-    (still : pass Cs m ≡ m)
+    (back : Bool)
+    (still : pass (ordered back Cs) m ≡ m)
     (start : Ranged (a .variable))
     (range : (v : ℕ) → List·Memᴰ v X → Ranged v) where
   entry-range : (l : Literal) → 1 < byte m l → Ranged (l .variable)
@@ -55,7 +58,7 @@ module _ (Cs : List (List ℤ)) (X : List ℕ) (a : Literal) (m : List ℕ)
   word-reached C input w i x j l b p q entry differ rb h =
       let r = entry-range l entry in
       let past = entry-past m (b .variable) (rb .1) w (l .variable) (l .sign) (word-of-literal w (l .variable) (l .sign) p (r .0) (r .1)) entry (r .0) differ C 0 i in
-      let here = still-word (clauseEntry m 0 C) C m (still-clause Cs m still C input) x j in
+      let here = still-word (clauseEntry m 0 C) C m (still-clause (ordered back Cs) m still C (member-ordered back Cs C input)) x j in
       let word = word-of-literal x (b .variable) (b .sign) q (rb .0) (rb .1) in
       reach-at-still m (clauseEntry m 0 C) (b .variable) (slot (b .variable) (not (b .sign))) (past .0) (past .1)
       (sym (reach-signed m (clauseEntry m 0 C) (b .variable) (b .sign)) ∙ rw word at here) h

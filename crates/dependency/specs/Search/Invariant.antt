@@ -19,7 +19,8 @@ use Rattle.formula.specs.Word.{wordOf, slot}
 use Rattle.formula.specs.Word.Laws.{signedWord, Recognised, nothing, names, recognised}
 use Rattle.formula.specs.Decode.{literalOf, clauseOf}
 use Rattle.dependency.specs.Marks.{select, reachAt, reachWord, clauseEntry, reachClause, pass}
-use Rattle.dependency.specs.Search.{passes}
+use Rattle.dependency.specs.Search.{ordered, odd, passes}
+use Rattle.dependency.specs.Search.Order.{ordered-member}
 use Rattle.dependency.specs.Search.Entries.{byte, clause-entry-witnessed}
 
 -- Literals of one byte are equal.
@@ -184,4 +185,5 @@ module _ (M : Matrix) (X : List ℕ) (a : Literal) where
       (n : ℕ) (Cs : List (List ℤ)) (m : List ℕ) → ((C : List ℤ) → List·Memᴰ C Cs → List·Memᴰ (clauseOf C) M) → Kept M X a m → Kept M X a (passes n Cs m)
   unfolding passes
   passes-kept zero Cs m i h = h
-  passes-kept (suc n) Cs m i h = pass-kept Cs (passes n Cs m) i (passes-kept n Cs m i h)
+  passes-kept (suc n) Cs m i h =
+      pass-kept (ordered (odd n) Cs) (passes n Cs m) (λ C k. i C (ordered-member (odd n) Cs C k)) (passes-kept n Cs m i h)

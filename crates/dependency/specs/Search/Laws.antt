@@ -51,7 +51,7 @@ module _ (p c : List ℤ) (admitted : Admitted p c) (u : ℕ) (range : Ranged u)
   searched =
       record {
         size = kept .size;
-        reached = λ e t i q. paths-reached (clausesOf c) X (literal u s) m kept (settled .still) range X-range (literal e t) q i;
+        reached = λ e t i q. paths-reached (clausesOf c) X (literal u s) m kept (settled .back) (settled .still) range X-range (literal e t) q i;
         only = λ e t h. only′ e t h;
       }
     where
