@@ -1,4 +1,4 @@
--- Tests on signed words as the code makes them, and the byte of a literal and of its opposite. All reasoning on the bits of a
+-- Tests on signed words as the code makes them, and the slot of a literal and of its opposite. All reasoning on the bits of a
 -- word is here. Assumes nothing.
 use Prim.Native.Nat.{ℕ, zero, suc, _^_, _<_, _≤_}
 use mathlib.Core.Path.{_≡_, refl, ap, ap₂, sym, _∙_}
@@ -14,10 +14,8 @@ use mir.Facts.{toZ-ofZ, toZ-pos}
 use Rattle.formula.specs.Bounds.{inRange, numberFit}
 use Rattle.formula.specs.declared.literal.NumberFit.the-variants.{Outside}
 use Rattle.formula.specs.Word.{wordOf, slotOf, opposite}
-use Rattle.formula.specs.Word.Laws.{positive-bounded, negative-bounded, opposite-word}
-use Rattle.formula.specs.declared.literal.Variable.{Variable}
+use Rattle.formula.specs.Word.Laws.{opposite-word}
 use Rattle.formula.specs.declared.word.Word.{Word}
-use Rattle.formula.specs.declared.word.Word.the-variants.{Positive, Negative}
 use Rattle.checker.specs.Words.{sameWord, isZero}
 use Rattle.checker.specs.Words.Laws.{same-complete, apart-same}
 use Rattle.checker.specs.Numbered.{numberOf}
@@ -30,13 +28,6 @@ same-bits a b ha hb = go (eqb (ofZ w32 a) (ofZ w32 b)) refl
     go : (t : Bool) → eqb (ofZ w32 a) (ofZ w32 b) ≡ t → t ≡ sameWord a b
     go true e = sym (same-complete a b (sym (toZ-ofZ ha) ∙ ap (toZ w32) (eqb-true (ofZ w32 a) (ofZ w32 b) e) ∙ toZ-ofZ hb))
     go false e = sym (apart-same a b (λ q. eqb-false (ofZ w32 a) (ofZ w32 b) e (ap (ofZ w32) q)))
-
--- A variable that was read off a word is within its bound.
-pub positive-bound : (w : ℤ) (v : Variable) → Positive v ≡ wordOf w → v .0 ≤ 1024
-positive-bound w v h = positive-bounded w v (sym h) .1
-
-pub negative-bound : (w : ℤ) (v : Variable) → Negative v ≡ wordOf w → v .0 ≤ 1024
-negative-bound w v h = negative-bounded w v (sym h) .1
 
 -- A word read from a table and tested in a call.
 pub read-back : (z : ℤ) → mag z < 2 ^ hbits w32 → toZ w32 (ofZ w32 z) ≡ z

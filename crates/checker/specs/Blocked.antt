@@ -9,11 +9,11 @@ use lib.IntN.{natAbs}
 use Rattle.formula.specs.Free.{occurs}
 use Rattle.checker.specs.Words.{Words}
 
--- The byte of some word's variable is 1.
+-- The flag of some word's variable is 1.
 unfoldable pub touches : List ℕ → Words → Bool
 touches row [] = false
 touches row (x ∷ C) = eqb (getD row (natAbs x) 0) 1 || touches row C
 
--- The byte of a variable that stands in the clause is 1.
+-- The flag of a variable that stands in the clause is 1.
 unfoldable pub blocksBy : List ℕ → Words → ℕ → Bool
 blocksBy row C v = eqb (getD row v 0) 1 && occurs v C

@@ -1,5 +1,5 @@
 -- The definitions that layer 3's contracts cite, and the theorems that say what they compute.
--- What a reader must believe: File, Words, Rules, Steps, Verdict, Lawful, Refutation. As the code keeps and reads things: Marks, Kinds,
+-- What a reader must believe: File, Words, Rules, Steps, Verdict, Lawful, Refutation. As the code keeps and reads things: Marks, Existentials,
 -- Blocked, Numbered, Read, Result, Step, Run.
 pub mod File
 pub mod Words
@@ -10,7 +10,7 @@ pub mod Derived
 pub mod Verdict
 pub mod Refutation
 pub mod Marks
-pub mod Kinds
+pub mod Existentials
 pub mod Blocked
 pub mod Numbered
 pub mod Read

@@ -1,5 +1,5 @@
--- The marks of a step, as the code makes them: the byte of a literal, and what marking, ticking and wiping a list of words
--- does to the marks and tells. That this judges a statement is in Marks/Laws.antt.
+-- The marks of a step, as the code makes them: one flag a literal, and what storing the marks of a list of words and ticking one do to the
+-- marks and tell. That this judges a statement is in Marks/Judging.antt.
 pub mod Laws
 pub mod Judging
 use Prim.Native.Nat.{ℕ}
@@ -9,6 +9,7 @@ use mathlib.Core.List.{List, [], _∷_}
 use lib.ListN.{getD, set, replicate}
 use lib.Dec.{eqb}
 use lib.IntN.{ℤ, negℤ}
+use Rattle.bits.specs.Flags.{flags, flag}
 use Rattle.formula.specs.Word.{wordOf, slotOf}
 use Rattle.checker.specs.Words.{Words}
 
@@ -16,53 +17,49 @@ use Rattle.checker.specs.Words.{Words}
 abbrev pub alone : ℤ → Words
 alone x = x ∷ []
 
--- The byte of a word's literal: 2 to 2,049; 0 for any other word.
+-- The slot of a word's literal: 2 to 2,049; 0 for any other word.
 unfoldable pub slotAt : ℤ → ℕ
 slotAt x = slotOf (wordOf x)
+
+-- The marks that bytes hold, by slot: the first two slots are no literal's and have no bit.
+unfoldable pub marksIn : List ℕ → List ℕ
+marksIn bytes = 0 ∷ 0 ∷ flags bytes
 
 -- No literal is marked.
 abbrev pub clean : List ℕ
 clean = replicate 2050 0
 
--- Each word is marked 1; a word meets its opposite.
-unfoldable pub markAll : List ℕ → Words → List ℕ
-markAll marks [] = marks
-markAll marks (x ∷ C) = markAll (set marks (slotAt x) 1) C
+-- The slot that is looked at before a word's mark is stored: the opposite's where words are marked, its own where they are wiped.
+unfoldable pub lookedAt : Bool → ℤ → ℕ
+lookedAt true x = slotAt (negℤ x)
+lookedAt false x = slotAt x
 
-unfoldable pub meets : List ℕ → Words → Bool
-meets marks [] = false
-meets marks (x ∷ C) = eqb (getD marks (slotAt (negℤ x)) 0) 1 || meets (set marks (slotAt x) 1) C
+-- Each word's mark is stored; a mark was found where it was looked for: a word met its opposite, or was still marked.
+unfoldable pub putAll : Bool → List ℕ → Words → List ℕ
+putAll on marks [] = marks
+putAll on marks (x ∷ C) = putAll on (set marks (slotAt x) (flag on)) C
 
--- Words are ticked 2 up to the first that is not 1; there is none.
+unfoldable pub finds : Bool → List ℕ → Words → Bool
+finds on marks [] = false
+finds on marks (x ∷ C) = eqb (getD marks (lookedAt on x) 0) 1 || finds on (set marks (slotAt x) (flag on)) C
+
+-- Words are ticked off, their marks cleared, up to the first that is not marked; there is none.
 abbrev pub tickIf : Bool → List ℕ → List ℕ → List ℕ
 tickIf true marks later = later
 tickIf false marks later = marks
 
 unfoldable pub tickAll : List ℕ → Words → List ℕ
 tickAll marks [] = marks
-tickAll marks (x ∷ L) = tickIf (eqb (getD marks (slotAt x) 0) 1) marks (tickAll (set marks (slotAt x) 2) L)
+tickAll marks (x ∷ L) = tickIf (eqb (getD marks (slotAt x) 0) 1) marks (tickAll (set marks (slotAt x) 0) L)
 
 unfoldable pub ticks : List ℕ → Words → Bool
 ticks marks [] = true
-ticks marks (x ∷ L) = eqb (getD marks (slotAt x) 0) 1 && ticks (set marks (slotAt x) 2) L
+ticks marks (x ∷ L) = eqb (getD marks (slotAt x) 0) 1 && ticks (set marks (slotAt x) 0) L
 
--- Each word is wiped to 0; one was 1.
-unfoldable pub wipeAll : List ℕ → Words → List ℕ
-wipeAll marks [] = marks
-wipeAll marks (x ∷ C) = wipeAll (set marks (slotAt x) 0) C
-
-unfoldable pub leaves : List ℕ → Words → Bool
-leaves marks [] = false
-leaves marks (x ∷ C) = eqb (getD marks (slotAt x) 0) 1 || leaves (set marks (slotAt x) 0) C
-
-pub record Marked (marks : List ℕ) (C : Words) (met : Bool) (exit : List ℕ) : Type 0 where
-  pub told : met ≡ meets marks C
-  pub left : exit ≡ markAll marks C
+pub record Put (on : Bool) (marks : List ℕ) (C : Words) (found : Bool) (exit : List ℕ) : Type 0 where
+  pub told : found ≡ finds on marks C
+  pub left : exit ≡ putAll on marks C
 
 pub record Ticked (marks : List ℕ) (L : Words) (all : Bool) (exit : List ℕ) : Type 0 where
   pub told : all ≡ ticks marks L
   pub left : exit ≡ tickAll marks L
-
-pub record Wiped (marks : List ℕ) (C : Words) (unticked : Bool) (exit : List ℕ) : Type 0 where
-  pub told : unticked ≡ leaves marks C
-  pub left : exit ≡ wipeAll marks C

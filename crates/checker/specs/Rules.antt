@@ -7,7 +7,7 @@ use mathlib.Core.Option.{Option, none}
 use mathlib.Core.List.{List, [], _∷_}
 use lib.IntN.{ℤ, pos}
 use Rattle.formula.specs.declared.refusal.Reason.{Reason}
-use Rattle.dependency.specs.Scratch.{scratchBound}
+use Rattle.dependency.specs.Scratch.{scratchBound, smallBound}
 
 -- `scratch` is in bytes; `resolutions` and `reductions` are the kind words of each; `afterwards` is why a step after an empty
 -- clause is refused, if it is.
@@ -20,6 +20,13 @@ pub record Rules : Type 0 where
 -- 01's rules: `1 i j e L.. 0` resolves, `2 i a L.. 0` reduces, and steps may follow an empty clause.
 abbrev pub plainRules : Rules
 plainRules = record { scratch = scratchBound; resolutions = pos 1 ∷ []; reductions = pos 2 ∷ []; afterwards = none }
+
+-- The same rules where another scratch is asked for; and 01's with the scratch of the small entry.
+abbrev pub resized : ℕ → Rules → Rules
+resized n rules = record { scratch = n; resolutions = rules .resolutions; reductions = rules .reductions; afterwards = rules .afterwards }
+
+abbrev pub smallRules : Rules
+smallRules = resized smallBound plainRules
 
 -- Rules whose steps are written with 1 and 2, whatever else they say.
 pub record PlainKinds (rules : Rules) : Type 0 where

@@ -56,7 +56,7 @@ pub record Placed (clauses steps : Words) (inputs : ℕ) (offsets : List ℕ) (n
   pub input-clauses : stored inputs clauses steps offsets inputs ≡ clausesOf clauses
   pub derived : (k : ℕ) → inputs ≤ k → k < numbered → StepStands steps (k - inputs) (getD offsets k 0) (storedAt inputs clauses steps offsets k)
 
--- `scratch` and `offsets` are as the run leaves them: marks and kinds are ready for another run.
+-- `scratch` and `offsets` are as the run leaves them: the scratch is ready for another run.
 pub record RunDone (prefix clauses steps : List ℤ) (inputs : ℕ) (r : Run) (scratch offsets : List ℕ) : Type 0 where
   pub outcome : run plainRules (scopeOf prefix clauses) (length offsets) (clausesOf clauses) zero steps ≡ outcomeOf inputs clauses steps offsets r
   pub counted : countOf r ≤ length offsets

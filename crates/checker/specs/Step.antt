@@ -1,14 +1,17 @@
--- What the parts of a step's check answer, and the checker's own part of the scratch: the 2,050 marks, then the 1,025 kinds. What
--- stands before is the maker of rows'. That the parts make up the judgement of Steps.antt is in Step/Laws.antt.
+-- What the parts of a step's check answer, and the scratch they work in: the marks of a step, the row that was made last, which variables are
+-- existential. That the parts make up the judgement of Steps.antt is in Step/Laws.antt.
 pub mod Laws
 use Prim.Native.Nat.{ℕ, _+_}
 use mathlib.Core.Path.{_≡_}
 use mathlib.Core.Bool.{not, _&&_}
 use mathlib.Core.Option.{Option, none, some}
-use mathlib.Core.List.{List, _++_}
+use mathlib.Core.List.{List}
 use lib.ListN.{length, take, drop}
 use lib.IntN.{ℤ, pos, negℤ}
-use Rattle.dependency.specs.Scratch.{own}
+use Rattle.bits.specs.Flags.{flags}
+use Rattle.dependency.specs.Row.{rowOf}
+use Rattle.dependency.specs.Scratch.{rowAt, later, smallBound, rowIn}
+use Rattle.formula.specs.Decode.{formulaOf}
 use Rattle.formula.specs.Word.{wordOf}
 use Rattle.formula.specs.declared.literal.VariableFit.{VariableFit}
 use Rattle.formula.specs.declared.literal.VariableFit.the-variants.{Within, Outside}
@@ -19,25 +22,32 @@ use Rattle.checker.specs.declared.step.StepAnswer.{StepAnswer}
 use Rattle.checker.specs.declared.step.StepAnswer.the-variants.{Right as RightStep, Wrong as WrongStep}
 use Rattle.checker.specs.Words.{Words, holds}
 use Rattle.checker.specs.Steps.{Scope, sizeOf, resolvent, blocked, blockerOf, demand, Judged, right, wrong}
-use Rattle.checker.specs.Marks.{clean}
-use Rattle.checker.specs.Kinds.{kindsOf, existentialOf, universalOf}
+use Rattle.checker.specs.Marks.{marksIn, clean}
+use Rattle.checker.specs.Existentials.{existentialsOf, existentialOf}
 use Rattle.checker.specs.Result.{judgementOf, resultReason, statementReason}
 
-abbrev pub marksIn : List ℕ → List ℕ
-marksIn scratch = take 2050 (drop own scratch)
+-- The marks, before the row; the existentials, right behind it.
+abbrev pub marksOf : List ℕ → List ℕ
+marksOf scratch = marksIn (take rowAt scratch)
 
-abbrev pub kindsIn : List ℕ → List ℕ
-kindsIn scratch = take 1025 (drop (own + 2050) scratch)
+abbrev pub existentialsIn : List ℕ → List ℕ
+existentialsIn scratch = flags (take 128 (drop later scratch))
 
 -- The scratch is whole and its marks are clean.
 pub record Clean (scratch : List ℕ) : Type 0 where
-  pub size : length scratch ≡ 8200
-  pub marks : marksIn scratch ≡ clean
+  pub size : length scratch ≡ smallBound
+  pub marks : marksOf scratch ≡ clean
 
--- The scratch with the kinds of a prefix.
+-- The scratch with the existentials of a prefix.
 pub record Ready (prefix : List ℤ) (scratch : List ℕ) : Type 0 where
-  pub size : length scratch ≡ 8200
-  pub later : drop own scratch ≡ clean ++ kindsOf prefix
+  pub size : length scratch ≡ smallBound
+  pub marks : marksOf scratch ≡ clean
+  pub existentials : existentialsIn scratch ≡ existentialsOf prefix
+
+-- The same with the row of u.
+pub record RowReady (prefix clauses : List ℤ) (u : ℕ) (scratch : List ℕ) : Type 0 where
+  pub row : rowIn scratch ≡ rowOf (formulaOf prefix clauses) u
+  pub ready : Ready prefix scratch
 
 -- The pivot stands in both clauses, then the result.
 abbrev pub pivotReason : ℤ → Words → Words → Words → Option Reason
@@ -47,34 +57,32 @@ abbrev pub resolvingReason : VariableFit → Words → Words → Words → Optio
 resolvingReason Outside C D L = some WrongPivot
 resolvingReason (Within v) C D L = pivotReason (pos (v .0)) C D L
 
--- With antecedents that may be missing; `kinds` are the bytes in the scratch.
+-- With antecedents that may be missing; `existentials` are the flags in the scratch.
 abbrev pub resolutionReason : List ℕ → ℤ → Words → Option Words → Option Words → Option Reason
-resolutionReason kinds e L none D = some NotEarlier
-resolutionReason kinds e L (some C) none = some NotEarlier
-resolutionReason kinds e L (some C) (some D) = resolvingReason (existentialOf kinds (wordOf e)) C D L
+resolutionReason existentials e L none D = some NotEarlier
+resolutionReason existentials e L (some C) none = some NotEarlier
+resolutionReason existentials e L (some C) (some D) = resolvingReason (existentialOf existentials (wordOf e)) C D L
 
 -- No variable of the clause depends on u, then the result.
 abbrev pub freeReason : Scope → ℕ → ℤ → Words → Words → Option Reason
 freeReason S u a C L = demand (not (blocked S u C)) (Blocked (blockerOf S u C)) (statementReason a C L)
 
-abbrev pub reducingReason : Scope → VariableFit → ℤ → Words → Words → Option Reason
-reducingReason S Outside a C L = some WrongPivot
-reducingReason S (Within v) a C L = demand (holds a C) WrongPivot (freeReason S (v .0) a C L)
-
-abbrev pub reductionReason : Scope → List ℕ → ℤ → Words → Option Words → Option Reason
-reductionReason S kinds a L none = some NotEarlier
-reductionReason S kinds a L (some C) = reducingReason S (universalOf kinds (wordOf a)) a C L
-
--- An answer that leaves marks and kinds as they were.
+-- An answer that leaves the marks clean, and all behind them as it was.
 pub record Answers (reason : Option Reason) (r : Judgement) (scratch scratch′ : List ℕ) : Type 0 where
   pub answer : r ≡ judgementOf reason
-  pub kept : drop own scratch′ ≡ drop own scratch
+  pub marks : marksOf scratch′ ≡ clean
+  pub kept : drop rowAt scratch′ ≡ drop rowAt scratch
+
+-- An answer that leaves the scratch ready; another row may stand there.
+pub record JudgedReady (prefix : List ℤ) (reason : Option Reason) (r : Judgement) (scratch′ : List ℕ) : Type 0 where
+  pub answer : r ≡ judgementOf reason
+  pub ready : Ready prefix scratch′
 
 -- The step's answer: where the next step begins.
 abbrev pub stepAnswer : ℕ → Judged → StepAnswer
 stepAnswer at (right s) = RightStep (at + sizeOf s)
 stepAnswer at (wrong r) = WrongStep r
 
-pub record StepChecked (at : ℕ) (j : Judged) (r : StepAnswer) (scratch scratch′ : List ℕ) : Type 0 where
+pub record StepChecked (prefix : List ℤ) (at : ℕ) (j : Judged) (r : StepAnswer) (scratch′ : List ℕ) : Type 0 where
   pub answer : r ≡ stepAnswer at j
-  pub kept : drop own scratch′ ≡ drop own scratch
+  pub ready : Ready prefix scratch′

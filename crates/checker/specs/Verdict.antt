@@ -1,10 +1,12 @@
 -- The verdict on a proof (01, "What the checker says no with", order "A proof"): tables, 2 on step words, 3 for scratch and
--- clause offsets, the steps, 19. `verdictOf plainRules` is what `check_proof` answers, Checked what it promises.
+-- clause offsets, the steps, 19. `verdictOf plainRules` is what `check_proof` answers, `verdictOf smallRules` what `check_proof_small` does,
+-- Checked what each promises. That the two agree where both have room is in Verdict/Sizes.antt.
 pub mod Examples
 pub mod TableScope
 pub mod Accuracy
 pub mod Exact
 pub mod Parts
+pub mod Sizes
 use Prim.Native.Nat.{ℕ, zero, suc, _-_}
 use mathlib.Core.Path.{_≡_}
 use mathlib.Core.Option.{Option, none, some}
@@ -25,7 +27,7 @@ use Rattle.formula.specs.declared.refusal.Refusal.{Refusal}
 use Rattle.formula.specs.declared.refusal.Reason.the-variants.{Oversized, NoRoom, NoConclusion}
 use Rattle.checker.specs.declared.verdict.Verdict.{Verdict}
 use Rattle.checker.specs.declared.verdict.Verdict.the-variants.{Accepted, Refused}
-use Rattle.checker.specs.Rules.{Rules, plainRules}
+use Rattle.checker.specs.Rules.{Rules}
 use Rattle.checker.specs.Words.{Words}
 use Rattle.checker.specs.Steps.{Scope, Outcome, ended, refused, run}
 
@@ -77,10 +79,10 @@ sizedVerdict rules prefix clauses steps scratch room = scopeVerdict rules (scope
 unfoldable pub verdictOf : Rules → List ℤ → List ℤ → List ℤ → ℕ → ℕ → Verdict
 verdictOf rules prefix clauses steps scratch room = ifAdmitted (tablesRefusal prefix clauses) (sizedVerdict rules prefix clauses steps scratch room)
 
--- What `check_proof` promises: the verdict, scratch and clause offsets of whatever length wholly 0, and that an accepted proof makes the
+-- What a check of a proof promises: the verdict, scratch and clause offsets of whatever length wholly 0, and that an accepted proof makes the
 -- game lost.
-pub record Checked (prefix clauses steps : List ℤ) (scratch offsets : List ℕ) (r : Verdict) (scratch′ offsets′ : List ℕ) : Type 0 where
-  pub verdict : r ≡ verdictOf plainRules prefix clauses steps (length scratch) (length offsets)
+pub record Checked (rules : Rules) (prefix clauses steps : List ℤ) (scratch offsets : List ℕ) (r : Verdict) (scratch′ offsets′ : List ℕ) : Type 0 where
+  pub verdict : r ≡ verdictOf rules prefix clauses steps (length scratch) (length offsets)
   pub scratch-cleared : scratch′ ≡ replicate (length scratch) 0
   pub offsets-cleared : offsets′ ≡ replicate (length offsets) 0
   pub lost : (empty : ClauseNumber) (count : ℕ) → r ≡ Accepted empty count → Lost (formulaOf prefix clauses)

@@ -16,13 +16,13 @@ ghost use Rattle.formula.specs.Bounds.{variableBound};
 ghost use Rattle.formula.specs.Decode.{clauseAt};
 ghost use Rattle.formula.specs.Free.{occurs};
 ghost use Rattle.formula.specs.Prefix.{prefixOf, withBlocks, IsTable, Entries};
-ghost use Rattle.dependency.specs.Scratch.{scratchBound, rowIn};
+ghost use Rattle.dependency.specs.Scratch.{smallBound, rowIn};
 ghost use Rattle.checker.specs.Blocked.{touches, blocksBy};
 ghost use Rattle.checker.specs.Steps.{leftmost};
 
 // Whether a word's variable depends on the row's.
 fn word_touches(word: i32, scratch: &[u8]) -> bool
-    requires { ⌜ scratchBound ≤ length (now scratch) ⌝ }
+    requires { ⌜ length (now scratch) ≡ smallBound ⌝ }
     ensures { λ r. ⌜ r ≡ eqb (getD (rowIn (now (scratch .entry))) (natAbs word) 0) 1 ⌝ }
 {
     let variable = Word::variable(word);
@@ -34,7 +34,7 @@ fn word_touches(word: i32, scratch: &[u8]) -> bool
 
 // Whether a variable of the clause that begins at `from` depends on the row's. One pass over the clause.
 pub fn row_touches(words: &[i32], from: usize, scratch: &[u8]) -> bool
-    requires { ⌜ scratchBound ≤ length (now scratch) ⌝ }
+    requires { ⌜ length (now scratch) ≡ smallBound ⌝ }
     ensures { λ r. ⌜ r ≡ touches (rowIn (now (scratch .entry))) (clauseAt (now (words .entry)) from) ⌝ }
 {
     let mut i = from;
@@ -72,7 +72,7 @@ fn has_variable(words: &[i32], from: usize, variable: Variable) -> bool
 
 // Whether a variable depends on the row's and stands in the clause.
 fn blocks(variable: Variable, words: &[i32], from: usize, scratch: &[u8]) -> bool
-    requires { ⌜ variable .0 ≤ variableBound ⌝ ∗ ⌜ scratchBound ≤ length (now scratch) ⌝ }
+    requires { ⌜ variable .0 ≤ variableBound ⌝ ∗ ⌜ length (now scratch) ≡ smallBound ⌝ }
     ensures { λ r. ⌜ r ≡ blocksBy (rowIn (now (scratch .entry))) (clauseAt (now (words .entry)) from) (variable .0) ⌝ }
 {
     if depends_in(scratch, variable.0) {
@@ -84,7 +84,7 @@ fn blocks(variable: Variable, words: &[i32], from: usize, scratch: &[u8]) -> boo
 // What blocks: the leftmost entry whose variable depends on the row's and stands in the clause, which has one. A pass over the clause for
 // each dependent before it; it is asked for once in a run, where a step is refused.
 pub fn find_blocker(prefix: &[i32], words: &[i32], from: usize, scratch: &[u8]) -> Blocker
-    requires { ⌜ Entries (now prefix) ⌝ ∗ ⌜ IsTable (now prefix) ⌝ ∗ ⌜ scratchBound ≤ length (now scratch) ⌝ }
+    requires { ⌜ Entries (now prefix) ⌝ ∗ ⌜ IsTable (now prefix) ⌝ ∗ ⌜ length (now scratch) ≡ smallBound ⌝ }
     ensures { λ r. ⌜ r ≡ leftmost (blocksBy (rowIn (now (scratch .entry))) (clauseAt (now (words .entry)) from)) (withBlocks (prefixOf (now (prefix .entry)))) ⌝ }
 {
     let count = entry_count(prefix);

@@ -2,8 +2,8 @@
 // and marks are read, and the run.
 mod blocked;
 pub mod clause;
+pub mod existentials;
 pub mod file;
-pub mod kinds;
 pub mod marks;
 pub mod numbered;
 pub mod proof;

@@ -1,67 +1,78 @@
-// A step's marks, one byte a literal: 0 for one that is not in the result, 1 for one that is, 2 for one that is stated. The
-// result is marked, its statement ticked, then the result wiped, which tells whether a literal was left unstated.
+// A step's marks, one flag a literal: 1 for one that is in the result and not stated yet. The result is marked, its statement ticked off, then
+// the result wiped, which tells whether a literal was left unstated. The literal of slot s has the flag s - 2.
 use crate::words::same;
+use bits::is_set;
+use bits::put;
 use formula::word::Word;
 ghost use mathlib.Core.Path.{_≡_};
-ghost use lib.ListN.{length, drop};
-ghost use Rattle.formula.specs.Decode.{firstClause};
-ghost use Rattle.checker.specs.Words.{without};
-ghost use Rattle.checker.specs.Marks.{Marked, Ticked, Wiped, alone};
+ghost use lib.ListN.{length};
+ghost use Rattle.formula.specs.Decode.{clauseAt};
+ghost use Rattle.checker.specs.Words.{without, InRange, AllInRange};
+ghost use Rattle.checker.specs.Marks.{marksIn, lookedAt, Put, Ticked, alone};
 
-// Where in scratch the marks end and the kinds of the variables begin: the 2,050 marks begin at `OWN`.
-pub const KINDS: usize = 7_175;
+// The slot that is looked at before a word's mark is stored: the opposite's where words are marked, its own where they are wiped.
+fn looked_at(word: i32, on: bool) -> usize
+    ensures { λ r. ⌜ r ≡ lookedAt on word ⌝ }
+{
+    if on {
+        return Word::opposite_slot(word);
+    }
+    Word::slot(word)
+}
 
-// Marks a word, unless it is the one left out; tells whether its opposite is marked.
-fn mark_word(word: i32, except: i32, marks: &mut [u8]) -> bool
-    requires { ⌜ length (now marks) ≡ 2050 ⌝ }
-    ensures { λ r. ⌜ Marked (now (marks .entry)) (without except (alone word)) r (now (marks .exit)) ⌝ }
+// Stores a word's mark, unless it is the one left out; tells, when on, whether its opposite is marked, and when off, whether it was.
+fn put_word(word: i32, except: i32, on: bool, marks: &mut [u8]) -> bool
+    requires { ⌜ length (now marks) ≡ 256 ⌝ ∗ ⌜ InRange word ⌝ }
+    ensures { λ r. ⌜ Put on (marksIn (now (marks .entry))) (without except (alone word)) r (marksIn (now (marks .exit))) ⌝ }
 {
     if same(except, word) {
         return false;
     }
-    let own = Word::slot(word);
-    let other = Word::opposite_slot(word);
-    let opposite = marks[other];
-    marks[own] = 1;
-    opposite == 1
+    let found = is_set(marks, looked_at(word, on) - 2);
+    put(marks, Word::slot(word) - 2, on);
+    found
 }
 
-// Marks the clause but for one literal; tells whether a literal met its opposite.
-pub fn mark(words: &[i32], from: usize, except: i32, marks: &mut [u8]) -> bool
-    requires { ⌜ length (now marks) ≡ 2050 ⌝ }
-    ensures { λ r. ⌜ Marked (now (marks .entry)) (without except (firstClause (drop from (now (words .entry))))) r (now (marks .exit)) ⌝ }
+// Marks the clause but for one literal, or wipes its marks; tells, when on, whether a literal met its opposite, and when off, whether one was
+// still marked. One pass over the clause.
+pub fn put_clause(words: &[i32], from: usize, except: i32, on: bool, marks: &mut [u8]) -> bool
+    requires { ⌜ length (now marks) ≡ 256 ⌝ ∗ ⌜ AllInRange (clauseAt (now words) from) ⌝ }
+    ensures { λ r. ⌜ Put on (marksIn (now (marks .entry))) (without except (clauseAt (now (words .entry)) from)) r (marksIn (now (marks .exit))) ⌝ }
 {
-    let mut clash = false;
+    let mut told = false;
     let mut i = from;
     while i < words.len() {
         let word = words[i];
         if Word::is_zero(word) {
-            return clash;
+            return told;
         }
-        let met = mark_word(word, except, marks);
-        clash = clash | met;
+        let found = put_word(word, except, on, marks);
+        told = told | found;
         i += 1;
     }
-    clash
+    told
 }
 
-// Ticks a word that is marked and not ticked yet, or tells that it is not so.
+// Ticks off a word that is marked: its mark is cleared. Or tells that it is not marked.
 fn tick_word(word: i32, marks: &mut [u8]) -> bool
-    requires { ⌜ length (now marks) ≡ 2050 ⌝ }
-    ensures { λ r. ⌜ Ticked (now (marks .entry)) (alone word) r (now (marks .exit)) ⌝ }
+    requires { ⌜ length (now marks) ≡ 256 ⌝ }
+    ensures { λ r. ⌜ Ticked (marksIn (now (marks .entry))) (alone word) r (marksIn (now (marks .exit))) ⌝ }
 {
-    let own = Word::slot(word);
-    if marks[own] == 1 {
-        marks[own] = 2;
+    let slot = Word::slot(word);
+    if slot < 2 {
+        return false;
+    }
+    if is_set(marks, slot - 2) {
+        put(marks, slot - 2, false);
         return true;
     }
     false
 }
 
-// Ticks the clause up to the first word that is not marked or is ticked already; tells whether there was none.
+// Ticks off the clause up to the first word that is not marked, or is ticked off already; tells whether there was none.
 pub fn tick(words: &[i32], from: usize, marks: &mut [u8]) -> bool
-    requires { ⌜ length (now marks) ≡ 2050 ⌝ }
-    ensures { λ r. ⌜ Ticked (now (marks .entry)) (firstClause (drop from (now (words .entry)))) r (now (marks .exit)) ⌝ }
+    requires { ⌜ length (now marks) ≡ 256 ⌝ }
+    ensures { λ r. ⌜ Ticked (marksIn (now (marks .entry))) (clauseAt (now (words .entry)) from) r (marksIn (now (marks .exit))) ⌝ }
 {
     let mut i = from;
     while i < words.len() {
@@ -76,37 +87,4 @@ pub fn tick(words: &[i32], from: usize, marks: &mut [u8]) -> bool
         }
     }
     true
-}
-
-// Wipes a word's mark, unless it is the one left out; tells whether it was unticked.
-fn wipe_word(word: i32, except: i32, marks: &mut [u8]) -> bool
-    requires { ⌜ length (now marks) ≡ 2050 ⌝ }
-    ensures { λ r. ⌜ Wiped (now (marks .entry)) (without except (alone word)) r (now (marks .exit)) ⌝ }
-{
-    if same(except, word) {
-        return false;
-    }
-    let own = Word::slot(word);
-    let was = marks[own];
-    marks[own] = 0;
-    was == 1
-}
-
-// Wipes the marks of the clause but for one literal; tells whether one was unticked.
-pub fn wipe(words: &[i32], from: usize, except: i32, marks: &mut [u8]) -> bool
-    requires { ⌜ length (now marks) ≡ 2050 ⌝ }
-    ensures { λ r. ⌜ Wiped (now (marks .entry)) (without except (firstClause (drop from (now (words .entry))))) r (now (marks .exit)) ⌝ }
-{
-    let mut left = false;
-    let mut i = from;
-    while i < words.len() {
-        let word = words[i];
-        if Word::is_zero(word) {
-            return left;
-        }
-        let unticked = wipe_word(word, except, marks);
-        left = left | unticked;
-        i += 1;
-    }
-    left
 }

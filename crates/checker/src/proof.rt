@@ -1,13 +1,15 @@
-// The check of a proof, on tables and step words: the entry of this layer.
-use crate::kinds::fill_kinds;
-use crate::marks::KINDS;
+// The check of a proof, on tables and step words: the entries of this layer, which differ in the scratch they ask for.
+use crate::existentials::EXISTENTIALS_END;
+use crate::existentials::fill_existentials;
 use crate::numbered::fill_offsets;
 use crate::run::Found;
 use crate::run::Run;
 use crate::run::first_empty;
 use crate::run::run_steps;
 use crate::verdict::Verdict;
-use dependency::row::SCRATCH;
+use dependency::scratch::LATER;
+use dependency::scratch::SCRATCH;
+use dependency::scratch::SMALL;
 use formula::bounds::ProofFit;
 use formula::bounds::ProofLength;
 use formula::clear::clear_bytes;
@@ -15,13 +17,14 @@ use formula::clear::clear_numbers;
 use formula::refusal::Reason;
 use formula::refusal::Refusal;
 use formula::tables::TablesAnswer;
-use formula::tables::check_tables;
+use formula::tables::check_tables_in;
 ghost use mathlib.Core.Path.{_≡_};
 ghost use Prim.Native.Nat.{_≤_, zero};
 ghost use lib.ListN.{length, replicate};
+ghost use Rattle.dependency.specs.Scratch.{smallBound};
 ghost use Rattle.formula.specs.Decode.{clausesOf};
 ghost use Rattle.formula.specs.Tables.{Admitted, zeros};
-ghost use Rattle.checker.specs.Rules.{plainRules};
+ghost use Rattle.checker.specs.Rules.{resized, plainRules, smallRules};
 ghost use Rattle.checker.specs.Steps.{run};
 ghost use Rattle.checker.specs.Numbered.{stored};
 ghost use Rattle.checker.specs.Verdict.{scopeOf, firstEmpty, concluded, conclude, sizedVerdict, verdictOf, Checked};
@@ -54,7 +57,7 @@ fn conclude_run<'a>(
     }
 }
 
-// The steps, there being room: kinds and the offsets of the input clauses are filled first.
+// The steps, in the scratch that they need: the existentials and the offsets of the input clauses are filled first.
 fn judge_steps<'a>(
     prefix: &[i32],
     clauses: &'a [i32],
@@ -63,26 +66,19 @@ fn judge_steps<'a>(
     scratch: &mut [u8],
     offsets: &mut [u32],
 ) -> Verdict
-    requires { ⌜ Admitted (now prefix) (now clauses) ⌝ ∗ ⌜ inputs ≡ zeros (now clauses) ⌝ ∗ ⌜ length (now steps) ≤ 1048576 ⌝ ∗ ⌜ 8200 ≤ length (now scratch) ⌝ ∗ ⌜ inputs ≤ length (now offsets) ⌝ }
+    requires { ⌜ Admitted (now prefix) (now clauses) ⌝ ∗ ⌜ inputs ≡ zeros (now clauses) ⌝ ∗ ⌜ length (now steps) ≤ 1048576 ⌝ ∗ ⌜ length (now scratch) ≡ smallBound ⌝ ∗ ⌜ inputs ≤ length (now offsets) ⌝ }
     ensures { λ r. ⌜ r ≡ conclude inputs (run plainRules (scopeOf (now (prefix .entry)) (now (clauses .entry))) (length (now (offsets .entry))) (clausesOf (now (clauses .entry))) zero (now (steps .entry))) ⌝ }
 {
     clear_lent(scratch, offsets);
-    fill_kinds(prefix, &mut scratch[KINDS..SCRATCH]);
+    fill_existentials(prefix, &mut scratch[LATER..EXISTENTIALS_END]);
     fill_offsets(clauses, offsets);
-    match run_steps(
-        prefix,
-        clauses,
-        steps,
-        inputs,
-        &mut scratch[..SCRATCH],
-        offsets,
-    ) {
+    match run_steps(prefix, clauses, steps, inputs, scratch, offsets) {
         Run::Refused(refusal) => Verdict::Refused(refusal),
         Run::Ended(numbered) => conclude_run(clauses, steps, offsets, inputs, numbered),
     }
 }
 
-// The order of refusals after the tables.
+// The order of refusals after the tables; so many bytes of scratch are asked for.
 fn judge_sized<'a>(
     prefix: &[i32],
     clauses: &'a [i32],
@@ -90,44 +86,71 @@ fn judge_sized<'a>(
     inputs: usize,
     scratch: &mut [u8],
     offsets: &mut [u32],
+    bytes: usize,
 ) -> Verdict
-    requires { ⌜ Admitted (now prefix) (now clauses) ⌝ ∗ ⌜ inputs ≡ zeros (now clauses) ⌝ }
-    ensures { λ r. ⌜ r ≡ sizedVerdict plainRules (now (prefix .entry)) (now (clauses .entry)) (now (steps .entry)) (length (now (scratch .entry))) (length (now (offsets .entry))) ⌝ }
+    requires { ⌜ Admitted (now prefix) (now clauses) ⌝ ∗ ⌜ inputs ≡ zeros (now clauses) ⌝ ∗ ⌜ smallBound ≤ bytes ⌝ }
+    ensures { λ r. ⌜ r ≡ sizedVerdict (resized bytes plainRules) (now (prefix .entry)) (now (clauses .entry)) (now (steps .entry)) (length (now (scratch .entry))) (length (now (offsets .entry))) ⌝ }
 {
     match ProofLength::new(steps.len()) {
         ProofFit::Oversized => Verdict::Refused(Refusal::new(Reason::Oversized, 0)),
         ProofFit::Within(_) => {
-            if scratch.len() < SCRATCH {
+            if scratch.len() < bytes {
                 return Verdict::Refused(Refusal::new(Reason::NoRoom, 0));
             }
             if offsets.len() < inputs {
                 return Verdict::Refused(Refusal::new(Reason::NoRoom, offsets.len() + 1));
             }
-            judge_steps(prefix, clauses, steps, inputs, scratch, offsets)
+            judge_steps(
+                prefix,
+                clauses,
+                steps,
+                inputs,
+                &mut scratch[..SMALL],
+                offsets,
+            )
         }
     }
 }
 
-// The verdict; what was lent is left filled.
+// The verdict; what was lent is left filled. The check of tables marks in the scratch.
 fn judge_proof<'a>(
     prefix: &[i32],
     clauses: &'a [i32],
     steps: &'a [i32],
     scratch: &mut [u8],
     offsets: &mut [u32],
+    bytes: usize,
 ) -> Verdict
-    ensures { λ r. ⌜ r ≡ verdictOf plainRules (now (prefix .entry)) (now (clauses .entry)) (now (steps .entry)) (length (now (scratch .entry))) (length (now (offsets .entry))) ⌝ }
+    requires { ⌜ smallBound ≤ bytes ⌝ }
+    ensures { λ r. ⌜ r ≡ verdictOf (resized bytes plainRules) (now (prefix .entry)) (now (clauses .entry)) (now (steps .entry)) (length (now (scratch .entry))) (length (now (offsets .entry))) ⌝ }
 {
-    match check_tables(prefix, clauses) {
+    match check_tables_in(prefix, clauses, scratch) {
         TablesAnswer::Refused(refusal) => Verdict::Refused(refusal),
         TablesAnswer::Admitted {
             variables: _,
             clauses: inputs,
-        } => judge_sized(prefix, clauses, steps, inputs, scratch, offsets),
+        } => judge_sized(prefix, clauses, steps, inputs, scratch, offsets, bytes),
     }
 }
 
-// The check of a proof. Scratch and offsets (01: starts) end as 0.
+// The check of a proof that asks for so many bytes of scratch. Scratch and offsets (01: starts) end as 0.
+fn check_with<'a>(
+    prefix: &[i32],
+    clauses: &'a [i32],
+    steps: &'a [i32],
+    scratch: &mut [u8],
+    offsets: &mut [u32],
+    bytes: usize,
+) -> Verdict
+    requires { ⌜ smallBound ≤ bytes ⌝ }
+    ensures { λ r. ⌜ Checked (resized bytes plainRules) (now (prefix .entry)) (now (clauses .entry)) (now (steps .entry)) (now (scratch .entry)) (now (offsets .entry)) r (now (scratch .exit)) (now (offsets .exit)) ⌝ }
+{
+    let verdict = judge_proof(prefix, clauses, steps, scratch, offsets, bytes);
+    clear_lent(scratch, offsets);
+    verdict
+}
+
+// The check of a proof, with the scratch that 01 asks for.
 pub fn check_proof<'a>(
     prefix: &[i32],
     clauses: &'a [i32],
@@ -135,9 +158,20 @@ pub fn check_proof<'a>(
     scratch: &mut [u8],
     offsets: &mut [u32],
 ) -> Verdict
-    ensures { λ r. ⌜ Checked (now (prefix .entry)) (now (clauses .entry)) (now (steps .entry)) (now (scratch .entry)) (now (offsets .entry)) r (now (scratch .exit)) (now (offsets .exit)) ⌝ }
+    ensures { λ r. ⌜ Checked plainRules (now (prefix .entry)) (now (clauses .entry)) (now (steps .entry)) (now (scratch .entry)) (now (offsets .entry)) r (now (scratch .exit)) (now (offsets .exit)) ⌝ }
 {
-    let verdict = judge_proof(prefix, clauses, steps, scratch, offsets);
-    clear_lent(scratch, offsets);
-    verdict
+    check_with(prefix, clauses, steps, scratch, offsets, SCRATCH)
+}
+
+// The check of a proof, with the scratch that the check works in and no more.
+pub fn check_proof_small<'a>(
+    prefix: &[i32],
+    clauses: &'a [i32],
+    steps: &'a [i32],
+    scratch: &mut [u8],
+    offsets: &mut [u32],
+) -> Verdict
+    ensures { λ r. ⌜ Checked smallRules (now (prefix .entry)) (now (clauses .entry)) (now (steps .entry)) (now (scratch .entry)) (now (offsets .entry)) r (now (scratch .exit)) (now (offsets .exit)) ⌝ }
+{
+    check_with(prefix, clauses, steps, scratch, offsets, SMALL)
 }

@@ -1,40 +1,67 @@
-// Kind 2: a reduction. Each check costs the row of its variable, and one pass over the clause and the statement.
+// Kind 2: a reduction. Each check costs the row of its variable, and one pass over the prefix, the clause and the statement.
 use crate::blocked::find_blocker;
 use crate::blocked::row_touches;
 use crate::clause::has_word;
-use crate::kinds::UNIVERSAL;
-use crate::kinds::variable_of;
-use crate::marks::KINDS;
+use crate::existentials::EXISTENTIALS_END;
+use crate::existentials::fill_existentials;
 use crate::numbered::antecedent_of;
 use crate::numbered::place_of;
 use crate::numbered::table_of;
 use crate::read::StepRead;
 use crate::result::Judgement;
 use crate::result::judge_reduct;
-use dependency::row::OWN;
-use dependency::row::SCRATCH;
+use dependency::answer::is_universal;
 use dependency::row::make_row;
+use dependency::scratch::LATER;
+use dependency::scratch::ROW;
 use formula::literal::Literal;
 use formula::literal::LiteralFit;
 use formula::literal::NumberFit;
 use formula::literal::Variable;
 use formula::literal::VariableFit;
 use formula::refusal::Reason;
+use formula::word::Word;
 ghost use mathlib.Core.Path.{_≡_};
 ghost use mathlib.Core.Bool.{true};
+ghost use mathlib.Core.Option.{some};
 ghost use Prim.Native.Nat.{_≤_};
 ghost use lib.ListN.{length};
-ghost use Rattle.formula.specs.Word.{wordOf};
+ghost use lib.IntN.{natAbs};
+ghost use Rattle.formula.specs.Bounds.{variableFit};
 ghost use Rattle.formula.specs.Tables.{Admitted};
 ghost use Rattle.qbf.specs.Formula.{universal};
-ghost use Rattle.formula.specs.Prefix.{prefixOf, quantifies};
+ghost use Rattle.formula.specs.Prefix.{prefixOf, quantifies, Entries};
 ghost use Rattle.formula.specs.Decode.{clauseAt};
-ghost use Rattle.checker.specs.Steps.{antecedent};
+ghost use Rattle.checker.specs.Steps.{antecedent, judgeReduction};
 ghost use Rattle.checker.specs.Words.{AllWords, InRange, AllInRange};
 ghost use Rattle.checker.specs.Verdict.{scopeOf};
 ghost use Rattle.checker.specs.Numbered.{stored};
-ghost use Rattle.checker.specs.Kinds.{universalOf};
-ghost use Rattle.checker.specs.Step.{Clean, Ready, freeReason, reducingReason, reductionReason, Answers, kindsIn};
+ghost use Rattle.checker.specs.Step.{Ready, RowReady, freeReason, JudgedReady};
+
+// The variable of a word that is a literal of a universal.
+fn universal_of(prefix: &[i32], word: i32) -> VariableFit
+    requires { ⌜ Entries (now prefix) ⌝ }
+    ensures { λ r. ⌜ r ≡ variableFit (quantifies universal (prefixOf (now (prefix .entry))) (natAbs word)) (natAbs word) ⌝ }
+{
+    match Variable::new(Word::variable(word)) {
+        VariableFit::Outside => VariableFit::Outside,
+        VariableFit::Within(variable) => {
+            if is_universal(prefix, variable) {
+                return VariableFit::Within(variable);
+            }
+            VariableFit::Outside
+        }
+    }
+}
+
+// Makes the row of a universal, and fills in the existentials, which making it cleared.
+fn row_for(prefix: &[i32], clauses: &[i32], variable: Variable, scratch: &mut [u8])
+    requires { ⌜ Ready (now prefix) (now scratch) ⌝ ∗ ⌜ Admitted (now prefix) (now clauses) ⌝ ∗ ⌜ quantifies universal (prefixOf (now prefix)) (variable .0) ≡ true ⌝ }
+    ensures { λ r. ⌜ RowReady (now (prefix .entry)) (now (clauses .entry)) (variable .0) (now (scratch .exit)) ⌝ }
+{
+    make_row(prefix, clauses, variable, scratch);
+    fill_existentials(prefix, &mut scratch[LATER..EXISTENTIALS_END]);
+}
 
 // No variable of the clause depends on the reduced one, by its row, and else which one blocks; then the result is judged.
 fn reduce_on(
@@ -48,22 +75,15 @@ fn reduce_on(
     statement: usize,
     scratch: &mut [u8],
 ) -> Judgement
-    requires { ⌜ Clean (now scratch) ⌝ ∗ ⌜ Admitted (now prefix) (now clauses) ⌝ ∗ ⌜ quantifies universal (prefixOf (now prefix)) (variable .0) ≡ true ⌝ ∗ ⌜ AllInRange (clauseAt (now words) from) ⌝ }
-    ensures { λ r. ⌜ Answers (freeReason (scopeOf (now (prefix .entry)) (now (clauses .entry))) (variable .0) (literal .0) (clauseAt (now (words .entry)) from) (clauseAt (now (steps .entry)) statement)) r (now (scratch .entry)) (now (scratch .exit)) ⌝ }
+    requires { ⌜ Ready (now prefix) (now scratch) ⌝ ∗ ⌜ Admitted (now prefix) (now clauses) ⌝ ∗ ⌜ quantifies universal (prefixOf (now prefix)) (variable .0) ≡ true ⌝ ∗ ⌜ AllInRange (clauseAt (now words) from) ⌝ }
+    ensures { λ r. ⌜ JudgedReady (now (prefix .entry)) (freeReason (scopeOf (now (prefix .entry)) (now (clauses .entry))) (variable .0) (literal .0) (clauseAt (now (words .entry)) from) (clauseAt (now (steps .entry)) statement)) r (now (scratch .exit)) ⌝ }
 {
-    make_row(prefix, clauses, variable, scratch);
+    row_for(prefix, clauses, variable, scratch);
     if row_touches(words, from, scratch) {
         let blocker = find_blocker(prefix, words, from, scratch);
         return Judgement::Wrong(Reason::Blocked(blocker));
     }
-    judge_reduct(
-        words,
-        from,
-        literal,
-        steps,
-        statement,
-        &mut scratch[OWN..KINDS],
-    )
+    judge_reduct(words, from, literal, steps, statement, &mut scratch[..ROW])
 }
 
 // The reduced literal is a universal one of the clause.
@@ -78,10 +98,10 @@ fn reduce_literal(
     scratch: &mut [u8],
 ) -> Judgement
     requires { ⌜ Ready (now prefix) (now scratch) ⌝ ∗ ⌜ Admitted (now prefix) (now clauses) ⌝ ∗ ⌜ AllInRange (clauseAt (now words) from) ⌝ }
-    ensures { λ r. ⌜ Answers (reducingReason (scopeOf (now (prefix .entry)) (now (clauses .entry))) (universalOf (kindsIn (now (scratch .entry))) (wordOf (literal .0))) (literal .0) (clauseAt (now (words .entry)) from) (clauseAt (now (steps .entry)) statement)) r (now (scratch .entry)) (now (scratch .exit)) ⌝ }
+    ensures { λ r. ⌜ JudgedReady (now (prefix .entry)) (judgeReduction (scopeOf (now (prefix .entry)) (now (clauses .entry))) (literal .0) (clauseAt (now (steps .entry)) statement) (some (clauseAt (now (words .entry)) from))) r (now (scratch .exit)) ⌝ }
 {
     let a = literal.0;
-    match variable_of(a, UNIVERSAL, &scratch[KINDS..SCRATCH]) {
+    match universal_of(prefix, a) {
         VariableFit::Outside => Judgement::Wrong(Reason::WrongPivot),
         VariableFit::Within(variable) => {
             if has_word(words, from, a) {
@@ -113,7 +133,7 @@ fn reduce_fields(
     scratch: &mut [u8],
 ) -> Judgement
     requires { ⌜ Ready (now prefix) (now scratch) ⌝ ∗ ⌜ Admitted (now prefix) (now clauses) ⌝ ∗ ⌜ AllInRange (clauseAt (now words) from) ⌝ }
-    ensures { λ r. ⌜ Answers (reducingReason (scopeOf (now (prefix .entry)) (now (clauses .entry))) (universalOf (kindsIn (now (scratch .entry))) (wordOf (step .pivot))) (step .pivot) (clauseAt (now (words .entry)) from) (clauseAt (now (steps .entry)) (step .statement))) r (now (scratch .entry)) (now (scratch .exit)) ⌝ }
+    ensures { λ r. ⌜ JudgedReady (now (prefix .entry)) (judgeReduction (scopeOf (now (prefix .entry)) (now (clauses .entry))) (step .pivot) (clauseAt (now (steps .entry)) (step .statement)) (some (clauseAt (now (words .entry)) from))) r (now (scratch .exit)) ⌝ }
 {
     match Literal::new(step.pivot) {
         LiteralFit::Outside => Judgement::Wrong(Reason::WrongPivot),
@@ -145,7 +165,7 @@ pub fn check_reduction<'a>(
 ) -> Judgement
     requires { ⌜ Ready (now prefix) (now scratch) ⌝ ∗ ⌜ Admitted (now prefix) (now clauses) ⌝ }
     requires { ⌜ numbered ≤ length (now offsets) ⌝ ∗ ⌜ AllWords InRange (stored inputs (now clauses) (now steps) (now offsets) numbered) ⌝ }
-    ensures { λ r. ⌜ Answers (reductionReason (scopeOf (now (prefix .entry)) (now (clauses .entry))) (kindsIn (now (scratch .entry))) (step .pivot) (clauseAt (now (steps .entry)) (step .statement)) (antecedent (stored inputs (now (clauses .entry)) (now (steps .entry)) (now (offsets .entry)) numbered) (step .first))) r (now (scratch .entry)) (now (scratch .exit)) ⌝ }
+    ensures { λ r. ⌜ JudgedReady (now (prefix .entry)) (judgeReduction (scopeOf (now (prefix .entry)) (now (clauses .entry))) (step .pivot) (clauseAt (now (steps .entry)) (step .statement)) (antecedent (stored inputs (now (clauses .entry)) (now (steps .entry)) (now (offsets .entry)) numbered) (step .first))) r (now (scratch .exit)) ⌝ }
 {
     match antecedent_of(step.first, numbered) {
         NumberFit::Outside => Judgement::Wrong(Reason::NotEarlier),

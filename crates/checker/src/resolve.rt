@@ -1,16 +1,15 @@
 // Kind 1: a resolution. Each check costs one pass over the two clauses and the statement.
 use crate::clause::has_word;
-use crate::kinds::EXISTENTIAL;
-use crate::kinds::variable_of;
-use crate::marks::KINDS;
+use crate::existentials::EXISTENTIALS_END;
+use crate::existentials::existential_of;
 use crate::numbered::antecedent_of;
 use crate::numbered::place_of;
 use crate::numbered::table_of;
 use crate::read::StepRead;
 use crate::result::Judgement;
 use crate::result::judge_resolvent;
-use dependency::row::OWN;
-use dependency::row::SCRATCH;
+use dependency::scratch::LATER;
+use dependency::scratch::ROW;
 use formula::literal::ClauseNumber;
 use formula::literal::NumberFit;
 use formula::literal::Variable;
@@ -24,10 +23,10 @@ ghost use Rattle.formula.specs.Decode.{clauseAt};
 ghost use Rattle.checker.specs.Steps.{antecedent};
 ghost use Rattle.checker.specs.Words.{AllWords, InRange, AllInRange};
 ghost use Rattle.checker.specs.Numbered.{storedAt, stored};
-ghost use Rattle.checker.specs.Marks.{clean};
+ghost use Rattle.checker.specs.Marks.{marksIn, clean};
 ghost use Rattle.checker.specs.Result.{JudgedClean};
-ghost use Rattle.checker.specs.Kinds.{existentialOf};
-ghost use Rattle.checker.specs.Step.{kindsIn, Clean, pivotReason, resolvingReason, resolutionReason, Answers};
+ghost use Rattle.checker.specs.Existentials.{existentialOf};
+ghost use Rattle.checker.specs.Step.{existentialsIn, Clean, pivotReason, resolvingReason, resolutionReason, Answers};
 ghost use Rattle.formula.specs.Word.{wordOf};
 
 // Both clauses hold their literal of the pivot, then the result is judged.
@@ -41,8 +40,8 @@ fn resolve_on(
     statement: usize,
     marks: &mut [u8],
 ) -> Judgement
-    requires { ⌜ now marks ≡ clean ⌝ ∗ ⌜ pivot .0 ≤ 1024 ⌝ ∗ ⌜ AllInRange (clauseAt (now left) from) ⌝ ∗ ⌜ AllInRange (clauseAt (now right) start) ⌝ }
-    ensures { λ r. ⌜ JudgedClean (pivotReason (pos (pivot .0)) (clauseAt (now (left .entry)) from) (clauseAt (now (right .entry)) start) (clauseAt (now (steps .entry)) statement)) r (now (marks .exit)) ⌝ }
+    requires { ⌜ length (now marks) ≡ 256 ⌝ ∗ ⌜ marksIn (now marks) ≡ clean ⌝ ∗ ⌜ pivot .0 ≤ 1024 ⌝ ∗ ⌜ AllInRange (clauseAt (now left) from) ⌝ ∗ ⌜ AllInRange (clauseAt (now right) start) ⌝ }
+    ensures { λ r. ⌜ JudgedClean (pivotReason (pos (pivot .0)) (clauseAt (now (left .entry)) from) (clauseAt (now (right .entry)) start) (clauseAt (now (steps .entry)) statement)) r (marksIn (now (marks .exit))) ⌝ }
 {
     let literal = pivot.literal();
     let e = literal.0;
@@ -69,10 +68,10 @@ fn resolve_numbered<'a>(
     statement: usize,
     marks: &mut [u8],
 ) -> Judgement
-    requires { ⌜ now marks ≡ clean ⌝ ∗ ⌜ pivot .0 ≤ 1024 ⌝ }
+    requires { ⌜ length (now marks) ≡ 256 ⌝ ∗ ⌜ marksIn (now marks) ≡ clean ⌝ ∗ ⌜ pivot .0 ≤ 1024 ⌝ }
     requires { ⌜ 1 ≤ left .0 ⌝ ∗ ⌜ left .0 ≤ length (now offsets) ⌝ ∗ ⌜ 1 ≤ right .0 ⌝ ∗ ⌜ right .0 ≤ length (now offsets) ⌝ }
     requires { ⌜ AllInRange (storedAt inputs (now clauses) (now steps) (now offsets) (left .0 - 1)) ⌝ ∗ ⌜ AllInRange (storedAt inputs (now clauses) (now steps) (now offsets) (right .0 - 1)) ⌝ }
-    ensures { λ r. ⌜ JudgedClean (pivotReason (pos (pivot .0)) (storedAt inputs (now (clauses .entry)) (now (steps .entry)) (now (offsets .entry)) (left .0 - 1)) (storedAt inputs (now (clauses .entry)) (now (steps .entry)) (now (offsets .entry)) (right .0 - 1)) (clauseAt (now (steps .entry)) statement)) r (now (marks .exit)) ⌝ }
+    ensures { λ r. ⌜ JudgedClean (pivotReason (pos (pivot .0)) (storedAt inputs (now (clauses .entry)) (now (steps .entry)) (now (offsets .entry)) (left .0 - 1)) (storedAt inputs (now (clauses .entry)) (now (steps .entry)) (now (offsets .entry)) (right .0 - 1)) (clauseAt (now (steps .entry)) statement)) r (marksIn (now (marks .exit))) ⌝ }
 {
     let one = table_of(clauses, steps, inputs, left);
     let other = table_of(clauses, steps, inputs, right);
@@ -95,9 +94,9 @@ fn resolve_fields<'a>(
     requires { ⌜ Clean (now scratch) ⌝ }
     requires { ⌜ 1 ≤ left .0 ⌝ ∗ ⌜ left .0 ≤ length (now offsets) ⌝ ∗ ⌜ 1 ≤ right .0 ⌝ ∗ ⌜ right .0 ≤ length (now offsets) ⌝ }
     requires { ⌜ AllInRange (storedAt inputs (now clauses) (now steps) (now offsets) (left .0 - 1)) ⌝ ∗ ⌜ AllInRange (storedAt inputs (now clauses) (now steps) (now offsets) (right .0 - 1)) ⌝ }
-    ensures { λ r. ⌜ Answers (resolvingReason (existentialOf (kindsIn (now (scratch .entry))) (wordOf (step .pivot))) (storedAt inputs (now (clauses .entry)) (now (steps .entry)) (now (offsets .entry)) (left .0 - 1)) (storedAt inputs (now (clauses .entry)) (now (steps .entry)) (now (offsets .entry)) (right .0 - 1)) (clauseAt (now (steps .entry)) (step .statement))) r (now (scratch .entry)) (now (scratch .exit)) ⌝ }
+    ensures { λ r. ⌜ Answers (resolvingReason (existentialOf (existentialsIn (now (scratch .entry))) (wordOf (step .pivot))) (storedAt inputs (now (clauses .entry)) (now (steps .entry)) (now (offsets .entry)) (left .0 - 1)) (storedAt inputs (now (clauses .entry)) (now (steps .entry)) (now (offsets .entry)) (right .0 - 1)) (clauseAt (now (steps .entry)) (step .statement))) r (now (scratch .entry)) (now (scratch .exit)) ⌝ }
 {
-    match variable_of(step.pivot, EXISTENTIAL, &scratch[KINDS..SCRATCH]) {
+    match existential_of(step.pivot, &scratch[LATER..EXISTENTIALS_END]) {
         VariableFit::Outside => Judgement::Wrong(Reason::WrongPivot),
         VariableFit::Within(pivot) => resolve_numbered(
             clauses,
@@ -108,7 +107,7 @@ fn resolve_fields<'a>(
             right,
             pivot,
             step.statement,
-            &mut scratch[OWN..KINDS],
+            &mut scratch[..ROW],
         ),
     }
 }
@@ -124,7 +123,7 @@ pub fn check_resolution<'a>(
     scratch: &mut [u8],
 ) -> Judgement
     requires { ⌜ Clean (now scratch) ⌝ ∗ ⌜ numbered ≤ length (now offsets) ⌝ ∗ ⌜ AllWords InRange (stored inputs (now clauses) (now steps) (now offsets) numbered) ⌝ }
-    ensures { λ r. ⌜ Answers (resolutionReason (kindsIn (now (scratch .entry))) (step .pivot) (clauseAt (now (steps .entry)) (step .statement)) (antecedent (stored inputs (now (clauses .entry)) (now (steps .entry)) (now (offsets .entry)) numbered) (step .first)) (antecedent (stored inputs (now (clauses .entry)) (now (steps .entry)) (now (offsets .entry)) numbered) (step .second))) r (now (scratch .entry)) (now (scratch .exit)) ⌝ }
+    ensures { λ r. ⌜ Answers (resolutionReason (existentialsIn (now (scratch .entry))) (step .pivot) (clauseAt (now (steps .entry)) (step .statement)) (antecedent (stored inputs (now (clauses .entry)) (now (steps .entry)) (now (offsets .entry)) numbered) (step .first)) (antecedent (stored inputs (now (clauses .entry)) (now (steps .entry)) (now (offsets .entry)) numbered) (step .second))) r (now (scratch .entry)) (now (scratch .exit)) ⌝ }
 {
     match antecedent_of(step.first, numbered) {
         NumberFit::Outside => Judgement::Wrong(Reason::NotEarlier),

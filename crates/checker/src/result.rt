@@ -1,8 +1,7 @@
 // The result of a step and its statement: marks of the result, ticks of what is stated, and the judgement. A step costs time
 // linear in its clauses and its statement.
-use crate::marks::mark;
+use crate::marks::put_clause;
 use crate::marks::tick;
-use crate::marks::wipe;
 use formula::literal::Literal;
 use formula::literal::Variable;
 use formula::refusal::Reason;
@@ -12,7 +11,7 @@ ghost use lib.ListN.{length};
 ghost use lib.IntN.{pos};
 ghost use Rattle.checker.specs.Steps.{resolvent};
 ghost use Rattle.formula.specs.Decode.{clauseAt};
-ghost use Rattle.checker.specs.Marks.{Marked, Wiped, clean};
+ghost use Rattle.checker.specs.Marks.{marksIn, clean, Put};
 ghost use Rattle.checker.specs.Words.{AllInRange};
 ghost use Rattle.checker.specs.Result.{decided, JudgedClean, resultReason, statementReason};
 
@@ -39,45 +38,25 @@ fn decide(opposed: bool, ticked: bool, unstated: bool) -> Judgement
     }
 }
 
-// Marks both clauses but for the pivot's literals; tells whether a literal met its opposite.
-fn mark_both(
+// Marks both clauses but for the pivot's literals, or wipes their marks; tells what putting each tells.
+fn put_both(
     left: &[i32],
     from: usize,
     right: &[i32],
     start: usize,
     pivot: Variable,
+    on: bool,
     marks: &mut [u8],
 ) -> bool
-    requires { ⌜ length (now marks) ≡ 2050 ⌝ ∗ ⌜ pivot .0 ≤ 1024 ⌝ }
-    ensures { λ r. ⌜ Marked (now (marks .entry)) (resolvent (pos (pivot .0)) (clauseAt (now (left .entry)) from) (clauseAt (now (right .entry)) start)) r (now (marks .exit)) ⌝ }
+    requires { ⌜ length (now marks) ≡ 256 ⌝ ∗ ⌜ pivot .0 ≤ 1024 ⌝ ∗ ⌜ AllInRange (clauseAt (now left) from) ⌝ ∗ ⌜ AllInRange (clauseAt (now right) start) ⌝ }
+    ensures { λ r. ⌜ Put on (marksIn (now (marks .entry))) (resolvent (pos (pivot .0)) (clauseAt (now (left .entry)) from) (clauseAt (now (right .entry)) start)) r (marksIn (now (marks .exit))) ⌝ }
 {
     let literal = pivot.literal();
     let e = literal.0;
     let opposite = literal.negated();
     let f = opposite.0;
-    let first = mark(left, from, e, marks);
-    let second = mark(right, start, f, marks);
-    first | second
-}
-
-// Wipes both clauses but for the pivot's literals; tells whether a literal was unticked.
-fn wipe_both(
-    left: &[i32],
-    from: usize,
-    right: &[i32],
-    start: usize,
-    pivot: Variable,
-    marks: &mut [u8],
-) -> bool
-    requires { ⌜ length (now marks) ≡ 2050 ⌝ ∗ ⌜ pivot .0 ≤ 1024 ⌝ }
-    ensures { λ r. ⌜ Wiped (now (marks .entry)) (resolvent (pos (pivot .0)) (clauseAt (now (left .entry)) from) (clauseAt (now (right .entry)) start)) r (now (marks .exit)) ⌝ }
-{
-    let literal = pivot.literal();
-    let e = literal.0;
-    let opposite = literal.negated();
-    let f = opposite.0;
-    let first = wipe(left, from, e, marks);
-    let second = wipe(right, start, f, marks);
+    let first = put_clause(left, from, e, on, marks);
+    let second = put_clause(right, start, f, on, marks);
     first | second
 }
 
@@ -92,12 +71,12 @@ pub fn judge_resolvent(
     statement: usize,
     marks: &mut [u8],
 ) -> Judgement
-    requires { ⌜ now marks ≡ clean ⌝ ∗ ⌜ pivot .0 ≤ 1024 ⌝ ∗ ⌜ AllInRange (clauseAt (now left) from) ⌝ ∗ ⌜ AllInRange (clauseAt (now right) start) ⌝ }
-    ensures { λ r. ⌜ JudgedClean (resultReason (resolvent (pos (pivot .0)) (clauseAt (now (left .entry)) from) (clauseAt (now (right .entry)) start)) (clauseAt (now (steps .entry)) statement)) r (now (marks .exit)) ⌝ }
+    requires { ⌜ length (now marks) ≡ 256 ⌝ ∗ ⌜ marksIn (now marks) ≡ clean ⌝ ∗ ⌜ pivot .0 ≤ 1024 ⌝ ∗ ⌜ AllInRange (clauseAt (now left) from) ⌝ ∗ ⌜ AllInRange (clauseAt (now right) start) ⌝ }
+    ensures { λ r. ⌜ JudgedClean (resultReason (resolvent (pos (pivot .0)) (clauseAt (now (left .entry)) from) (clauseAt (now (right .entry)) start)) (clauseAt (now (steps .entry)) statement)) r (marksIn (now (marks .exit))) ⌝ }
 {
-    let opposed = mark_both(left, from, right, start, pivot, marks);
+    let opposed = put_both(left, from, right, start, pivot, true, marks);
     let ticked = tick(steps, statement, marks);
-    let unstated = wipe_both(left, from, right, start, pivot, marks);
+    let unstated = put_both(left, from, right, start, pivot, false, marks);
     decide(opposed, ticked, unstated)
 }
 
@@ -110,12 +89,12 @@ pub fn judge_reduct(
     statement: usize,
     marks: &mut [u8],
 ) -> Judgement
-    requires { ⌜ now marks ≡ clean ⌝ ∗ ⌜ AllInRange (clauseAt (now words) from) ⌝ }
-    ensures { λ r. ⌜ JudgedClean (statementReason (literal .0) (clauseAt (now (words .entry)) from) (clauseAt (now (steps .entry)) statement)) r (now (marks .exit)) ⌝ }
+    requires { ⌜ length (now marks) ≡ 256 ⌝ ∗ ⌜ marksIn (now marks) ≡ clean ⌝ ∗ ⌜ AllInRange (clauseAt (now words) from) ⌝ }
+    ensures { λ r. ⌜ JudgedClean (statementReason (literal .0) (clauseAt (now (words .entry)) from) (clauseAt (now (steps .entry)) statement)) r (marksIn (now (marks .exit))) ⌝ }
 {
     let a = literal.0;
-    mark(words, from, a, marks);
+    put_clause(words, from, a, true, marks);
     let ticked = tick(steps, statement, marks);
-    let unstated = wipe(words, from, a, marks);
+    let unstated = put_clause(words, from, a, false, marks);
     decide(false, ticked, unstated)
 }

@@ -22,8 +22,8 @@ pub enum Run {
     Refused(Refusal),
 }
 
-// Every step in turn. The offsets are left filled: the input clauses' as they came, and that of each right step. Marks and kinds
-// are left as they came. Costs no more than the words and the antecedents of the steps, and a row a reduction.
+// Every step in turn. The offsets are left filled: the input clauses' as they came, and that of each right step. The scratch
+// is left ready for another run. Costs no more than the words and the antecedents of the steps, and a row a reduction.
 pub fn run_steps<'a>(
     prefix: &[i32],
     clauses: &'a [i32],

@@ -17,7 +17,7 @@ ghost use Rattle.checker.specs.Words.{AllWords, InRange};
 ghost use Rattle.checker.specs.Verdict.{scopeOf};
 ghost use Rattle.checker.specs.Numbered.{stored};
 ghost use Rattle.checker.specs.Read.{stepOf};
-ghost use Rattle.checker.specs.Step.{Ready, Answers, StepChecked};
+ghost use Rattle.checker.specs.Step.{Ready, JudgedReady, StepChecked};
 
 // A step that was read, by its kind.
 fn judge_step<'a>(
@@ -32,7 +32,7 @@ fn judge_step<'a>(
 ) -> Judgement
     requires { ⌜ Ready (now prefix) (now scratch) ⌝ ∗ ⌜ Admitted (now prefix) (now clauses) ⌝ }
     requires { ⌜ numbered ≤ length (now offsets) ⌝ ∗ ⌜ AllWords InRange (stored inputs (now clauses) (now steps) (now offsets) numbered) ⌝ }
-    ensures { λ r. ⌜ Answers (judge (scopeOf (now (prefix .entry)) (now (clauses .entry))) (stored inputs (now (clauses .entry)) (now (steps .entry)) (now (offsets .entry)) numbered) (stepOf step (clauseAt (now (steps .entry)) (step .statement)))) r (now (scratch .entry)) (now (scratch .exit)) ⌝ }
+    ensures { λ r. ⌜ JudgedReady (now (prefix .entry)) (judge (scopeOf (now (prefix .entry)) (now (clauses .entry))) (stored inputs (now (clauses .entry)) (now (steps .entry)) (now (offsets .entry)) numbered) (stepOf step (clauseAt (now (steps .entry)) (step .statement)))) r (now (scratch .exit)) ⌝ }
 {
     let kind = step.kind;
     match kind {
@@ -73,7 +73,7 @@ pub fn check_step<'a>(
 ) -> StepAnswer
     requires { ⌜ Ready (now prefix) (now scratch) ⌝ ∗ ⌜ Admitted (now prefix) (now clauses) ⌝ ∗ ⌜ at < length (now steps) ⌝ }
     requires { ⌜ numbered ≤ length (now offsets) ⌝ ∗ ⌜ AllWords InRange (stored inputs (now clauses) (now steps) (now offsets) numbered) ⌝ }
-    ensures { λ r. ⌜ StepChecked at (judgeFirst plainRules (scopeOf (now (prefix .entry)) (now (clauses .entry))) (length (now (offsets .entry))) (stored inputs (now (clauses .entry)) (now (steps .entry)) (now (offsets .entry)) numbered) (drop at (now (steps .entry)))) r (now (scratch .entry)) (now (scratch .exit)) ⌝ }
+    ensures { λ r. ⌜ StepChecked (now (prefix .entry)) at (judgeFirst plainRules (scopeOf (now (prefix .entry)) (now (clauses .entry))) (length (now (offsets .entry))) (stored inputs (now (clauses .entry)) (now (steps .entry)) (now (offsets .entry)) numbered) (drop at (now (steps .entry)))) r (now (scratch .exit)) ⌝ }
 {
     match read_step(steps, at) {
         Reading::Broken => StepAnswer::Wrong(Reason::BrokenStep),

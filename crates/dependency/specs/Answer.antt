@@ -1,6 +1,7 @@
--- What the entry for a dependency row answers (01, "Order"): the order of its refusals, and both buffers at the end. Laws are
+-- What the entries for a dependency row answer (01, "Order"; 02, P8): the order of their refusals, and both buffers at the end, with the bytes of scratch asked for as a rule. Laws are
 -- in Answer/Laws.antt.
 pub mod Laws
+pub mod Sizes
 use Prim.Native.Nat.{ℕ, zero, suc, _-_}
 use mathlib.Core.Path.{_≡_}
 use mathlib.Core.Option.{Option, none, some}
@@ -22,7 +23,6 @@ use Rattle.formula.specs.declared.refusal.Reason.the-variants.{NoRoom, NotUnive
 use Rattle.dependency.specs.declared.answer.RowAnswer.{RowAnswer}
 use Rattle.dependency.specs.declared.answer.RowAnswer.the-variants.{Filled, Refused}
 use Rattle.dependency.specs.Row.{mark, rowOf}
-use Rattle.dependency.specs.Scratch.{scratchBound}
 
 -- A universal is asked for by its number; anything else asks for none.
 abbrev pub universalAsked : Prefix → ℤ → Bool
@@ -48,12 +48,12 @@ abbrev pub rowBuffer : Option Refusal → Formula → ℕ → ℕ → List ℕ
 rowBuffer none F u n = rowOf F u ++ replicate (n - 1025) 0
 rowBuffer (some r) F u n = replicate n 0
 
--- What the entry does: its answer and both buffers, from the tables, the number asked for and the buffers' lengths.
-pub record RowDone (prefix clauses : List ℤ) (variable : ℤ) (row scratch : List ℕ) (answer : RowAnswer) (row′ scratch′ : List ℕ) : Type 0 where
-  pub answered : answer ≡ answerRow (rowRefusal scratchBound prefix clauses variable (length row) (length scratch))
+-- What an entry does that asks for so many bytes of scratch: its answer and both buffers, from the tables, the number asked for and the buffers' lengths.
+pub record RowDone (bytes : ℕ) (prefix clauses : List ℤ) (variable : ℤ) (row scratch : List ℕ) (answer : RowAnswer) (row′ scratch′ : List ℕ) : Type 0 where
+  pub answered : answer ≡ answerRow (rowRefusal bytes prefix clauses variable (length row) (length scratch))
   pub filled :
       row′
-      ≡ rowBuffer (rowRefusal scratchBound prefix clauses variable (length row) (length scratch)) (formulaOf prefix clauses) (natAbs variable) (length row)
+      ≡ rowBuffer (rowRefusal bytes prefix clauses variable (length row) (length scratch)) (formulaOf prefix clauses) (natAbs variable) (length row)
   pub cleared : scratch′ ≡ replicate (length scratch) 0
 
 -- The bytes for the variable numbers below n, as a row answers.

@@ -5,3 +5,4 @@ pub mod Scratch
 pub mod Answer
 pub mod Marks
 pub mod Search
+pub mod Bits

@@ -1,4 +1,4 @@
--- The marks of one search for paths: a byte a literal. 0: paths do not pass its variable; 1: they may, and have not
+-- The marks of one search for paths: a number a literal. 0: paths do not pass its variable; 1: they may, and have not
 -- reached its opposite; 2: they reached its opposite and go on from it; 3: the literal that the search starts from.
 -- A literal marked 2 or 3 is an entry: in a clause that holds it, the literals of other variables are reached. Laws are in
 -- Marks/Laws.antt.
@@ -8,11 +8,11 @@ use Prim.Native.Nat.{ℕ, _-_, _<_}
 use mathlib.Core.Path.{_≡_}
 use mathlib.Core.Bool.{Bool, true, false}
 use mathlib.Core.List.{List, [], _∷_}
-use lib.ListN.{length, getD, set, drop}
+use lib.ListN.{getD, set, drop}
 use lib.Dec.{ltb, eqb}
 use lib.IntN.{ℤ}
 use Rattle.formula.specs.Word.{wordOf, slot}
-use Rattle.formula.specs.Decode.{clauseAt, wordsAfter}
+use Rattle.formula.specs.Decode.{wordsAfter}
 use Rattle.formula.specs.declared.word.Word.{Word}
 use Rattle.formula.specs.declared.word.Word.the-variants.{Zero, TooLarge, Positive, Negative}
 
@@ -52,12 +52,6 @@ clauseEntry m seen (w ∷ C) = clauseEntry m (seeWord m (wordOf w) seen) C
 unfoldable pub reachClause : ℕ → List ℤ → List ℕ → List ℕ
 reachClause entry [] m = m
 reachClause entry (w ∷ C) m = reachClause entry C (reachWord entry (wordOf w) m)
-
--- The marks after the clause of the words at `from` is done, and where the next one begins.
-pub record ClauseReached (ws : List ℤ) (from entry : ℕ) (m m′ : List ℕ) (next : ℕ) : Type 0 where
-  pub marks : m′ ≡ reachClause entry (clauseAt ws from) m
-  pub later : drop next ws ≡ wordsAfter ws from
-  pub further : from < length ws → from < next
 
 -- A clause ends before the place `end`, which is behind its 0 or the table's end; and where that clause begins.
 abbrev pub Boundary : List ℤ → (end : ℕ) → Type 0

@@ -4,18 +4,16 @@ pub mod Laws
 pub mod Count
 pub mod Order
 pub mod Progress
-pub mod Frame
 pub mod Entries
 pub mod Invariant
 pub mod Closed
 pub mod Initial
-pub mod Rows
-use Prim.Native.Nat.{ℕ, zero, suc, _+_, _*_}
+use Prim.Native.Nat.{ℕ, zero, suc, _+_}
 use mathlib.Core.Path.{_≡_}
-use mathlib.Core.Bool.{Bool, true, false, not, _&&_, _||_}
-use mathlib.Core.List.{List, [], _∷_, _++_, reverse, List·Memᴰ}
+use mathlib.Core.Bool.{Bool, true, false, not}
+use mathlib.Core.List.{List, [], _∷_, reverse, List·Memᴰ}
 use lib.ListN.{length, getD, set}
-use lib.Dec.{eqb}
+use lib.Dec.{eqb, ltb}
 use lib.IntN.{ℤ}
 use Rattle.qbf.specs.Literal.{literal}
 use Rattle.qbf.specs.Formula.{Quantifier, existential, universal, Prefix, Formula}
@@ -23,7 +21,6 @@ use Rattle.qbf.specs.Path.{Path}
 use Rattle.qbf.specs.Dependency.{passable}
 use Rattle.formula.specs.Word.{slot}
 use Rattle.dependency.specs.Marks.{select, pass}
-use Rattle.dependency.specs.Row.{mark}
 
 -- The literals of the existentials among the entries may be passed.
 unfoldable pub openEntry : Quantifier → ℕ → List ℕ → List ℕ
@@ -38,6 +35,11 @@ openEntries (x ∷ P) m = openEntries P (openEntry (x .quantifier) (x .variable)
 unfoldable pub ones : List ℕ → ℕ
 ones [] = 0
 ones (x ∷ m) = select (eqb x 1) 1 0 + ones m
+
+-- How many are entries.
+unfoldable pub entries : List ℕ → ℕ
+entries [] = 0
+entries (x ∷ m) = select (ltb x 2) 0 1 + entries m
 
 -- The clauses as a pass takes them: from the first to the last, or back.
 abbrev pub ordered : (back : Bool) → List (List ℤ) → List (List ℤ)
@@ -67,19 +69,3 @@ pub record Searched (F : Formula) (u : ℕ) (sign : Bool) (m : List ℕ) : Type 
   pub reached : (e : ℕ) (s : Bool) → List·Memᴰ e (passable F u) → Path (F .matrix) (passable F u) (literal u sign) (literal e s) → getD m (slot e (not s)) 0 ≡ 2
   -- and there is no other 2
   pub only : (e : ℕ) (s : Bool) → getD m (slot e (not s)) 0 ≡ 2 → List·Memᴰ e (passable F u) × Path (F .matrix) (passable F u) (literal u sign) (literal e s)
-
--- The row's byte of e: u is joined to e and −u to −e, or u to −e and −u to e. A 2 says that a search reached the literal.
-unfoldable pub bothReached : ℕ → ℕ → ℕ
-bothReached one other = mark (eqb one 2 && eqb other 2)
-
-unfoldable pub dependsByte : ℕ → ℕ → ℕ → ℕ → ℕ
-dependsByte first second third fourth = mark ((eqb first 2 && eqb second 2) || (eqb third 2 && eqb fourth 2))
-
--- A literal's reaching is told by its opposite's byte; the search from u has the first 2,050 bytes, the one from −u the next.
-abbrev pub rowByte : List ℕ → ℕ → ℕ
-rowByte work e = dependsByte (getD work (2 * e + 1) 0) (getD work (2050 + 2 * e) 0) (getD work (2 * e) 0) (getD work (2051 + 2 * e) 0)
-
--- The bytes for the variable numbers below n, from the two searches that stand first in `work`.
-unfoldable pub rowFrom : List ℕ → ℕ → List ℕ
-rowFrom work zero = []
-rowFrom work (suc n) = rowFrom work n ++ (rowByte work n ∷ [])

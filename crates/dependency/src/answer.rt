@@ -1,4 +1,4 @@
-// The entry that gives a dependency row: the order of its refusals, then the row, then clear buffers.
+// The entries that give a dependency row, one for each size of scratch: the order of their refusals, then the row, then clear buffers.
 ghost use mathlib.Core.Path.{_≡_};
 ghost use mathlib.Core.Bool.{true, _&&_};
 ghost use mathlib.Core.List.{_++_};
@@ -10,11 +10,12 @@ ghost use Rattle.formula.specs.Word.{wordOf};
 ghost use Rattle.formula.specs.Prefix.{prefixOf, entryAt, entryCount, isQuantifier, quantifies, Entries};
 ghost use Rattle.formula.specs.Tables.{Admitted};
 ghost use Rattle.formula.specs.Decode.{formulaOf};
-ghost use Rattle.dependency.specs.Scratch.{scratchBound, rowIn};
+ghost use Rattle.dependency.specs.Scratch.{scratchBound, smallBound, rowIn};
 ghost use Rattle.dependency.specs.Answer.{askedByte, askedBytes, askedRefusal, roomRefusal, rowRefusal, answerRow, Asked, RowFilled, RowDone};
-use crate::row::SCRATCH;
 use crate::row::depends_in;
 use crate::row::make_row;
+use crate::scratch::SCRATCH;
+use crate::scratch::SMALL;
 use formula::clear::clear_bytes;
 use formula::literal::Variable;
 use formula::prefix::Entry;
@@ -23,7 +24,7 @@ use formula::prefix::entry_count;
 use formula::refusal::Reason;
 use formula::refusal::Refusal;
 use formula::tables::TablesAnswer;
-use formula::tables::check_tables;
+use formula::tables::check_tables_in;
 use formula::word::Word;
 
 // The row was filled, or the refusal.
@@ -44,8 +45,8 @@ fn is_universal_at(prefix: &[i32], place: usize, variable: Variable) -> bool
     }
 }
 
-// The variable is universal in the prefix.
-fn is_universal(prefix: &[i32], variable: Variable) -> bool
+// The variable is universal in the prefix. One pass over the entries.
+pub fn is_universal(prefix: &[i32], variable: Variable) -> bool
     requires { ⌜ Entries (now prefix) ⌝ }
     ensures { λ r. ⌜ r ≡ quantifies universal (prefixOf (now (prefix .entry))) (variable .0) ⌝ }
 {
@@ -60,23 +61,29 @@ fn is_universal(prefix: &[i32], variable: Variable) -> bool
     false
 }
 
-// The refusal for the buffers' lengths, which comes last.
-fn room_answer(row: usize, scratch: usize) -> RowAnswer
-    ensures { λ r. ⌜ r ≡ answerRow (roomRefusal scratchBound row scratch) ⌝ }
+// The refusal for the buffers' lengths, which comes last; so many bytes of scratch are asked for.
+fn room_answer(row: usize, scratch: usize, bytes: usize) -> RowAnswer
+    ensures { λ r. ⌜ r ≡ answerRow (roomRefusal bytes row scratch) ⌝ }
 {
     if row < 1_025 {
         return RowAnswer::Refused(Refusal::new(Reason::NoRoom, 0));
     }
-    if scratch < SCRATCH {
+    if scratch < bytes {
         return RowAnswer::Refused(Refusal::new(Reason::NoRoom, 0));
     }
     RowAnswer::Filled
 }
 
 // The refusals that come after those of the tables.
-fn asked_answer(prefix: &[i32], variable: i32, row: usize, scratch: usize) -> RowAnswer
+fn asked_answer(
+    prefix: &[i32],
+    variable: i32,
+    row: usize,
+    scratch: usize,
+    bytes: usize,
+) -> RowAnswer
     requires { ⌜ Entries (now prefix) ⌝ }
-    ensures { λ r. ⌜ r ≡ answerRow (askedRefusal scratchBound (prefixOf (now (prefix .entry))) variable row scratch) ⌝ }
+    ensures { λ r. ⌜ r ≡ answerRow (askedRefusal bytes (prefixOf (now (prefix .entry))) variable row scratch) ⌝ }
 {
     let other = Refusal::new(Reason::NotUniversal, 0);
     match Word::of(variable) {
@@ -84,7 +91,7 @@ fn asked_answer(prefix: &[i32], variable: i32, row: usize, scratch: usize) -> Ro
         Word::TooLarge => RowAnswer::Refused(other),
         Word::Positive(v) => {
             if is_universal(prefix, v) {
-                return room_answer(row, scratch);
+                return room_answer(row, scratch, bytes);
             }
             RowAnswer::Refused(other)
         }
@@ -92,22 +99,23 @@ fn asked_answer(prefix: &[i32], variable: i32, row: usize, scratch: usize) -> Ro
     }
 }
 
-// All refusals in order.
+// All refusals in order. The check of tables marks in scratch.
 fn row_answer(
     prefix: &[i32],
     clauses: &[i32],
     variable: i32,
     row: usize,
-    scratch: usize,
+    scratch: &mut [u8],
+    bytes: usize,
 ) -> RowAnswer
-    ensures { λ r. ⌜ r ≡ answerRow (rowRefusal scratchBound (now (prefix .entry)) (now (clauses .entry)) variable row scratch) ⌝ }
+    ensures { λ r. ⌜ r ≡ answerRow (rowRefusal bytes (now (prefix .entry)) (now (clauses .entry)) variable row (length (now (scratch .entry)))) ⌝ }
 {
-    let tables = check_tables(prefix, clauses);
+    let tables = check_tables_in(prefix, clauses, scratch);
     match tables {
         TablesAnswer::Admitted {
             variables: _,
             clauses: _,
-        } => asked_answer(prefix, variable, row, scratch),
+        } => asked_answer(prefix, variable, row, scratch.len(), bytes),
         TablesAnswer::Refused(r) => RowAnswer::Refused(r),
     }
 }
@@ -126,7 +134,7 @@ fn asked_variable(word: i32) -> Variable
 
 // The byte of a variable number, by the row that stands in scratch: 1 for a dependent, 0 elsewhere.
 fn asked_byte(scratch: &[u8], variable: usize) -> u8
-    requires { ⌜ scratchBound ≤ length (now scratch) ⌝ }
+    requires { ⌜ smallBound ≤ length (now scratch) ⌝ }
     requires { ⌜ variable ≤ 1024 ⌝ }
     ensures { λ r. ⌜ r ≡ askedByte (rowIn (now (scratch .entry))) variable ⌝ }
 {
@@ -138,7 +146,7 @@ fn asked_byte(scratch: &[u8], variable: usize) -> u8
 
 // Writes the row that stands in scratch to the front of the row's buffer.
 fn copy_row(scratch: &[u8], row: &mut [u8])
-    requires { ⌜ scratchBound ≤ length (now scratch) ⌝ }
+    requires { ⌜ smallBound ≤ length (now scratch) ⌝ }
     requires { ⌜ 1025 ≤ length (now row) ⌝ }
     ensures { λ r. ⌜ now (row .exit) ≡ askedBytes (rowIn (now (scratch .entry))) 1025 ++ drop 1025 (now (row .entry)) ⌝ }
 {
@@ -160,26 +168,28 @@ fn write_row(
     requires { ⌜ Admitted (now prefix) (now clauses) ⌝ }
     requires { ⌜ quantifies universal (prefixOf (now prefix)) (variable .0) ≡ true ⌝ }
     requires { ⌜ 1025 ≤ length (now row) ⌝ }
-    requires { ⌜ scratchBound ≤ length (now scratch) ⌝ }
+    requires { ⌜ smallBound ≤ length (now scratch) ⌝ }
     ensures { λ r. ⌜ RowFilled (formulaOf (now (prefix .entry)) (now (clauses .entry))) (variable .0) (now (row .entry)) (now (scratch .entry)) (now (row .exit)) (now (scratch .exit)) ⌝ }
 {
-    make_row(prefix, clauses, variable, scratch);
+    make_row(prefix, clauses, variable, &mut scratch[..SMALL]);
     copy_row(scratch, row);
     clear_bytes(row, 1_025);
     clear_bytes(scratch, 0);
 }
 
-// The dependency row of a universal of the prefix, whose number is `variable`.
-pub fn dependency_row(
+// The dependency row, with so many bytes of scratch asked for: as many as a row is made in, or more.
+fn row_with(
     prefix: &[i32],
     clauses: &[i32],
     variable: i32,
     row: &mut [u8],
     scratch: &mut [u8],
+    bytes: usize,
 ) -> RowAnswer
-    ensures { λ r. ⌜ RowDone (now (prefix .entry)) (now (clauses .entry)) variable (now (row .entry)) (now (scratch .entry)) r (now (row .exit)) (now (scratch .exit)) ⌝ }
+    requires { ⌜ smallBound ≤ bytes ⌝ }
+    ensures { λ r. ⌜ RowDone bytes (now (prefix .entry)) (now (clauses .entry)) variable (now (row .entry)) (now (scratch .entry)) r (now (row .exit)) (now (scratch .exit)) ⌝ }
 {
-    let answer = row_answer(prefix, clauses, variable, row.len(), scratch.len());
+    let answer = row_answer(prefix, clauses, variable, row.len(), scratch, bytes);
     match answer {
         RowAnswer::Filled => {
             write_row(prefix, clauses, asked_variable(variable), row, scratch);
@@ -191,4 +201,30 @@ pub fn dependency_row(
             RowAnswer::Refused(r)
         }
     }
+}
+
+// The dependency row of a universal of the prefix, whose number is `variable`.
+pub fn dependency_row(
+    prefix: &[i32],
+    clauses: &[i32],
+    variable: i32,
+    row: &mut [u8],
+    scratch: &mut [u8],
+) -> RowAnswer
+    ensures { λ r. ⌜ RowDone scratchBound (now (prefix .entry)) (now (clauses .entry)) variable (now (row .entry)) (now (scratch .entry)) r (now (row .exit)) (now (scratch .exit)) ⌝ }
+{
+    row_with(prefix, clauses, variable, row, scratch, SCRATCH)
+}
+
+// The same from 640 bytes of scratch.
+pub fn dependency_row_small(
+    prefix: &[i32],
+    clauses: &[i32],
+    variable: i32,
+    row: &mut [u8],
+    scratch: &mut [u8],
+) -> RowAnswer
+    ensures { λ r. ⌜ RowDone smallBound (now (prefix .entry)) (now (clauses .entry)) variable (now (row .entry)) (now (scratch .entry)) r (now (row .exit)) (now (scratch .exit)) ⌝ }
+{
+    row_with(prefix, clauses, variable, row, scratch, SMALL)
 }

@@ -3,4 +3,5 @@ pub mod answer;
 mod marks;
 mod pass;
 pub mod row;
+pub mod scratch;
 mod search;

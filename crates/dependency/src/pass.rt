@@ -1,40 +1,70 @@
-// A pass over the clauses, from the first to the last or back: each clause's entries first, then the literals that they reach.
+// A pass of both searches over the clauses, from the first to the last or back: each clause's entries first, then the literals that they reach.
 ghost use mathlib.Core.Path.{_≡_};
+ghost use mathlib.Core.Bool.{Bool};
 ghost use mathlib.Core.List.{reverse};
 ghost use Prim.Native.Nat.{_<_, _≤_};
 ghost use lib.ListN.{length};
-ghost use Rattle.formula.specs.Decode.{clausesOf, clauseAt};
-ghost use Rattle.dependency.specs.Marks.{clauseEntry, ClauseReached, Boundary, ClauseBefore, pass};
+ghost use Rattle.formula.specs.Decode.{clausesOf};
+ghost use Rattle.dependency.specs.Marks.{Boundary, ClauseBefore, pass};
 ghost use Rattle.dependency.specs.Search.{ordered};
+ghost use Rattle.dependency.specs.Bits.{marksIn, EntriesSeen, ClauseReached, ClausePassed};
 use crate::marks::reach_word;
 use crate::marks::see_word;
 use formula::word::Word;
 
-// What is known of the entries of the clause that begins at `from`; entries of two variables settle it.
-fn clause_entry(clauses: &[i32], from: usize, marks: &[u8]) -> usize
-    requires { ⌜ length (now marks) ≡ 2050 ⌝ }
-    ensures { λ r. ⌜ r ≡ clauseEntry (now (marks .entry)) 0 (clauseAt (now (clauses .entry)) from) ⌝ }
+// What is known of a clause's entries, for each search, and where the next clause begins if there are none.
+pub struct ClauseEntries {
+    pub positive: usize,
+    pub negative: usize,
+    pub next: usize,
+}
+
+// The entries of the clause that begins at `from`; entries of two variables settle it for a search.
+fn clause_entry(clauses: &[i32], from: usize, marks: &[u8]) -> ClauseEntries
+    requires { ⌜ length (now marks) ≡ 640 ⌝ }
+    ensures { λ r. ⌜ EntriesSeen (now (clauses .entry)) from (now (marks .entry)) r ⌝ }
 {
-    let mut seen = 0;
+    let mut positive = 0;
+    let mut negative = 0;
     let mut i = from;
     while i < clauses.len() {
         let word = clauses[i];
-        if Word::is_zero(word) {
-            return seen;
-        }
-        seen = see_word(marks, word, seen);
-        if seen == 1_025 {
-            return seen;
-        }
         i += 1;
+        if Word::is_zero(word) {
+            return ClauseEntries {
+                positive,
+                negative,
+                next: i,
+            };
+        }
+        let seen = see_word(marks, word, positive, negative);
+        positive = seen.positive;
+        negative = seen.negative;
+        if (positive == 1_025) & (negative == 1_025) {
+            return ClauseEntries {
+                positive,
+                negative,
+                next: i,
+            };
+        }
     }
-    seen
+    ClauseEntries {
+        positive,
+        negative,
+        next: i,
+    }
 }
 
 // Marks what the clause's entries reach, and answers where the next clause begins.
-fn reach_clause(clauses: &[i32], from: usize, entry: usize, marks: &mut [u8]) -> usize
-    requires { ⌜ length (now marks) ≡ 2050 ⌝ }
-    ensures { λ r. ⌜ ClauseReached (now (clauses .entry)) from entry (now (marks .entry)) (now (marks .exit)) r ⌝ }
+fn reach_clause(
+    clauses: &[i32],
+    from: usize,
+    positive: usize,
+    negative: usize,
+    marks: &mut [u8],
+) -> usize
+    requires { ⌜ length (now marks) ≡ 640 ⌝ }
+    ensures { λ r. ⌜ ClauseReached (now (clauses .entry)) from positive negative (now (marks .entry)) (now (marks .exit)) r ⌝ }
 {
     let mut i = from;
     while i < clauses.len() {
@@ -43,20 +73,31 @@ fn reach_clause(clauses: &[i32], from: usize, entry: usize, marks: &mut [u8]) ->
         if Word::is_zero(word) {
             return i;
         }
-        reach_word(entry, word, marks);
+        reach_word(positive, negative, word, marks);
     }
     i
 }
 
+// One clause of a pass, and where the next one begins. A clause without entries is left at once.
+fn pass_clause(clauses: &[i32], from: usize, marks: &mut [u8]) -> usize
+    requires { ⌜ length (now marks) ≡ 640 ⌝ }
+    ensures { λ r. ⌜ ClausePassed (now (clauses .entry)) from (now (marks .entry)) (now (marks .exit)) r ⌝ }
+{
+    let entries = clause_entry(clauses, from, marks);
+    if (entries.positive == 0) & (entries.negative == 0) {
+        return entries.next;
+    }
+    reach_clause(clauses, from, entries.positive, entries.negative, marks)
+}
+
 // One pass from the first clause to the last.
 fn pass_forth(clauses: &[i32], marks: &mut [u8])
-    requires { ⌜ length (now marks) ≡ 2050 ⌝ }
-    ensures { λ r. ⌜ now (marks .exit) ≡ pass (clausesOf (now (clauses .entry))) (now (marks .entry)) ⌝ }
+    requires { ⌜ length (now marks) ≡ 640 ⌝ }
+    ensures { λ r. ⌜ ((s : Bool) → marksIn s (now (marks .exit)) ≡ pass (clausesOf (now (clauses .entry))) (marksIn s (now (marks .entry)))) ⌝ }
 {
     let mut at = 0;
     while at < clauses.len() {
-        let entry = clause_entry(clauses, at, marks);
-        at = reach_clause(clauses, at, entry, marks);
+        at = pass_clause(clauses, at, marks);
     }
 }
 
@@ -79,22 +120,21 @@ fn clause_start(clauses: &[i32], end: usize) -> usize
 
 // One pass from the last clause to the first.
 fn pass_back(clauses: &[i32], marks: &mut [u8])
-    requires { ⌜ length (now marks) ≡ 2050 ⌝ }
-    ensures { λ r. ⌜ now (marks .exit) ≡ pass (reverse (clausesOf (now (clauses .entry)))) (now (marks .entry)) ⌝ }
+    requires { ⌜ length (now marks) ≡ 640 ⌝ }
+    ensures { λ r. ⌜ ((s : Bool) → marksIn s (now (marks .exit)) ≡ pass (reverse (clausesOf (now (clauses .entry)))) (marksIn s (now (marks .entry)))) ⌝ }
 {
     let mut end = clauses.len();
     while 0 < end {
         let from = clause_start(clauses, end);
-        let entry = clause_entry(clauses, from, marks);
-        reach_clause(clauses, from, entry, marks);
+        pass_clause(clauses, from, marks);
         end = from;
     }
 }
 
 // One pass, in either direction.
 pub fn pass(clauses: &[i32], back: bool, marks: &mut [u8])
-    requires { ⌜ length (now marks) ≡ 2050 ⌝ }
-    ensures { λ r. ⌜ now (marks .exit) ≡ pass (ordered back (clausesOf (now (clauses .entry)))) (now (marks .entry)) ⌝ }
+    requires { ⌜ length (now marks) ≡ 640 ⌝ }
+    ensures { λ r. ⌜ ((s : Bool) → marksIn s (now (marks .exit)) ≡ pass (ordered back (clausesOf (now (clauses .entry)))) (marksIn s (now (marks .entry)))) ⌝ }
 {
     if back {
         pass_back(clauses, marks);

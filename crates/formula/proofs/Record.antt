@@ -1,20 +1,21 @@
--- Records of a prefix under the check, by their words, and the check so far: the refusal of the whole prefix is that of the records to come, the
--- marks being those of the variables before. Assumes nothing.
-use Prim.Native.Nat.{ℕ, suc, _+_, _≤_, _<_}
+-- Records of a prefix under the check, by their words: what a table lists with one more of them, before a place and from one on; and the check
+-- so far: the refusal of the whole prefix is that of the records to come, the marks being those of the variables before. Assumes nothing.
+use Prim.Native.Nat.{ℕ, suc, _+_, _/_, _%_, _≤_, _<_}
 use mathlib.Core.Path.{_≡_, refl, ap, sym, _∙_}
-use mathlib.Core.Bool.{Bool, true, false, _||_, or-false}
+use mathlib.Core.Bool.{false, _||_, or-comm}
 use mathlib.Core.Option.{none, some}
-use mathlib.Core.List.{List, [], _∷_}
+use mathlib.Core.List.{List, [], _∷_, _++_, append-nil}
 use native.Mathlib.Omega.{arith}
-use lib.ListN.{length, getD, drop, length-drop}
-use lib.Seq.{drop-cons}
+use lib.ListN.{length, getD, take, drop, length-drop, take-append-drop}
+use lib.Seq.{drop-cons, length-take-le, take-add}
 use lib.Dec.{eqb}
 use lib.IntN.{ℤ, pos}
-use Rattle.qbf.specs.Formula.{listed}
 use Rattle.formula.specs.Word.{ordinal}
-use Rattle.formula.specs.Prefix.{prefixOf, nextBlock}
+use Rattle.formula.specs.Prefix.{prefixOf, quantifierAs, nextBlock, entryWords}
+use Rattle.formula.specs.Prefix.Laws.{prefix-append}
 use Rattle.formula.specs.Tables.{isIn, variableWord, quantifierWord, blockWord, prefixRefusal, listedIn}
-use Rattle.formula.specs.Tables.Scan.{marked, Marks, EntryStep}
+use Rattle.formula.specs.Tables.Scan.{Listing, Lists, EntryStep}
+use Rattle.formula.specs.Text.Sets.Laws.{listed-snoc}
 use Rattle.formula.specs.declared.refusal.Refusal.{Refusal}
 use Rattle.formula.specs.declared.tables.EntryCheck.the-variants.{Passed as EntryPassed}
 
@@ -36,55 +37,76 @@ pub record-judged :
 unfolding prefixRefusal
 record-judged ws at h seen last block = rw (drop-record ws at h)
 
+-- One or two words are left over, or none.
+short : (us : List ℤ) → length us < 3 → (at last block : ℕ) (seen : List ℕ) → (prefixRefusal at seen last block us ≡ none) × (prefixOf us ≡ [])
+unfolding prefixRefusal prefixOf
+short [] h at last block seen = (refl, refl)
+short (v ∷ []) h at last block seen = (refl, refl)
+short (v ∷ q ∷ []) h at last block seen = (refl, refl)
+short (v ∷ q ∷ c ∷ us) h at last block seen = absurd (omega arith)
+
+-- What the words from a place on list: the record there, or what is listed after it; nothing where no record is left.
+module _ (ws : List ℤ) (at : ℕ) (v : ℕ) where
+  pub listed-from : at + 2 < length ws → listedIn (drop at ws) v ≡ (eqb v (ordinal (getD ws at (pos 0))) || listedIn (drop (at + 3) ws) v)
+  unfolding prefixOf isIn
+  listed-from h = rw (drop-record ws at h)
+
+  pub listed-none : length ws ≤ at + 2 → listedIn (drop at ws) v ≡ false
+  unfolding isIn
+  listed-none h = rw (short (drop at ws) (rw (length-drop at ws) (omega arith)) 0 0 0 [] .1)
+
+-- What the records before a place list: with one more of them, and with all.
+module _ (ws : List ℤ) (at : ℕ) (threes : at % 3 ≡ 0) where
+  entries-before : at ≤ length ws → (us : List ℤ) → prefixOf (take at ws ++ us) ≡ prefixOf (take at ws) ++ prefixOf us
+  unfolding entryWords
+  entries-before l us = prefix-append (at / 3) (take at ws) us (length-take-le at ws l ∙ omega arith)
+
+  pub listed-before : at + 2 < length ws → (v : ℕ) → listedIn (take (at + 3) ws) v ≡ (listedIn (take at ws) v || eqb v (ordinal (getD ws at (pos 0))))
+  unfolding prefixOf
+  listed-before h v =
+      rw (take-add at 3 ws, drop-record ws at h, entries-before (omega arith) (getD ws at (pos 0) ∷ getD ws (at + 1) (pos 0) ∷ getD ws (at + 2) (pos 0) ∷ []))
+      (listed-snoc v (prefixOf (take at ws)) (ordinal (getD ws at (pos 0))) (quantifierAs (ordinal (getD ws (at + 1) (pos 0)))))
+
+  entries-all : at ≤ length ws → length ws ≤ at + 2 → prefixOf ws ≡ prefixOf (take at ws)
+  entries-all l h =
+      ap prefixOf (sym (take-append-drop at ws))
+      ∙ entries-before l (drop at ws)
+      ∙ rw (short (drop at ws) (rw (length-drop at ws) (omega arith)) 0 0 0 [] .1) (append-nil (prefixOf (take at ws)))
+
 -- The check so far.
 pub record PrefixSoFar (ws : List ℤ) (marks : List ℕ) (at last block : ℕ) : Type 0 where
   pub within : at ≤ length ws
+  pub threes : at % 3 ≡ 0
   pub low : block ≤ at
-  pub size : length marks ≡ 1025
+  pub listing : Listing (take at ws) marks
   pub seen : List ℕ
-  pub says : Marks marks seen
+  pub lists : Lists (take at ws) seen
   pub same : prefixRefusal 0 [] 0 0 ws ≡ prefixRefusal at seen last block (drop at ws)
-  pub lists : (v : ℕ) → isIn v (listed (prefixOf ws)) ≡ (isIn v (listed (prefixOf (drop at ws))) || isIn v seen)
 
-pub prefix-begins : (ws : List ℤ) (marks : List ℕ) → length marks ≡ 1025 → Marks marks [] → PrefixSoFar ws marks 0 0 0
-unfolding isIn
-prefix-begins ws marks l m =
-    record { within = omega arith; low = omega arith; size = l; seen = []; says = m; same = refl; lists = λ v. sym (or-false (isIn v (listed (prefixOf ws)))) }
+pub prefix-begins : (ws : List ℤ) (marks : List ℕ) → Listing [] marks → PrefixSoFar ws marks 0 0 0
+unfolding isIn prefixOf
+prefix-begins ws marks m =
+    record { within = omega arith; threes = refl; low = omega arith; listing = m; seen = []; lists = record { says = λ v. refl }; same = refl }
 
 module _ {ws : List ℤ} {marks : List ℕ} {at last block : ℕ} (I : PrefixSoFar ws marks at last block) where
-  pub prefix-refuses : {r : Refusal} → ((seen : List ℕ) → Marks marks seen → prefixRefusal at seen last block (drop at ws) ≡ some r) → prefixRefusal 0 [] 0 0 ws ≡ some r
-  prefix-refuses s = I .same ∙ s (I .seen) (I .says)
+  pub prefix-refuses : {r : Refusal} → ((seen : List ℕ) → Lists (take at ws) seen → prefixRefusal at seen last block (drop at ws) ≡ some r) → prefixRefusal 0 [] 0 0 ws ≡ some r
+  prefix-refuses s = I .same ∙ s (I .seen) (I .lists)
 
-  pub prefix-goes-on : at + 2 < length ws → (q b : ℕ) (marks′ : List ℕ) → EntryStep ws at last block marks (EntryPassed q b) marks′ → PrefixSoFar ws marks′ (at + 3) q b
-  unfolding prefixOf isIn
+  pub prefix-goes-on : at + 2 < length ws → (q b : ℕ) (marks′ : List ℕ) → EntryStep ws at last block (EntryPassed q b) marks′ → PrefixSoFar ws marks′ (at + 3) q b
+  unfolding isIn
   prefix-goes-on h q b marks′ s =
-      let t = s .0 (I .seen) (I .says) in
       record {
         within = omega arith;
+        threes = omega (arith, I .threes);
         low = omega (arith, s .2, I .low);
-        size = s .1 ∙ I .size;
+        listing = s .1;
         seen = ordinal (getD ws at (pos 0)) ∷ I .seen;
-        says = t .1;
-        same = I .same ∙ t .0;
-        lists = λ v. I .lists v ∙ rw (drop-record ws at h) (swap (eqb v (ordinal (getD ws at (pos 0)))) (isIn v (listed (prefixOf (drop (at + 3) ws)))) (isIn v (I .seen)));
+        lists = record { says = λ v. rw (I .lists .says v) (or-comm (eqb v (ordinal (getD ws at (pos 0)))) (listedIn (take at ws) v) ∙ sym (listed-before ws at (I .threes) h v)) };
+        same = I .same ∙ s .0 (I .seen) (I .lists);
       }
-    where
-      swap : (a b c : Bool) → ((a || b) || c) ≡ (b || (a || c))
-      swap true true c = refl
-      swap true false c = refl
-      swap false true c = refl
-      swap false false c = refl
 
-  -- One or two words are left over, or none.
-  short : (us : List ℤ) → length us < 3 → (n k : ℕ) (seen : List ℕ) (b : ℕ) → (prefixRefusal n seen k b us ≡ none) × (prefixOf us ≡ [])
-  unfolding prefixRefusal prefixOf
-  short [] h n k seen b = (refl, refl)
-  short (v ∷ []) h n k seen b = (refl, refl)
-  short (v ∷ q ∷ []) h n k seen b = (refl, refl)
-  short (v ∷ q ∷ c ∷ us) h n k seen b = absurd (omega arith)
-
-  pub prefix-ends : length ws ≤ at + 2 → (prefixRefusal 0 [] 0 0 ws ≡ none) × (marked marks ≡ listedIn ws)
-  unfolding isIn
+  pub prefix-ends : length ws ≤ at + 2 → (prefixRefusal 0 [] 0 0 ws ≡ none) × Listing ws marks
   prefix-ends h =
-      let s = short (drop at ws) (omega (arith, length-drop at ws, I .within)) at last (I .seen) block in
-      (I .same ∙ s .0, λ j v. (I .says .says v ∙ sym (I .lists v ∙ rw (s .1))) j)
+      let s = short (drop at ws) (omega (arith, length-drop at ws, I .within)) at last block (I .seen) in
+      let e = entries-all ws at (I .threes) (I .within) h in
+      (I .same ∙ s .0, record { size = I .listing .size; says = λ k v l u. rw e (I .listing .says k v l u) })

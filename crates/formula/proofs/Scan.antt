@@ -1,34 +1,36 @@
--- Laws of the parts of the check of tables: one word of each scan by its place, marks against lists of variables, and one whole
+-- Laws of the parts of the check of tables: one word of each scan by its place, marks against the variables that a table lists, and one whole
 -- clause judged by where its literals end and where they clash. Assumes nothing.
-use Prim.Native.Nat.{ℕ, zero, suc, _+_, _≤_, _<_}
+use Prim.Native.Nat.{ℕ, zero, suc, _+_, _-_, _*_, _≤_, _<_}
 use mathlib.Core.Path.{_≡_, refl, ap, sym, _∙_, subst}
 use mathlib.Core.Logic.{_⊎_, inl, inr}
-use mathlib.Core.Bool.{Bool, true, false, _||_, _&&_}
+use mathlib.Core.Bool.{Bool, true, false, _||_, _&&_, or-false}
 use mathlib.Core.Option.{Option, none, some}
-use mathlib.Core.List.{List, [], _∷_, _++_, map, map-append, List·Memᴰ, List·Memᴰ·not-nil, List·Memᴰ·cases-cons}
+use mathlib.Core.List.{List, [], _∷_, List·Memᴰ, List·Memᴰ·not-nil, List·Memᴰ·cases-cons}
 use native.Mathlib.Nat.{not-suc-le-zero, le-of-suc-le-suc}
 use native.Mathlib.Decide.{ℕ-discrete}
 use native.Mathlib.Numerals.{add-one}
 use native.Mathlib.Omega.{arith}
 use borrow.Author.Tests.{leb-true, le-leb, lt-leb, eq-eqb, ne-eqb}
-use lib.ListN.{length, getD, take, drop, set, replicate, length-drop, drop-of-length-le}
-use lib.Seq.{drop-cons, drop-drop, getD-set-same, getD-set-other, getD-drop, take-suc, take-all, take-nil}
+use lib.ListN.{length, getD, take, drop, set, replicate, length-drop, length-replicate, getD-replicate, drop-of-length-le}
+use lib.Seq.{drop-cons, drop-drop, getD-set-same, getD-set-other, getD-drop, take-nil}
 use lib.Dec.{leb, eqb}
 use lib.IntN.{ℤ, pos, negℤ, natAbs}
 use Rattle.qbf.specs.Connectives.{and-both, or-left, or-right}
+use Rattle.bits.specs.Flags.{flags}
+use Rattle.bits.specs.Flags.Laws.{length-flags, flags-zeros}
 use Rattle.formula.specs.Bounds.{variableBound, inRange}
 use Rattle.formula.specs.Word.{wordOf}
 use Rattle.formula.specs.Refusal.{refusal}
-use Rattle.formula.specs.Prefix.{entryCount}
+use Rattle.formula.specs.Prefix.{prefixOf, entryCount}
 use Rattle.formula.specs.Decode.Laws.{magnitude-same, magnitude-negated}
-use Rattle.formula.specs.Tables.{isIn, zeros, literalWord, clauseWord, clausesEnd, clausesRefusal, sized, firstRefusal, wordsRefusal, tablesRefusal, answerTables, tablesAnswer}
+use Rattle.formula.specs.Tables.{isIn, zeros, literalWord, clauseWord, clausesEnd, clausesRefusal, listedIn, sized, firstRefusal, wordsRefusal, tablesRefusal, answerTables, tablesAnswer}
 use Rattle.formula.specs.Tables.Laws.{zeros-cons, clause-word-zero, clause-word-large, clause-word-literal}
-use Rattle.formula.specs.Tables.Scan.{marked, Marks, variablesBefore, further, plainRun, clashFree, ClauseStep, checkOf}
+use Rattle.formula.specs.Tables.Scan.{AllOrNone, marked, Listing, variablesBefore, further, plainRun, clashFree, ClauseStep, checkOf}
 use Rattle.formula.specs.declared.refusal.Refusal.{Refusal}
 use Rattle.formula.specs.declared.tables.TablesAnswer.the-variants.{Admitted as TablesAdmitted, Refused as TablesRefused}
 use Rattle.formula.specs.declared.tables.Check.the-variants.{Passed, Refused}
 use Rattle.formula.specs.declared.tables.ClauseCheck.the-variants.{Closed, Refused as Stopped}
-use Rattle.formula.specs.declared.refusal.Reason.the-variants.{Oversized, OutOfRange, BoundTwice, Unbound, Clash, Unfinished}
+use Rattle.formula.specs.declared.refusal.Reason.the-variants.{Oversized, OutOfRange, Unbound, Clash, Unfinished}
 
 -- Zeros, by the word at a place.
 module _ (ws : List ℤ) (i : ℕ) (h : i < length ws) where
@@ -39,14 +41,38 @@ module _ (ws : List ℤ) (i : ℕ) (h : i < length ws) where
   pub zeros-at-literal : (getD ws i (pos 0) ≡ pos 0 → ⊥) → zeros (drop i ws) ≡ zeros (drop (suc i) ws)
   zeros-at-literal n = rw (drop-cons ws i (pos 0) h) (zeros-cons (getD ws i (pos 0)) (drop (suc i) ws) n)
 
--- Marks: one more variable; none at first.
-pub marks-add : (marks seen : List ℕ) (v : ℕ) → v < length marks → Marks marks seen → Marks (set marks v 1) (v ∷ seen)
-unfolding marked isIn
-marks-add marks seen v h m = record { says = λ u. at u (ℕ-discrete u v) }
+-- Marks: none at first; one more variable, which the table then lists besides.
+pub listing-none : (bytes : ℕ) → AllOrNone bytes → Listing [] (replicate bytes 0)
+unfolding marked isIn prefixOf
+listing-none bytes a =
+    record {
+      size = rw (length-replicate {A = ℕ} bytes 0) a;
+      says = λ h v l u.
+          let e = a (rw (length-replicate {A = ℕ} bytes 0) at h) in
+          rw (flags-zeros bytes, getD-replicate {A = ℕ} (8 * bytes) (v - 1) 0 0 (omega arith));
+    }
+
+pub listing-add :
+    {table table′ : List ℤ} {marks marks′ : List ℕ} (v : ℕ) → 1 ≤ v → v ≤ variableBound
+    → Listing table marks
+    → length marks′ ≡ length marks
+    → (0 < length marks → flags marks′ ≡ set (flags marks) (v - 1) 1)
+    → ((u : ℕ) → listedIn table′ u ≡ (listedIn table u || eqb u v))
+    → Listing table′ marks′
+unfolding marked
+listing-add {table} {table′} {marks} {marks′} v l u L e put more =
+    record { size = rw e (L .size); says = λ h w lw uw. at (rw e at h) w lw uw (ℕ-discrete w v) }
   where
-    at : (u : ℕ) → Dec (u ≡ v) → eqb (getD (set marks v 1) u 0) 1 ≡ (eqb u v || isIn u seen)
-    at u (yes e) = rw (e, getD-set-same marks v 1 0 h, eq-eqb v v refl)
-    at u (no n) = rw (getD-set-other marks v u 1 0 n, ne-eqb u v n) (m .says u)
+    at : 0 < length marks → (w : ℕ) → 1 ≤ w → w ≤ variableBound → Dec (w ≡ v) → eqb (getD (flags marks′) (w - 1) 0) 1 ≡ listedIn table′ w
+    at h w lw uw (yes q) =
+        let size = L .size h in
+        let inside : v - 1 < length (flags marks) = rw (length-flags marks) (omega arith) in
+        rw (put h, q, getD-set-same (flags marks) (v - 1) 1 0 inside)
+        (sym (more v ∙ or-right (listedIn table v) (eqb v v) (eq-eqb v v refl)))
+    at h w lw uw (no n) =
+        let other : w - 1 ≡ v - 1 → ⊥ = λ q. n (omega arith) in
+        rw (put h, getD-set-other (flags marks) (v - 1) (w - 1) 1 0 other)
+        (L .says h w lw uw ∙ sym (more w ∙ rw (ne-eqb w v n) (or-false (listedIn table w))))
 
 -- The run of literals, by the word at a place.
 module _ (known : ℕ → Bool) (ws : List ℤ) (i : ℕ) (h : i < length ws) where
@@ -336,16 +362,6 @@ module _ (known : ℕ → Bool) (ws : List ℤ) (from : ℕ) where
           unknown =
               let e = rw at at (run-stops known (drop from ws) (rw (length-drop from ws) (omega arith))) in
               rw (le-leb 1 (natAbs (getD ws (from + run) (pos 0))) b, le-leb (natAbs (getD ws (from + run) (pos 0))) variableBound u) at e
-
--- No marks at first.
-pub marks-none : (n : ℕ) → Marks (replicate n 0) []
-unfolding marked isIn
-marks-none n = record { says = λ v. ap (λ (b : ℕ). eqb b 1) (at n v) }
-  where
-    at : (n v : ℕ) → _≡_ {A = ℕ} (getD (replicate n 0) v 0) 0
-    at zero v = refl
-    at (suc n) zero = refl
-    at (suc n) (suc v) = at n v
 
 -- Two parts of the check in order: the first refuses, or the second answers.
 pub first-refuses : (a b : Option Refusal) (r : Refusal) → checkOf a ≡ Refused r → checkOf (firstRefusal a b) ≡ Refused r

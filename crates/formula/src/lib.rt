@@ -5,6 +5,7 @@ pub mod clear;
 pub mod decimal;
 mod free;
 mod header;
+mod listing;
 pub mod literal;
 pub mod position;
 pub mod prefix;

@@ -1,12 +1,17 @@
 // The check of tables: sizes, a prefix in threes, its entries, clause words, each word from the left by its own rules in order. A clause is
 // judged whole: first where its literals end, then the nested search for a clash among them, then the word they end at.
-// The 0 words are counted, then one pass over the words, beside that search: quadratic in a clause of at most 1,024 words.
+// The 0 words are counted, then one pass over the words, beside that search: quadratic in a clause of at most 1,024 words. Which variables
+// are listed is told by marks in what the caller lends, or without them by a pass over the prefix for each word.
 use crate::bounds::ClauseCount;
 use crate::bounds::ClauseCountFit;
 use crate::bounds::MatrixFit;
 use crate::bounds::MatrixLength;
 use crate::bounds::PrefixFit;
 use crate::bounds::PrefixLength;
+use crate::clear::clear_bytes;
+use crate::listing::is_listed;
+use crate::listing::mark;
+use crate::listing::marks_used;
 use crate::literal::Literal;
 use crate::literal::LiteralFit;
 use crate::literal::Variable;
@@ -18,12 +23,12 @@ use crate::word::Word;
 ghost use mathlib.Core.Path.{_≡_};
 ghost use mathlib.Core.Bool.{true};
 ghost use mathlib.Core.List.{[], List·Memᴰ};
-ghost use Prim.Native.Nat.{_+_, _^_, _≤_, _<_};
-ghost use lib.ListN.{length, drop};
+ghost use Prim.Native.Nat.{_+_, _%_, _^_, _≤_, _<_};
+ghost use lib.ListN.{length, take, drop};
 ghost use lib.IntN.{ℤ, natAbs};
 ghost use Rattle.formula.specs.Bounds.{variableBound, inRange};
 ghost use Rattle.formula.specs.Tables.{zeros, prefixRefusal, clausesRefusal, listedIn, wordsRefusal, tablesAnswer};
-ghost use Rattle.formula.specs.Tables.Scan.{marked, Marks, EntryStep, checkOf, plainRun, clashFree, ClauseStep};
+ghost use Rattle.formula.specs.Tables.Scan.{AllOrNone, Listing, EntryStep, checkOf, plainRun, clashFree, ClauseStep};
 
 // Admitted, with the number of variables and of clauses; or the refusal.
 pub enum TablesAnswer {
@@ -66,28 +71,23 @@ fn count_zeros(clauses: &[i32]) -> usize
 
 // The entry whose first word stands at `at`, behind one of the quantifier `last` in the block `block`: its variable's 5 and 6, its
 // quantifier's 5, its block's 6. The variable is marked.
-fn check_entry(
-    prefix: &[i32],
-    at: usize,
-    last: usize,
-    block: usize,
-    listed: &mut [u8],
-) -> EntryCheck
-    requires { ⌜ (at + 2 < length (now prefix)) × (length (now listed) ≡ 1025) × (block + 1 < 2 ^ 64) ⌝ }
-    ensures { λ r. ⌜ EntryStep (now (prefix .entry)) at last block (now (listed .entry)) r (now (listed .exit)) ⌝ }
+fn check_entry(prefix: &[i32], at: usize, last: usize, block: usize, marks: &mut [u8]) -> EntryCheck
+    requires { ⌜ (at + 2 < length (now prefix)) × (at % 3 ≡ 0) × (block + 1 < 2 ^ 64) ⌝ }
+    requires { ⌜ Listing (take at (now prefix)) (now marks) ⌝ }
+    ensures { λ r. ⌜ EntryStep (now (prefix .entry)) at last block r (now (marks .exit)) ⌝ }
 {
     let v = Word::ordinal(prefix[at]);
     if v < 1 {
         return EntryCheck::Refused(Refusal::new(Reason::OutOfRange, at));
     }
-    if listed[v] == 1 {
+    if is_listed(&prefix[..at], v, marks) {
         return EntryCheck::Refused(Refusal::new(Reason::BoundTwice, at));
     }
     let quantifier = Word::ordinal(prefix[at + 1]);
     if (quantifier == 1) | (quantifier == 2) {
         let due = next_block(last, block, quantifier);
         if Word::ordinal(prefix[at + 2]) == due {
-            listed[v] = 1;
+            mark(v, marks);
             return EntryCheck::Passed {
                 quantifier,
                 block: due,
@@ -98,17 +98,17 @@ fn check_entry(
     EntryCheck::Refused(Refusal::new(Reason::OutOfRange, at + 1))
 }
 
-// The prefix, entry by entry, marking each variable that is listed. The marks are 0 before.
-fn check_prefix(prefix: &[i32], listed: &mut [u8]) -> Check
-    requires { ⌜ (length (now listed) ≡ 1025) × Marks (now listed) [] ⌝ }
+// The prefix, entry by entry, marking each variable that is listed. No variable is marked before.
+fn check_prefix(prefix: &[i32], marks: &mut [u8]) -> Check
+    requires { ⌜ Listing [] (now marks) ⌝ }
     ensures { λ r. ⌜ r ≡ checkOf (prefixRefusal 0 [] 0 0 (now (prefix .entry))) ⌝ }
-    ensures { λ r. ⌜ (r ≡ Check.Passed → marked (now (listed .exit)) ≡ listedIn (now (prefix .entry))) ⌝ }
+    ensures { λ r. ⌜ (r ≡ Check.Passed → Listing (now (prefix .entry)) (now (marks .exit))) ⌝ }
 {
     let mut last = 0;
     let mut block = 0;
     let mut at = 0;
     while at + 2 < prefix.len() {
-        match check_entry(prefix, at, last, block, listed) {
+        match check_entry(prefix, at, last, block, marks) {
             EntryCheck::Refused(r) => return Check::Refused(r),
             EntryCheck::Passed {
                 quantifier,
@@ -124,9 +124,9 @@ fn check_prefix(prefix: &[i32], listed: &mut [u8]) -> Check
 }
 
 // Where the literals that begin at `from` end: at the first word that is 0, out of range or unbound, or at the table's end.
-fn literals_end(clauses: &[i32], from: usize, listed: &[u8]) -> usize
-    requires { ⌜ (from ≤ length (now clauses)) × (length (now listed) ≡ 1025) ⌝ }
-    ensures { λ r. ⌜ r ≡ from + plainRun (marked (now (listed .entry))) (drop from (now (clauses .entry))) ⌝ }
+fn literals_end(prefix: &[i32], clauses: &[i32], from: usize, marks: &[u8]) -> usize
+    requires { ⌜ (from ≤ length (now clauses)) × Listing (now prefix) (now marks) ⌝ }
+    ensures { λ r. ⌜ r ≡ from + plainRun (listedIn (now (prefix .entry))) (drop from (now (clauses .entry))) ⌝ }
 {
     let mut i = from;
     while i < clauses.len() {
@@ -137,10 +137,11 @@ fn literals_end(clauses: &[i32], from: usize, listed: &[u8]) -> usize
         if Variable::MAX < v {
             return i;
         }
-        if listed[v] != 1 {
+        if is_listed(prefix, v, marks) {
+            i += 1;
+        } else {
             return i;
         }
-        i += 1;
     }
     i
 }
@@ -172,11 +173,11 @@ fn find_clash(clause: &[i32]) -> usize
 }
 
 // The clause that begins at `from`: 5, 7, 8, and 9 where no 0 closes it.
-fn check_clause(clauses: &[i32], from: usize, listed: &[u8]) -> ClauseCheck
-    requires { ⌜ (from < length (now clauses)) × (length (now listed) ≡ 1025) ⌝ }
-    ensures { λ r. ⌜ ClauseStep (marked (now (listed .entry))) (now (clauses .entry)) from r ⌝ }
+fn check_clause(prefix: &[i32], clauses: &[i32], from: usize, marks: &[u8]) -> ClauseCheck
+    requires { ⌜ (from < length (now clauses)) × Listing (now prefix) (now marks) ⌝ }
+    ensures { λ r. ⌜ ClauseStep (listedIn (now (prefix .entry))) (now (clauses .entry)) from r ⌝ }
 {
-    let end = literals_end(clauses, from, listed);
+    let end = literals_end(prefix, clauses, from, marks);
     let clash = find_clash(&clauses[from..end]);
     if clash < end - from {
         return ClauseCheck::Refused(Refusal::new(Reason::Clash, from + clash));
@@ -195,13 +196,13 @@ fn check_clause(clauses: &[i32], from: usize, listed: &[u8]) -> ClauseCheck
 }
 
 // The clause words, clause by clause.
-fn check_clauses(clauses: &[i32], listed: &[u8]) -> Check
-    requires { ⌜ length (now listed) ≡ 1025 ⌝ }
-    ensures { λ r. ⌜ r ≡ checkOf (clausesRefusal (marked (now (listed .entry))) 0 [] (now (clauses .entry))) ⌝ }
+fn check_clauses(prefix: &[i32], clauses: &[i32], marks: &[u8]) -> Check
+    requires { ⌜ Listing (now prefix) (now marks) ⌝ }
+    ensures { λ r. ⌜ r ≡ checkOf (clausesRefusal (listedIn (now (prefix .entry))) 0 [] (now (clauses .entry))) ⌝ }
 {
     let mut at = 0;
     while at < clauses.len() {
-        match check_clause(clauses, at, listed) {
+        match check_clause(prefix, clauses, at, marks) {
             ClauseCheck::Closed(next) => at = next,
             ClauseCheck::Refused(r) => return Check::Refused(r),
         }
@@ -209,22 +210,24 @@ fn check_clauses(clauses: &[i32], listed: &[u8]) -> Check
     Check::Passed
 }
 
-// Prefix and clause words, sizes being checked: 9 for a prefix that is not in threes comes first.
-fn check_words(prefix: &[i32], clauses: &[i32]) -> Check
+// Prefix and clause words, sizes being checked: 9 for a prefix that is not in threes comes first. The marks may hold anything before.
+fn check_words(prefix: &[i32], clauses: &[i32], marks: &mut [u8]) -> Check
+    requires { ⌜ AllOrNone (length (now marks)) ⌝ }
     ensures { λ r. ⌜ r ≡ checkOf (wordsRefusal (now (prefix .entry)) (now (clauses .entry))) ⌝ }
 {
     if prefix.len() % 3 != 0 {
         return Check::Refused(Refusal::new(Reason::Unfinished, prefix.len()));
     }
-    let mut listed = [0u8; 1025];
-    match check_prefix(prefix, &mut listed) {
+    clear_bytes(marks, 0);
+    match check_prefix(prefix, marks) {
         Check::Refused(r) => Check::Refused(r),
-        Check::Passed => check_clauses(clauses, &listed),
+        Check::Passed => check_clauses(prefix, clauses, marks),
     }
 }
 
-// The check of tables. Every entry that takes tables begins with it.
-pub fn check_tables(prefix: &[i32], clauses: &[i32]) -> TablesAnswer
+// The check of tables, with marks in what the caller lends: a bit for each variable that the prefix lists where `marks` has at least 128 bytes;
+// where it is shorter each question goes through the prefix instead. `marks` is left with anything.
+pub fn check_tables_in(prefix: &[i32], clauses: &[i32], marks: &mut [u8]) -> TablesAnswer
     ensures { λ r. ⌜ r ≡ tablesAnswer (now (prefix .entry)) (now (clauses .entry)) ⌝ }
 {
     let oversized = Refusal::new(Reason::Oversized, 0);
@@ -237,11 +240,20 @@ pub fn check_tables(prefix: &[i32], clauses: &[i32]) -> TablesAnswer
     let ClauseCountFit::Within(count) = ClauseCount::new(count_zeros(clauses)) else {
         return TablesAnswer::Refused(oversized);
     };
-    match check_words(prefix, clauses) {
+    let used = marks_used(marks.len());
+    match check_words(prefix, clauses, &mut marks[..used]) {
         Check::Refused(r) => TablesAnswer::Refused(r),
         Check::Passed => TablesAnswer::Admitted {
             variables: prefix::entry_count(prefix),
             clauses: count.0,
         },
     }
+}
+
+// The same with marks of its own. Every entry that takes tables and lends no scratch begins with it.
+pub fn check_tables(prefix: &[i32], clauses: &[i32]) -> TablesAnswer
+    ensures { λ r. ⌜ r ≡ tablesAnswer (now (prefix .entry)) (now (clauses .entry)) ⌝ }
+{
+    let mut marks = [0u8; 128];
+    check_tables_in(prefix, clauses, &mut marks)
 }

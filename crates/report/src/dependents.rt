@@ -18,9 +18,10 @@ ghost use Rattle.report.specs.Printing.{StoresShort};
 use crate::line::finish;
 use crate::line::refused_line;
 use crate::settle::settle_formula;
-use dependency::row::SCRATCH;
 use dependency::row::depends_in;
 use dependency::row::make_row;
+use dependency::scratch::SCRATCH;
+use dependency::scratch::SMALL;
 use formula::clear::clear_bytes;
 use formula::clear::clear_words;
 use formula::decimal::put;
@@ -98,7 +99,7 @@ fn write_universal(
     requires { ⌜ at + length (universalLine (formulaOf (now prefix) (now clauses)) (prefixOf (now prefix)) (variable .0)) < 2 ^ 64 ⌝ }
     ensures { λ r. ⌜ Stores (now (text .entry)) at (universalLine (formulaOf (now (prefix .entry)) (now (clauses .entry))) (prefixOf (now (prefix .entry))) (variable .0)) (now (text .exit)) r ⌝ }
 {
-    make_row(prefix, clauses, variable, scratch);
+    make_row(prefix, clauses, variable, &mut scratch[..SMALL]);
     write_row_line(prefix, scratch, variable, text, at)
 }
 

@@ -4,7 +4,7 @@ use crate::check::check_line;
 use crate::dependents::dependency_lines;
 use crate::settle::FileLength;
 use crate::settle::settle_formula;
-use dependency::row::SCRATCH;
+use dependency::scratch::SCRATCH;
 use formula::read::ReadAnswer;
 ghost use mathlib.Core.Path.{_≡_};
 ghost use Rattle.report.specs.Program.{programRoom, ProgramLine, ProgramText, formulaRead};

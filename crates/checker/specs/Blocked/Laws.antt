@@ -8,10 +8,12 @@ use native.Mathlib.Omega.{arith}
 use native.Mathlib.Decide.{decLt}
 use borrow.Author.Tests.{eq-eqb, ne-eqb}
 use lib.Dec.{eqb}
-use lib.ListN.{length, getD, length-take, List·getD-eq-default}
+use lib.ListN.{length, getD, take, drop, length-take, List·getD-eq-default}
 use lib.IntN.{ℤ, natAbs}
 use Rattle.qbf.specs.Dependency.{depends}
-use Rattle.dependency.specs.Scratch.{rowIn, RowMade}
+use Rattle.bits.specs.Flags.Laws.{length-flags}
+use Rattle.dependency.specs.Row.{rowOf}
+use Rattle.dependency.specs.Scratch.{rowAt, rowIn}
 use Rattle.dependency.specs.Scratch.Laws.{row-depends}
 use Rattle.formula.specs.Word.{wordOf, variableOf}
 use Rattle.formula.specs.Word.Laws.{variable-magnitude, variable-large}
@@ -25,27 +27,22 @@ use Rattle.checker.specs.Steps.Tests.{leftmost-same}
 use Rattle.checker.specs.Verdict.{scopeOf}
 use Rattle.checker.specs.Blocked.{touches, blocksBy}
 
-pub row-blocked :
-    (prefix clauses : List ℤ) (u : ℕ) (scratch scratch′ : List ℕ) → RowMade (formulaOf prefix clauses) u scratch scratch′ → (C : Words) → AllInRange C
-    → touches (rowIn scratch′) C ≡ blocked (scopeOf prefix clauses) u C
-unfolding touches blocked
-row-blocked prefix clauses u scratch scratch′ made [] r = refl
-row-blocked prefix clauses u scratch scratch′ made (x ∷ C) r =
-    ap₂ _||_
-    (row-depends (formulaOf prefix clauses) u scratch scratch′ made (natAbs x) (r x (List·Memᴰ·head refl) .1))
-    (row-blocked prefix clauses u scratch scratch′ made C (λ y k. r y (List·Memᴰ·tail k)))
+module _ (prefix clauses : List ℤ) (u : ℕ) (row : List ℕ) (made : row ≡ rowOf (formulaOf prefix clauses) u) where
+  asked : (e : ℕ) → e ≤ 1024 → eqb (getD row e 0) 1 ≡ depends (formulaOf prefix clauses) u e
+  asked e h = row-depends (formulaOf prefix clauses) u row made e h
 
-pub row-blocker :
-    (prefix clauses : List ℤ) (u : ℕ) (scratch scratch′ : List ℕ) → RowMade (formulaOf prefix clauses) u scratch scratch′ → Entries prefix → (C : Words)
-    → leftmost (blocksBy (rowIn scratch′) C) (withBlocks (prefixOf prefix)) ≡ blockerOf (scopeOf prefix clauses) u C
-unfolding blockerOf blocksBy
-row-blocker prefix clauses u scratch scratch′ made r C =
-    leftmost-same (blocksBy (rowIn scratch′) C) (λ v. depends (formulaOf prefix clauses) u v && occurs v C) (withBlocks (prefixOf prefix))
-    (λ b m.
-    ap (λ (t : Bool). t && occurs (b .variable .0) C)
-    (row-depends (formulaOf prefix clauses) u scratch scratch′ made (b .variable .0) (blocks-ranged 0 0 (prefixOf prefix) (r .ranged) b m)))
+  pub row-blocked : (C : Words) → AllInRange C → touches row C ≡ blocked (scopeOf prefix clauses) u C
+  unfolding touches blocked
+  row-blocked [] r = refl
+  row-blocked (x ∷ C) r = ap₂ _||_ (asked (natAbs x) (r x (List·Memᴰ·head refl) .1)) (row-blocked C (λ y k. r y (List·Memᴰ·tail k)))
 
--- A word's variable, where it is a number of the row, is its magnitude; a magnitude past the row has no byte there.
+  pub row-blocker : Entries prefix → (C : Words) → leftmost (blocksBy row C) (withBlocks (prefixOf prefix)) ≡ blockerOf (scopeOf prefix clauses) u C
+  unfolding blockerOf blocksBy
+  row-blocker r C =
+      leftmost-same (blocksBy row C) (λ v. depends (formulaOf prefix clauses) u v && occurs v C) (withBlocks (prefixOf prefix))
+      (λ b m. ap (λ (t : Bool). t && occurs (b .variable .0) C) (asked (b .variable .0) (blocks-ranged 0 0 (prefixOf prefix) (r .ranged) b m)))
+
+-- A word's variable, where it is a number of the row, is its magnitude; a magnitude past the row has no flag there.
 pub variable-near : (w : ℤ) → variableOf (wordOf w) ≤ 1024 → variableOf (wordOf w) ≡ natAbs w
 variable-near w h = go (decLt 1024 (natAbs w))
   where
@@ -62,7 +59,7 @@ variable-other w n h o = ne-eqb n (natAbs w) (λ e. o (variable-magnitude w (ome
 
 row-short : (scratch : List ℕ) → length (rowIn scratch) ≤ 1025
 unfolding rowIn
-row-short scratch = simp length-take (omega arith)
+row-short scratch = omega (arith, length-flags (take 128 (drop rowAt scratch)), length-take 128 (drop rowAt scratch))
 
 pub row-far : (scratch : List ℕ) (w : ℤ) → 1024 < variableOf (wordOf w) → getD (rowIn scratch) (natAbs w) 0 ≡ 0
 row-far scratch w h = go (decLt 1024 (natAbs w))

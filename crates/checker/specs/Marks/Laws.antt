@@ -1,20 +1,77 @@
--- Laws of marking, ticking and wiping: lists put together, and lengths. Assumes nothing.
-use Prim.Native.Nat.{ℕ, _<_}
+-- Laws of marks: the slot of a word, the marks that bytes hold, storing and ticking word by word and lists put together, lengths.
+-- Definitions: Marks. Assumes nothing.
+use Prim.Native.Nat.{ℕ, zero, suc, _+_, _*_, _-_, _<_, _≤_}
 use mathlib.Core.Path.{_≡_, refl, ap, sym, _∙_}
-use mathlib.Core.Bool.{Bool, true, false, _&&_, _||_, false≢true}
-use mathlib.Core.List.{List, [], _∷_, _++_}
-use borrow.Author.Tests.{eq-eqb, ne-eqb}
+use mathlib.Core.Bool.{Bool, true, false, _&&_, _||_, false≢true, or-false, or-assoc}
+use mathlib.Core.List.{List, [], _∷_, _++_, List·Memᴰ·head, List·Memᴰ·tail}
+use native.Mathlib.Omega.{arith}
+use borrow.Author.Tests.{le-leb}
 use lib.Dec.{eqb}
-use lib.ListN.{length, getD, set, length-set}
-use lib.IntN.{ℤ, negℤ}
+use lib.ListN.{length, getD, set, replicate, length-set}
+use lib.IntN.{ℤ, pos, negsuc, negℤ}
+use Rattle.bits.specs.Flags.{flags, flag}
+use Rattle.bits.specs.Flags.Laws.{flags-zeros}
+use Rattle.formula.specs.Word.{wordOf}
 use Rattle.formula.specs.Word.Laws.{slot-bound}
-use Rattle.checker.specs.Words.{Words, sameWord, keep, without}
-use Rattle.checker.specs.Marks.{alone, slotAt, markAll, meets, tickIf, tickAll, ticks, wipeAll, leaves, Marked, Ticked, Wiped}
+use Rattle.checker.specs.Words.{Words, sameWord, keep, without, InRange, AllInRange}
+use Rattle.checker.specs.Marks.{alone, slotAt, marksIn, clean, lookedAt, putAll, finds, tickIf, tickAll, ticks, Put, Ticked}
 
--- Every byte is one of the marks.
+-- The slot of a word in range.
+pub slot-positive : (n : ℕ) → suc n ≤ 1024 → slotAt (pos (suc n)) ≡ 2 * suc n
+unfolding slotAt wordOf
+slot-positive n h = rw (le-leb (suc n) 1024 h)
+
+pub slot-negative : (n : ℕ) → suc n ≤ 1024 → slotAt (negsuc n) ≡ 2 * suc n + 1
+unfolding slotAt wordOf
+slot-negative n h = rw (le-leb (suc n) 1024 h)
+
+-- Every slot is one of the marks; that of a word in range has a bit, and so has the one that is looked at.
 pub slot-at-bound : (x : ℤ) → slotAt x < 2050
 unfolding slotAt
 slot-at-bound x = slot-bound x
+
+pub slot-has-bit : (x : ℤ) → InRange x → 2 ≤ slotAt x
+slot-has-bit (pos zero) r = absurd (omega (arith, r .0))
+slot-has-bit (pos (suc n)) r = let e = slot-positive n (r .1) in omega arith
+slot-has-bit (negsuc n) r = let e = slot-negative n (r .1) in omega arith
+
+opposite-in-range : (x : ℤ) → InRange x → InRange (negℤ x)
+opposite-in-range (pos zero) r = r
+opposite-in-range (pos (suc n)) r = r
+opposite-in-range (negsuc n) r = r
+
+pub looked-has-bit : (on : Bool) (x : ℤ) → InRange x → 2 ≤ lookedAt on x
+unfolding lookedAt
+looked-has-bit true x r = slot-has-bit (negℤ x) (opposite-in-range x r)
+looked-has-bit false x r = slot-has-bit x r
+
+pub looked-bound : (on : Bool) (x : ℤ) → lookedAt on x < 2050
+unfolding lookedAt
+looked-bound true x = slot-at-bound (negℤ x)
+looked-bound false x = slot-at-bound x
+
+-- The marks of bytes: of cleared bytes, one read, one stored, and the two that are not there.
+pub marks-cleared : marksIn (replicate 256 0) ≡ clean
+unfolding marksIn
+marks-cleared = ap {B = List ℕ} (λ (l : List ℕ). 0 ∷ 0 ∷ l) (flags-zeros 256)
+
+pub mark-read : (bytes : List ℕ) (s : ℕ) → 2 ≤ s → getD (flags bytes) (s - 2) 0 ≡ getD (marksIn bytes) s 0
+unfolding marksIn
+mark-read bytes zero h = absurd (omega arith)
+mark-read bytes (suc zero) h = absurd (omega arith)
+mark-read bytes (suc (suc s)) h = let e : suc (suc s) - 2 ≡ s = omega arith in rw e
+
+pub mark-stored : (bytes bytes′ : List ℕ) (s v : ℕ) → 2 ≤ s → flags bytes′ ≡ set (flags bytes) (s - 2) v → marksIn bytes′ ≡ set (marksIn bytes) s v
+unfolding marksIn
+mark-stored bytes bytes′ zero v h k = absurd (omega arith)
+mark-stored bytes bytes′ (suc zero) v h k = absurd (omega arith)
+mark-stored bytes bytes′ (suc (suc s)) v h k = let e : suc (suc s) - 2 ≡ s = omega arith in rw (k, e)
+
+pub mark-none : (bytes : List ℕ) (s : ℕ) → s < 2 → getD (marksIn bytes) s 0 ≡ 0
+unfolding marksIn
+mark-none bytes zero h = refl
+mark-none bytes (suc zero) h = refl
+mark-none bytes (suc (suc s)) h = absurd (omega arith)
 
 -- One word after another.
 pub without-cons : (e x : ℤ) (C : Words) → without e (x ∷ C) ≡ without e (alone x) ++ without e C
@@ -25,123 +82,81 @@ without-cons e x C = go (sameWord e x)
     go true = refl
     go false = refl
 
-pub mark-append : (m : List ℕ) (C D : Words) → markAll m (C ++ D) ≡ markAll (markAll m C) D
-unfolding markAll
-mark-append m [] D = refl
-mark-append m (x ∷ C) D = mark-append (set m (slotAt x) 1) C D
+pub head-in-range : (x : ℤ) (C D : Words) → D ≡ x ∷ C → AllInRange D → InRange x
+head-in-range x C D d h = h x (rw d (List·Memᴰ·head refl))
 
-or-assoc : (a b c : Bool) → (a || (b || c)) ≡ ((a || b) || c)
-or-assoc true b c = refl
-or-assoc false b c = refl
+pub tail-in-range : (x : ℤ) (C D : Words) → D ≡ x ∷ C → AllInRange D → AllInRange C
+tail-in-range x C D d h y k = h y (rw d (List·Memᴰ·tail k))
 
-pub meets-append : (m : List ℕ) (C D : Words) → meets m (C ++ D) ≡ (meets m C || meets (markAll m C) D)
-unfolding meets markAll
-meets-append m [] D = refl
-meets-append m (x ∷ C) D =
-    ap (λ (b : Bool). eqb (getD m (slotAt (negℤ x)) 0) 1 || b) (meets-append (set m (slotAt x) 1) C D)
-    ∙ or-assoc (eqb (getD m (slotAt (negℤ x)) 0) 1) (meets (set m (slotAt x) 1) C) (meets (markAll (set m (slotAt x) 1) C) D)
+module _ (on : Bool) where
+  pub put-append : (m : List ℕ) (C D : Words) → putAll on m (C ++ D) ≡ putAll on (putAll on m C) D
+  unfolding putAll
+  put-append m [] D = refl
+  put-append m (x ∷ C) D = put-append (set m (slotAt x) (flag on)) C D
 
-pub wipe-append : (m : List ℕ) (C D : Words) → wipeAll m (C ++ D) ≡ wipeAll (wipeAll m C) D
-unfolding wipeAll
-wipe-append m [] D = refl
-wipe-append m (x ∷ C) D = wipe-append (set m (slotAt x) 0) C D
+  pub finds-append : (m : List ℕ) (C D : Words) → finds on m (C ++ D) ≡ (finds on m C || finds on (putAll on m C) D)
+  unfolding finds putAll
+  finds-append m [] D = refl
+  finds-append m (x ∷ C) D =
+      ap (λ (b : Bool). eqb (getD m (lookedAt on x) 0) 1 || b) (finds-append (set m (slotAt x) (flag on)) C D)
+      ∙ sym (or-assoc (eqb (getD m (lookedAt on x) 0) 1) (finds on (set m (slotAt x) (flag on)) C) (finds on (putAll on (set m (slotAt x) (flag on)) C) D))
 
-pub leaves-append : (m : List ℕ) (C D : Words) → leaves m (C ++ D) ≡ (leaves m C || leaves (wipeAll m C) D)
-unfolding leaves wipeAll
-leaves-append m [] D = refl
-leaves-append m (x ∷ C) D =
-    ap (λ (b : Bool). eqb (getD m (slotAt x) 0) 1 || b) (leaves-append (set m (slotAt x) 0) C D)
-    ∙ or-assoc (eqb (getD m (slotAt x) 0) 1) (leaves (set m (slotAt x) 0) C) (leaves (wipeAll (set m (slotAt x) 0) C) D)
+  pub length-put : (m : List ℕ) (C : Words) → length (putAll on m C) ≡ length m
+  unfolding putAll
+  length-put m [] = refl
+  length-put m (x ∷ C) = length-put (set m (slotAt x) (flag on)) C ∙ length-set m (slotAt x) (flag on)
 
--- Lengths stay.
-pub length-mark : (m : List ℕ) (C : Words) → length (markAll m C) ≡ length m
-unfolding markAll
-length-mark m [] = refl
-length-mark m (x ∷ C) = length-mark (set m (slotAt x) 1) C ∙ length-set m (slotAt x) 1
+  -- One word.
+  module _ (m : List ℕ) (e x : ℤ) where
+    pub put-left-out : sameWord e x ≡ true → Put on m (without e (alone x)) false m
+    unfolding without finds putAll
+    put-left-out h = rw h (record { told = refl; left = refl })
 
-pub length-wipe : (m : List ℕ) (C : Words) → length (wipeAll m C) ≡ length m
-unfolding wipeAll
-length-wipe m [] = refl
-length-wipe m (x ∷ C) = length-wipe (set m (slotAt x) 0) C ∙ length-set m (slotAt x) 0
+    pub put-one : sameWord e x ≡ false → Put on m (without e (alone x)) (eqb (getD m (lookedAt on x) 0) 1) (set m (slotAt x) (flag on))
+    unfolding without finds putAll
+    put-one h = rw h (record { told = sym (or-false (eqb (getD m (lookedAt on x) 0) 1)); left = refl })
 
 pub length-tick : (m : List ℕ) (L : Words) → length (tickAll m L) ≡ length m
 unfolding tickAll
 length-tick m [] = refl
-length-tick m (x ∷ L) = go (eqb (getD m (slotAt x) 0) 1) (length-tick (set m (slotAt x) 2) L)
+length-tick m (x ∷ L) = go (eqb (getD m (slotAt x) 0) 1) (length-tick (set m (slotAt x) 0) L)
   where
-    go : (b : Bool) → length (tickAll (set m (slotAt x) 2) L) ≡ length (set m (slotAt x) 2) → length (tickIf b m (tickAll (set m (slotAt x) 2) L)) ≡ length m
-    go true h = h ∙ length-set m (slotAt x) 2
+    go : (b : Bool) → length (tickAll (set m (slotAt x) 0) L) ≡ length (set m (slotAt x) 0) → length (tickIf b m (tickAll (set m (slotAt x) 0) L)) ≡ length m
+    go true h = h ∙ length-set m (slotAt x) 0
     go false h = refl
 
--- One word.
-or-none : (b : Bool) → b ≡ (b || false)
-or-none true = refl
-or-none false = refl
-
-module _ (m : List ℕ) (e x : ℤ) where
-  pub mark-left-out : sameWord e x ≡ true → Marked m (without e (alone x)) false m
-  unfolding without meets markAll
-  mark-left-out h = rw h (record { told = refl; left = refl })
-
-  pub mark-one : sameWord e x ≡ false → Marked m (without e (alone x)) (eqb (getD m (slotAt (negℤ x)) 0) 1) (set m (slotAt x) 1)
-  unfolding without meets markAll
-  mark-one h = rw h (record { told = or-none (eqb (getD m (slotAt (negℤ x)) 0) 1); left = refl })
-
-  pub wipe-left-out : sameWord e x ≡ true → Wiped m (without e (alone x)) false m
-  unfolding without leaves wipeAll
-  wipe-left-out h = rw h (record { told = refl; left = refl })
-
-  pub wipe-one : sameWord e x ≡ false → Wiped m (without e (alone x)) (eqb (getD m (slotAt x) 0) 1) (set m (slotAt x) 0)
-  unfolding without leaves wipeAll
-  wipe-one h = rw h (record { told = or-none (eqb (getD m (slotAt x) 0) 1); left = refl })
-
 module _ (m : List ℕ) (x : ℤ) where
-  pub tick-one : getD m (slotAt x) 0 ≡ 1 → Ticked m (alone x) true (set m (slotAt x) 2)
+  pub tick-one : eqb (getD m (slotAt x) 0) 1 ≡ true → Ticked m (alone x) true (set m (slotAt x) 0)
   unfolding ticks tickAll
-  tick-one h = let t : eqb (getD m (slotAt x) 0) 1 ≡ true = eq-eqb (getD m (slotAt x) 0) 1 h in record { told = rw t; left = rw t }
+  tick-one t = record { told = rw t; left = rw t }
 
-  pub tick-none : (getD m (slotAt x) 0 ≡ 1 → ⊥) → Ticked m (alone x) false m
+  pub tick-none : eqb (getD m (slotAt x) 0) 1 ≡ false → Ticked m (alone x) false m
   unfolding ticks tickAll
-  tick-none h = let t : eqb (getD m (slotAt x) 0) 1 ≡ false = ne-eqb (getD m (slotAt x) 0) 1 h in record { told = rw t; left = rw t }
+  tick-none t = record { told = rw t; left = rw t }
 
--- A loop over a clause but for one word: `after` and `tells` are what it does and tells of a list of words. What is left to do
--- of the clause, after what was told so far, comes to the same as the whole.
-abbrev pub Continues : (after : List ℕ → Words → List ℕ) (tells : List ℕ → Words → Bool) → List ℕ → Words → List ℕ → Bool → Words → Type 0
-Continues after tells m₀ C₀ m told C = (after m C ≡ after m₀ C₀) × ((told || tells m C) ≡ tells m₀ C₀)
+-- A loop over a clause but for one word: what is left to do of the clause, after what was told so far, comes to the same as the whole.
+abbrev pub Continues : Bool → List ℕ → Words → List ℕ → Bool → Words → Type 0
+Continues on m₀ C₀ m told C = (putAll on m C ≡ putAll on m₀ C₀) × ((told || finds on m C) ≡ finds on m₀ C₀)
 
-module _ (after : List ℕ → Words → List ℕ) (tells : List ℕ → Words → Bool)
-    (after-append : (m : List ℕ) (C D : Words) → after m (C ++ D) ≡ after (after m C) D)
-    (tells-append : (m : List ℕ) (C D : Words) → tells m (C ++ D) ≡ (tells m C || tells (after m C) D)) where
-  turns :
-      (m₀ : List ℕ) (C₀ : Words) (m m′ : List ℕ) (told met : Bool) (e x : ℤ) (D C : Words) → D ≡ x ∷ C
-      → met ≡ tells m (without e (alone x))
-      → m′ ≡ after m (without e (alone x))
-      → Continues after tells m₀ C₀ m told (without e D)
-      → Continues after tells m₀ C₀ m′ (told || met) (without e C)
-  turns m₀ C₀ m m′ told met e x D C d t l h =
+module _ (on : Bool) (m₀ : List ℕ) (C₀ : Words) (m : List ℕ) (told : Bool) (e : ℤ) where
+  pub put-turns :
+      (m′ : List ℕ) (met : Bool) (x : ℤ) (D C : Words) → D ≡ x ∷ C
+      → Put on m (without e (alone x)) met m′
+      → Continues on m₀ C₀ m told (without e D)
+      → Continues on m₀ C₀ m′ (told || met) (without e C)
+  put-turns m′ met x D C d k h =
       let split : without e D ≡ without e (alone x) ++ without e C = ap (without e) d ∙ without-cons e x C in (
-        rw l (sym (after-append m (without e (alone x)) (without e C)) ∙ ap (after m) (sym split) ∙ h .0),
-        rw (l, t)
-            (sym (or-assoc told (tells m (without e (alone x))) (tells (after m (without e (alone x))) (without e C)))
-            ∙ ap (λ (b : Bool). told || b) (sym (tells-append m (without e (alone x)) (without e C)) ∙ ap (tells m) (sym split))
+        rw (k .left) (sym (put-append on m (without e (alone x)) (without e C)) ∙ ap (putAll on m) (sym split) ∙ h .0),
+        rw (k .left, k .told)
+            (or-assoc told (finds on m (without e (alone x))) (finds on (putAll on m (without e (alone x))) (without e C))
+            ∙ ap (λ (b : Bool). told || b) (sym (finds-append on m (without e (alone x)) (without e C)) ∙ ap (finds on m) (sym split))
             ∙ h .1),
       )
 
-module _ (m₀ : List ℕ) (C₀ : Words) (m m′ : List ℕ) (told met : Bool) (e x : ℤ) (D C : Words) (d : D ≡ x ∷ C) where
-  pub mark-turns : Marked m (without e (alone x)) met m′ → Continues markAll meets m₀ C₀ m told (without e D) → Continues markAll meets m₀ C₀ m′ (told || met) (without e C)
-  mark-turns k h = turns markAll meets mark-append meets-append m₀ C₀ m m′ told met e x D C d (k .told) (k .left) h
-
-  pub wipe-turns : Wiped m (without e (alone x)) met m′ → Continues wipeAll leaves m₀ C₀ m told (without e D) → Continues wipeAll leaves m₀ C₀ m′ (told || met) (without e C)
-  wipe-turns k h = turns wipeAll leaves wipe-append leaves-append m₀ C₀ m m′ told met e x D C d (k .told) (k .left) h
-
--- The end of the clause.
-pub mark-ends : (m₀ : List ℕ) (C₀ : Words) (m : List ℕ) (told : Bool) (e : ℤ) (D : Words) → D ≡ [] → Continues markAll meets m₀ C₀ m told (without e D) → Marked m₀ C₀ told m
-unfolding markAll meets without
-mark-ends m₀ C₀ m told e D d h = let k : Continues markAll meets m₀ C₀ m told [] = rw d at h in record { told = or-none told ∙ k .1; left = k .0 }
-
-pub wipe-ends : (m₀ : List ℕ) (C₀ : Words) (m : List ℕ) (told : Bool) (e : ℤ) (D : Words) → D ≡ [] → Continues wipeAll leaves m₀ C₀ m told (without e D) → Wiped m₀ C₀ told m
-unfolding wipeAll leaves without
-wipe-ends m₀ C₀ m told e D d h = let k : Continues wipeAll leaves m₀ C₀ m told [] = rw d at h in record { told = or-none told ∙ k .1; left = k .0 }
+  -- The end of the clause.
+  pub put-ends : (D : Words) → D ≡ [] → Continues on m₀ C₀ m told (without e D) → Put on m₀ C₀ told m
+  unfolding putAll finds without
+  put-ends D d h = let k : Continues on m₀ C₀ m told [] = rw d at h in record { told = sym (or-false told) ∙ k .1; left = k .0 }
 
 -- Ticking, word by word.
 abbrev pub TicksOn : List ℕ → Words → List ℕ → Words → Type 0
@@ -154,8 +169,8 @@ tick-turns m₀ L₀ m m′ x D L d k h = go (eqb (getD m (slotAt x) 0) 1) refl 
     go :
         (b : Bool) → eqb (getD m (slotAt x) 0) 1 ≡ b
         → true ≡ (b && true)
-        → m′ ≡ tickIf b m (set m (slotAt x) 2)
-        → (tickIf b m (tickAll (set m (slotAt x) 2) L) ≡ tickAll m₀ L₀) × ((b && ticks (set m (slotAt x) 2) L) ≡ ticks m₀ L₀)
+        → m′ ≡ tickIf b m (set m (slotAt x) 0)
+        → (tickIf b m (tickAll (set m (slotAt x) 0) L) ≡ tickAll m₀ L₀) × ((b && ticks (set m (slotAt x) 0) L) ≡ ticks m₀ L₀)
         → TicksOn m₀ L₀ m′ L
     go true e t l q = rw l q
     go false e t l q = absurd (false≢true (sym t))
@@ -167,8 +182,8 @@ tick-stops m₀ L₀ m m′ x D L d k h = go (eqb (getD m (slotAt x) 0) 1) refl 
     go :
         (b : Bool) → eqb (getD m (slotAt x) 0) 1 ≡ b
         → false ≡ (b && true)
-        → m′ ≡ tickIf b m (set m (slotAt x) 2)
-        → (tickIf b m (tickAll (set m (slotAt x) 2) L) ≡ tickAll m₀ L₀) × ((b && ticks (set m (slotAt x) 2) L) ≡ ticks m₀ L₀)
+        → m′ ≡ tickIf b m (set m (slotAt x) 0)
+        → (tickIf b m (tickAll (set m (slotAt x) 0) L) ≡ tickAll m₀ L₀) × ((b && ticks (set m (slotAt x) 0) L) ≡ ticks m₀ L₀)
         → Ticked m₀ L₀ false m′
     go true e t l q = absurd (false≢true t)
     go false e t l q = record { told = q .1; left = l ∙ q .0 }

@@ -2,32 +2,26 @@
 use Prim.Native.Nat.{ℕ}
 use mathlib.Core.Path.{_≡_, ap, ap₂, sym, _∙_}
 use mathlib.Core.Logic.{_⊎_, inl, inr}
-use mathlib.Core.Bool.{Bool, false, not, _&&_, _||_}
+use mathlib.Core.Bool.{Bool, true, false, not, _&&_, _||_}
 use mathlib.Core.List.{List, [], List·Memᴰ, List·Memᴰ·append-cases}
 use lib.IntN.{ℤ, negℤ}
 use Rattle.checker.specs.declared.result.Judgement.{Judgement}
 use Rattle.checker.specs.Words.{Words, without, InRange, AllInRange}
 use Rattle.checker.specs.Words.Laws.{without-member}
 use Rattle.checker.specs.Steps.{resolvent, opposed, states, judgeStatement}
-use Rattle.checker.specs.Marks.{markAll, tickAll, wipeAll, meets, ticks, leaves, Marked, Ticked, Wiped, clean}
-use Rattle.checker.specs.Marks.Laws.{mark-append, meets-append, wipe-append, leaves-append}
+use Rattle.checker.specs.Marks.{putAll, finds, tickAll, ticks, Put, Ticked, clean}
+use Rattle.checker.specs.Marks.Laws.{put-append, finds-append}
 use Rattle.checker.specs.Marks.Judging.{clean-meets, clean-states, clean-wiped}
 use Rattle.checker.specs.Result.{resultReason, decided, JudgedClean}
 
-module _ (e : ℤ) (C D : Words) (m m₁ m₂ : List ℕ) (first second : Bool) where
-  pub both-marked : Marked m (without e C) first m₁ → Marked m₁ (without (negℤ e) D) second m₂ → Marked m (resolvent e C D) (first || second) m₂
-  both-marked h k =
-      record {
-        told = rw (h .told, k .told, h .left) (sym (meets-append m (without e C) (without (negℤ e) D)));
-        left = rw (k .left, h .left) (sym (mark-append m (without e C) (without (negℤ e) D)));
-      }
-
-  pub both-wiped : Wiped m (without e C) first m₁ → Wiped m₁ (without (negℤ e) D) second m₂ → Wiped m (resolvent e C D) (first || second) m₂
-  both-wiped h k =
-      record {
-        told = rw (h .told, k .told, h .left) (sym (leaves-append m (without e C) (without (negℤ e) D)));
-        left = rw (k .left, h .left) (sym (wipe-append m (without e C) (without (negℤ e) D)));
-      }
+pub both-put :
+    (on : Bool) (e : ℤ) (C D : Words) (m m₁ m₂ : List ℕ) (first second : Bool)
+    → Put on m (without e C) first m₁ → Put on m₁ (without (negℤ e) D) second m₂ → Put on m (resolvent e C D) (first || second) m₂
+both-put on e C D m m₁ m₂ first second h k =
+    record {
+      told = rw (h .told, k .told, h .left) (sym (finds-append on m (without e C) (without (negℤ e) D)));
+      left = rw (k .left, h .left) (sym (put-append on m (without e C) (without (negℤ e) D)));
+    }
 
 pub without-in-range : (e : ℤ) (C : Words) → AllInRange C → AllInRange (without e C)
 without-in-range e C h x m = h x (without-member x e C m .0)
@@ -40,22 +34,22 @@ resolvent-in-range e C D h k x m = go (List·Memᴰ·append-cases (without e C) 
     go (inr i) = without-in-range (negℤ e) D k x i
 
 module _ (R L : Words) (range : AllInRange R) (met ticked left : Bool) (m m₁ m₂ m₃ : List ℕ) (start : m ≡ clean)
-    (h : Marked m R met m₁) (k : Ticked m₁ L ticked m₂) (l : Wiped m₂ R left m₃) where
+    (h : Put true m R met m₁) (k : Ticked m₁ L ticked m₂) (l : Put false m₂ R left m₃) where
   met-is : met ≡ opposed [] R
-  met-is = h .told ∙ ap (λ (n : List ℕ). meets n R) start ∙ clean-meets R L range
+  met-is = h .told ∙ ap (λ (n : List ℕ). finds true n R) start ∙ clean-meets R L range
 
-  marked-is : m₁ ≡ markAll clean R
-  marked-is = h .left ∙ ap (λ (n : List ℕ). markAll n R) start
+  marked-is : m₁ ≡ putAll true clean R
+  marked-is = h .left ∙ ap (λ (n : List ℕ). putAll true n R) start
 
-  ticked-is : m₂ ≡ tickAll (markAll clean R) L
+  ticked-is : m₂ ≡ tickAll (putAll true clean R) L
   ticked-is = k .left ∙ ap (λ (n : List ℕ). tickAll n L) marked-is
 
   wiped-is : m₃ ≡ clean
-  wiped-is = l .left ∙ ap (λ (n : List ℕ). wipeAll n R) ticked-is ∙ clean-wiped R L range
+  wiped-is = l .left ∙ ap (λ (n : List ℕ). putAll false n R) ticked-is ∙ clean-wiped R L range
 
   states-is : (ticked && not left) ≡ states R L
   states-is =
-      ap₂ (λ (a b : Bool). a && not b) (k .told ∙ ap (λ (n : List ℕ). ticks n L) marked-is) (l .told ∙ ap (λ (n : List ℕ). leaves n R) ticked-is)
+      ap₂ (λ (a b : Bool). a && not b) (k .told ∙ ap (λ (n : List ℕ). ticks n L) marked-is) (l .told ∙ ap (λ (n : List ℕ). finds false n R) ticked-is)
       ∙ clean-states R L range
 
   pub judged-result : (r : Judgement) → r ≡ decided met ticked left → JudgedClean (resultReason R L) r m₃

@@ -10,7 +10,6 @@ use lib.ListN.{length, getD, set, drop, getElem?, drop-of-length-le, length-set}
 use lib.Seq.{drop-cons, drop-drop, getD-set-same, getD-set-other}
 use native.Mathlib.Decide.{decLt}
 use lib.IntN.{ℤ, pos, natAbs}
-use Rattle.dependency.specs.Scratch.{own}
 use Rattle.formula.specs.Refusal.{refusal}
 use Rattle.formula.specs.Tables.{Admitted}
 use Rattle.formula.specs.Tables.Laws.{admitted-literal}
@@ -32,7 +31,6 @@ use Rattle.checker.specs.Numbered.Laws.{stored-length, stored-get, store
 use Rattle.checker.specs.Read.{statementOf}
 use Rattle.checker.specs.Read.Laws.{statement-read}
 use Rattle.checker.specs.Step.{stepAnswer, Ready}
-use Rattle.checker.specs.Step.Laws.{ready-kept}
 use Rattle.checker.specs.Run.{isEmpty, stepPlace, StepStands, Placed, RunDone}
 use Rattle.checker.specs.declared.run.Run.the-variants.{Ended, Refused}
 
@@ -221,15 +219,14 @@ module _ (prefix clauses steps : List ℤ) (inputs room : ℕ) (scratch offsets 
   pub going-turns :
       (next : ℕ) (scratch′ : List ℕ)
       → Taken (scopeOf prefix clauses) (length offsets) (stored inputs clauses steps offsets numbered) steps at next
-      → length scratch′ ≡ length scratch
-      → drop own scratch′ ≡ drop own scratch
+      → Ready prefix scratch′
       → Going prefix clauses steps inputs room scratch′ (set offsets numbered at) (numbered + 1) next
-  going-turns next scratch′ t l k =
+  going-turns next scratch′ t r =
       let f = t .fits in
       let n = stored-length inputs clauses steps offsets numbered in
       record {
         whole = g .whole ∙ rw (← g .room-is) (taken-run prefix clauses steps inputs offsets numbered at next t (g .past));
-        ready = ready-kept prefix scratch (g .ready) scratch′ l k;
+        ready = r;
         room-is = length-set offsets numbered at ∙ g .room-is;
         past = let p = g .past in omega arith;
         fits = let e = g .room-is in omega arith;
@@ -242,10 +239,9 @@ module _ (prefix clauses steps : List ℤ) (inputs room : ℕ) (scratch offsets 
   pub going-refused :
       (r : Reason) (scratch′ : List ℕ) → at < length steps
       → WrongStep r ≡ stepAnswer at (judgeFirst plainRules (scopeOf prefix clauses) (length offsets) (stored inputs clauses steps offsets numbered) (drop at steps))
-      → length scratch′ ≡ length scratch
-      → drop own scratch′ ≡ drop own scratch
+      → Ready prefix scratch′
       → RunDone prefix clauses steps inputs (Refused (refusal r (numbered + 1))) scratch′ offsets
-  going-refused r scratch′ h e l k =
+  going-refused r scratch′ h e k =
       let w = wrong-run (scopeOf prefix clauses) (length offsets) (stored inputs clauses steps offsets numbered) steps at h r e in
       let n : suc (length (stored inputs clauses steps offsets numbered)) ≡ numbered + 1 = let l = stored-length inputs clauses steps offsets numbered in omega arith in
       record {
@@ -253,7 +249,7 @@ module _ (prefix clauses steps : List ℤ) (inputs room : ℕ) (scratch offsets 
         counted = omega arith;
         grown = tt;
         placed = record { input-clauses = g .placed .input-clauses; derived = λ k l m. absurd (omega arith) };
-        ready = ready-kept prefix scratch (g .ready) scratch′ l k;
+        ready = k;
       }
 
   -- No word is left.

@@ -1,19 +1,19 @@
--- The parts of a step's check make up the judgement of Steps.antt, and a lent part of the scratch comes back in its place.
--- Assumes nothing.
+-- The parts of a step's check make up the judgement of Steps.antt, and each leaves the scratch ready. Assumes nothing.
 use Prim.Native.Nat.{ℕ, suc, _+_, _-_, _≤_, _<_}
 use mathlib.Core.Path.{_≡_, refl, ap, sym, _∙_}
 use mathlib.Core.Bool.{Bool, true, false, _&&_}
 use mathlib.Core.Option.{Option, none, some}
-use mathlib.Core.List.{List, _++_}
+use mathlib.Core.List.{List, _∷_, _++_}
 use native.Mathlib.Omega.{arith}
 use borrow.Author.Tests.{lt-ltb, le-ltb}
+use borrow.Rule.Slice.PartMut.{same-len-mid, mid-len}
 use lib.Dec.{leb}
-use lib.ListN.{length, getD, take, drop, length-replicate, take-append-drop}
-use lib.Seq.{take-at, drop-at, drop-drop, take-all}
+use lib.ListN.{length, getD, take, drop, replicate, length-drop, take-append-drop}
+use lib.Seq.{take-at, drop-at, drop-drop, take-take, take-append-le, drop-append-le, length-take-le}
 use lib.IntN.{ℤ, pos, negsuc, negℤ, natAbs}
-use Rattle.qbf.specs.Formula.{Formula, existential, universal}
-use Rattle.dependency.specs.Scratch.{scratchBound, own, RowMade}
-use Rattle.dependency.specs.Scratch.Laws.{own-part}
+use Rattle.qbf.specs.Formula.{existential}
+use Rattle.bits.specs.Flags.{flags}
+use Rattle.dependency.specs.Scratch.{rowAt, later, smallBound, rowIn}
 use Rattle.formula.specs.Prefix.{prefixOf, quantifies}
 use Rattle.formula.specs.Bounds.{variableFit}
 use Rattle.formula.specs.Tables.{Admitted}
@@ -26,46 +26,76 @@ use Rattle.formula.specs.Decode.{clauseAt}
 use Rattle.checker.specs.declared.result.Judgement.{Judgement}
 use Rattle.checker.specs.declared.result.Judgement.the-variants.{Right, Wrong}
 use Rattle.checker.specs.declared.step.StepAnswer.the-variants.{Right as RightStep, Wrong as WrongStep}
-use Rattle.checker.specs.Steps.{Scope, Step, resolution, reduction, sizeOf, readStep, antecedent, resolvent, positiveExistential, demand, judgeResolution, judgeReduction, judge, judgeFirst}
+use Rattle.checker.specs.Steps.{Scope, Step, resolution, sizeOf, readStep, antecedent, resolvent, positiveExistential, demand, judgeResolution, judge, judgeFirst}
 use Rattle.checker.specs.Lawful.Laws.{found-member}
 use Rattle.checker.specs.Verdict.{scopeOf}
 use Rattle.checker.specs.Numbered.{tableOf, placeOf, storedAt, stored}
 use Rattle.checker.specs.Numbered.Laws.{stored-get}
-use Rattle.checker.specs.Marks.{clean}
-use Rattle.checker.specs.Kinds.{kindsOf}
-use Rattle.checker.specs.Kinds.Laws.{length-kinds, existential-fit, universal-fit}
-use Rattle.checker.specs.Result.{judgementOf, resultReason}
-use Rattle.checker.specs.Step.{kindsIn, Clean, Ready, resolvingReason, resolutionReason, freeReason, reducingReason, reductionReason, Answers, stepAnswer}
+use Rattle.checker.specs.Marks.{marksIn}
+use Rattle.checker.specs.Marks.Laws.{marks-cleared}
+use Rattle.checker.specs.Existentials.{existentialsOf}
+use Rattle.checker.specs.Existentials.Laws.{existential-fit}
+use Rattle.checker.specs.Result.{judgementOf, resultReason, JudgedClean}
+use Rattle.checker.specs.Step.{existentialsIn, Clean, Ready, resolvingReason, resolutionReason, Answers, JudgedReady, stepAnswer}
 
--- A part that comes back as it was.
-pub part-back : (xs ys : List ℕ) (a k : ℕ) → ys ≡ take k (drop a xs) → take a xs ++ (ys ++ drop k (drop a xs)) ≡ xs
-part-back xs ys a k e =
-    ap (λ (zs : List ℕ). take a xs ++ (zs ++ drop k (drop a xs))) e
-    ∙ ap (λ (zs : List ℕ). take a xs ++ zs) (take-append-drop k (drop a xs))
-    ∙ take-append-drop a xs
-
--- Making a row leaves the checker's own part, and needs no more scratch than there is.
-pub row-kept : (F : Formula) (u : ℕ) (scratch scratch′ : List ℕ) → RowMade F u scratch scratch′ → drop own scratch′ ≡ drop own scratch
-row-kept F u scratch scratch′ h = sym (own-part scratch′) ∙ h .kept ∙ own-part scratch
-
-pub clean-bound : (scratch scratch′ : List ℕ) → Clean scratch → length scratch′ ≡ length scratch → scratchBound ≤ length scratch′
-clean-bound scratch scratch′ c l = let e = c .size in omega arith
+-- The marks, lent and given back: what is behind them stands as it was.
+module _ (scratch bytes : List ℕ) (size : length bytes ≡ rowAt) where
+  pub front-judged : {reason : Option Reason} {r : Judgement} → JudgedClean reason r (marksIn bytes) → Answers reason r scratch (bytes ++ drop rowAt scratch)
+  front-judged h =
+      record {
+        answer = h .answer;
+        marks = ap marksIn (take-at bytes (drop rowAt scratch) rowAt size) ∙ h .wiped;
+        kept = drop-at bytes (drop rowAt scratch) rowAt size;
+      }
 
 module _ (prefix : List ℤ) (scratch : List ℕ) (ready : Ready prefix scratch) where
   pub ready-clean : Clean scratch
-  ready-clean =
+  ready-clean = record { size = ready .size; marks = ready .marks }
+
+  -- An answer leaves the scratch ready.
+  pub ready-again : {reason : Option Reason} {r : Judgement} {scratch′ : List ℕ} → Answers reason r scratch scratch′ → Ready prefix scratch′
+  ready-again {scratch′ = scratch′} h =
       record {
-        size = ready .size;
-        marks = ap (take 2050) (ready .later) ∙ take-at clean (kindsOf prefix) 2050 (length-replicate {A = ℕ} 2050 0);
+        size = let k = ap length (h .kept) in let a = length-drop rowAt scratch′ in let b = length-drop rowAt scratch in let e = ready .size in omega arith;
+        marks = h .marks;
+        existentials =
+            ap (λ (l : List ℕ). flags (take 128 l)) (sym (drop-drop 128 rowAt scratch′) ∙ ap (drop 128) (h .kept) ∙ drop-drop 128 rowAt scratch)
+            ∙ ready .existentials;
       }
 
-  pub ready-kinds : kindsIn scratch ≡ kindsOf prefix
-  ready-kinds =
-      ap (take 1025) (sym (drop-drop 2050 own scratch) ∙ ap (drop 2050) (ready .later) ∙ drop-at clean (kindsOf prefix) 2050 (length-replicate {A = ℕ} 2050 0))
-      ∙ take-all 1025 (kindsOf prefix) (let e = length-kinds prefix in omega arith)
+-- The existentials filled in behind the row: the scratch is ready where the marks were 0, and the row stands as it was.
+module _ (prefix : List ℤ) (scratch bytes : List ℕ) (size : length scratch ≡ smallBound) (part : length bytes ≡ length (take 128 (drop later scratch))) where
+  abbrev filled : List ℕ
+  filled = take later scratch ++ (bytes ++ drop 128 (drop later scratch))
 
-  pub ready-kept : (scratch′ : List ℕ) → length scratch′ ≡ length scratch → drop own scratch′ ≡ drop own scratch → Ready prefix scratch′
-  ready-kept scratch′ l k = record { size = l ∙ ready .size; later = k ∙ ready .later }
+  before-length : length (take later scratch) ≡ later
+  before-length = length-take-le later scratch (omega arith)
+
+  pub filled-ready : take rowAt scratch ≡ replicate rowAt 0 → flags bytes ≡ existentialsOf prefix → Ready prefix filled
+  filled-ready front e =
+      record {
+        size = same-len-mid later 128 scratch bytes part ∙ size;
+        marks =
+            ap marksIn (take-append-le rowAt (take later scratch) (bytes ++ drop 128 (drop later scratch)) (omega (arith, before-length)) ∙ take-take rowAt later scratch (omega arith) ∙ front)
+            ∙ marks-cleared;
+        existentials =
+            ap (λ (l : List ℕ). flags (take 128 l)) (drop-at (take later scratch) (bytes ++ drop 128 (drop later scratch)) later before-length)
+            ∙ ap flags (take-at bytes (drop 128 (drop later scratch)) 128 (part ∙ mid-len later 512 scratch (omega arith)))
+            ∙ e;
+      }
+
+  row-before : (rest : List ℕ) → take 128 (drop rowAt (take later scratch ++ rest)) ≡ take 128 (drop rowAt (take later scratch))
+  row-before rest =
+      ap (take 128) (drop-append-le rowAt (take later scratch) rest (omega (arith, before-length)))
+      ∙ take-append-le 128 (drop rowAt (take later scratch)) rest (omega (arith, before-length, length-drop rowAt (take later scratch)))
+
+  pub filled-row : rowIn filled ≡ rowIn scratch
+  unfolding rowIn
+  filled-row =
+      ap {B = List ℕ} (λ (l : List ℕ). 0 ∷ flags l)
+      (row-before (bytes ++ drop 128 (drop later scratch))
+      ∙ sym (row-before (drop later scratch))
+      ∙ ap (λ (l : List ℕ). take 128 (drop rowAt l)) (take-append-drop later scratch))
 
 -- A numbered clause by its number.
 pub stored-by-number :
@@ -95,42 +125,22 @@ module _ (prefix clauses : List ℤ) (a : Admitted prefix clauses) where
       go false = refl
   resolving (negsuc n) C D L = refl
 
-  pub resolution-judged : (e : ℤ) (L : Words) (A B : Option Words) → resolutionReason (kindsOf prefix) e L A B ≡ judgeResolution (scopeOf prefix clauses) e L A B
+  pub resolution-judged : (e : ℤ) (L : Words) (A B : Option Words) → resolutionReason (existentialsOf prefix) e L A B ≡ judgeResolution (scopeOf prefix clauses) e L A B
   unfolding judgeResolution
   resolution-judged e L none B = refl
   resolution-judged e L (some C) none = refl
   resolution-judged e L (some C) (some D) = ap (λ (f : VariableFit). resolvingReason f C D L) (existential-fit prefix clauses a e) ∙ resolving e C D L
 
-  reducing : (x : ℤ) (C L : Words) (b : Bool) → reducingReason (scopeOf prefix clauses) (variableFit b (natAbs x)) x C L ≡ demand (b && holds x C) WrongPivot (freeReason (scopeOf prefix clauses) (natAbs x) x C L)
-  reducing x C L true = refl
-  reducing x C L false = refl
-
-  pub reduction-judged : (x : ℤ) (L : Words) (A : Option Words) → reductionReason (scopeOf prefix clauses) (kindsOf prefix) x L A ≡ judgeReduction (scopeOf prefix clauses) x L A
-  unfolding judgeReduction
-  reduction-judged x L none = refl
-  reduction-judged x L (some C) =
-      ap (λ (f : VariableFit). reducingReason (scopeOf prefix clauses) f x C L) (universal-fit prefix clauses a x)
-      ∙ reducing x C L (quantifies universal (prefixOf prefix) (natAbs x))
-
-  -- The answers of the two kinds, with the kinds of the variables in the scratch.
-  module _ (scratch : List ℕ) (ready : Ready prefix scratch) (known : List Words) (r : Judgement) (scratch′ : List ℕ) where
-    pub resolution-answers :
-        (i j e : ℤ) (L : Words) → Answers (resolutionReason (kindsIn scratch) e L (antecedent known i) (antecedent known j)) r scratch scratch′
-        → Answers (judge (scopeOf prefix clauses) known (resolution i j e L)) r scratch scratch′
-    resolution-answers i j e L h =
-        record {
-          answer = (rw (ready-kinds prefix scratch ready) at (h .answer)) ∙ ap judgementOf (resolution-judged e L (antecedent known i) (antecedent known j));
-          kept = h .kept;
-        }
-
-    pub reduction-answers :
-        (i x : ℤ) (L : Words) → Answers (reductionReason (scopeOf prefix clauses) (kindsIn scratch) x L (antecedent known i)) r scratch scratch′
-        → Answers (judge (scopeOf prefix clauses) known (reduction i x L)) r scratch scratch′
-    reduction-answers i x L h =
-        record {
-          answer = (rw (ready-kinds prefix scratch ready) at (h .answer)) ∙ ap judgementOf (reduction-judged x L (antecedent known i));
-          kept = h .kept;
-        }
+  -- The answer to a resolution, with the existentials in the scratch.
+  pub resolution-answers :
+      (scratch : List ℕ) → Ready prefix scratch → (known : List Words) (r : Judgement) (scratch′ : List ℕ) (i j e : ℤ) (L : Words)
+      → Answers (resolutionReason (existentialsIn scratch) e L (antecedent known i) (antecedent known j)) r scratch scratch′
+      → JudgedReady prefix (judge (scopeOf prefix clauses) known (resolution i j e L)) r scratch′
+  resolution-answers scratch ready known r scratch′ i j e L h =
+      record {
+        answer = (rw (ready .existentials) at (h .answer)) ∙ ap judgementOf (resolution-judged e L (antecedent known i) (antecedent known j));
+        ready = ready-again prefix scratch ready h;
+      }
 
 -- The step's answer, by what was read and judged.
 module _ (S : Scope) (room : ℕ) (known : List Words) (ws : Words) (at : ℕ) where

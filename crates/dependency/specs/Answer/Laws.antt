@@ -125,12 +125,12 @@ asked-step asked row i h =
     ∙ set-at (askedBytes asked i) (getD row i 0) (drop (suc i) row) (askedByte asked i) i (asked-length asked i)
     ∙ sym (append-snoc (askedBytes asked i) (askedByte asked i) (drop (suc i) row))
 
-module _ (F : Formula) (u : ℕ) (scratch scratch′ : List ℕ) (made : RowMade F u scratch scratch′) where
-  asked-below : (n : ℕ) → n ≤ 1025 → askedBytes (rowIn scratch′) n ≡ rowBelow F u n
+module _ (F : Formula) (u : ℕ) (row : List ℕ) (is : row ≡ rowOf F u) where
+  asked-below : (n : ℕ) → n ≤ 1025 → askedBytes row n ≡ rowBelow F u n
   unfolding askedBytes rowBelow
   asked-below zero h = refl
-  asked-below (suc n) h = rw (asked-below n (omega arith), row-depends F u scratch scratch′ made n (omega arith))
+  asked-below (suc n) h = rw (asked-below n (omega arith), row-depends F u row is n (omega arith))
 
-  pub asked-row : askedBytes (rowIn scratch′) 1025 ≡ rowOf F u
+  pub asked-row : askedBytes row 1025 ≡ rowOf F u
   unfolding rowOf
   asked-row = asked-below 1025 (omega arith)

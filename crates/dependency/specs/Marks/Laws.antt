@@ -1,5 +1,5 @@
 -- What a word does by the place of its literal, and of the opposite one, among the marks: seen or reached there, nothing where
--- the place is 0; entries of two variables settle what is known of a clause. Definitions: Marks. Assumes nothing.
+-- the place is under 2; entries of two variables settle what is known of a clause, and none reach nothing. Definitions: Marks. Assumes nothing.
 use Prim.Native.Nat.{ℕ, _*_, _+_, _/_, _<_}
 use mathlib.Core.Path.{_≡_, refl, ap, _∙_}
 use mathlib.Core.Logic.{inl, inr}
@@ -11,7 +11,7 @@ use lib.Dec.{ltb, eqb}
 use lib.IntN.{ℤ, negℤ}
 use Rattle.formula.specs.Word.{wordOf, slot, slotOf, opposite}
 use Rattle.formula.specs.Word.Laws.{Recognised, nothing, names, recognised, opposite-word, slot-bound}
-use Rattle.dependency.specs.Marks.{select, several, seeAt, seeWord, clauseEntry, reachAt, reachWord}
+use Rattle.dependency.specs.Marks.{select, several, seeAt, seeWord, clauseEntry, reachAt, reachWord, reachClause}
 use Rattle.formula.specs.declared.word.Word.{Word}
 use Rattle.formula.specs.declared.word.Word.the-variants.{Zero, TooLarge, Positive, Negative}
 
@@ -24,9 +24,9 @@ half-even v = omega arith
 half-odd : (v : ℕ) → (2 * v + 1) / 2 ≡ v
 half-odd v = omega arith
 
--- A word whose place is 0 is no literal.
+-- A word whose place is under 2 is no literal.
 module _ (w : ℤ) (m : List ℕ) (n : ℕ) where
-  pub see-nothing : slotOf (wordOf w) ≡ 0 → n ≡ seeWord m (wordOf w) n
+  pub see-nothing : slotOf (wordOf w) < 2 → n ≡ seeWord m (wordOf w) n
   unfolding seeWord
   see-nothing h = go (recognised w)
     where
@@ -36,7 +36,7 @@ module _ (w : ℤ) (m : List ℕ) (n : ℕ) where
       go (names v true o b e q) = let k = rw e at h in absurd (omega arith)
       go (names v false o b e q) = let k = rw e at h in absurd (omega arith)
 
-  pub reach-nothing : slotOf (opposite (wordOf w)) ≡ 0 → m ≡ reachWord n (wordOf w) m
+  pub reach-nothing : slotOf (opposite (wordOf w)) < 2 → m ≡ reachWord n (wordOf w) m
   unfolding reachWord
   reach-nothing h = go (recognised w)
     where
@@ -82,3 +82,20 @@ pub clause-entry-several : (m : List ℕ) (C : List ℤ) → clauseEntry m sever
 unfolding clauseEntry
 clause-entry-several m [] = refl
 clause-entry-several m (w ∷ C) = ap (λ (n : ℕ). clauseEntry m n C) (see-word-several m (wordOf w)) ∙ clause-entry-several m C
+
+-- A clause without entries reaches nothing.
+reach-at-none : (v at : ℕ) (m : List ℕ) → reachAt 0 v at m ≡ m
+unfolding reachAt
+reach-at-none v at m = refl
+
+reach-word-none : (w : Word) (m : List ℕ) → reachWord 0 w m ≡ m
+unfolding reachWord
+reach-word-none Zero m = refl
+reach-word-none TooLarge m = refl
+reach-word-none (Positive v) m = reach-at-none (v .0) (slot (v .0) false) m
+reach-word-none (Negative v) m = reach-at-none (v .0) (slot (v .0) true) m
+
+pub reach-clause-none : (C : List ℤ) (m : List ℕ) → reachClause 0 C m ≡ m
+unfolding reachClause
+reach-clause-none [] m = refl
+reach-clause-none (w ∷ C) m = ap (reachClause 0 C) (reach-word-none (wordOf w) m) ∙ reach-clause-none C m

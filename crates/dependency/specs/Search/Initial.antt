@@ -132,6 +132,14 @@ module _ (M : Matrix) (P : Prefix) (ranged : InRange P) (u : ℕ) (s : Bool) (ra
   slot-small true = let e = opened-size in let r = range .1 in omega arith
   slot-small false = let e = opened-size in let r = range .1 in omega arith
 
+  -- the literals of u itself may not be passed
+  pub source-closed : (t : Bool) → getD opened (slot u t) 0 ≡ 0
+  source-closed t = go (opened-byte (literal u t))
+    where
+      go : (List·Memᴰ u (existentials P) × (byte opened (literal u t) ≡ 1)) ⊎ (byte opened (literal u t) ≡ 0) → getD opened (slot u t) 0 ≡ 0
+      go (inl k) = absurd (apart (k .0))
+      go (inr e) = e
+
   pub start-kept : Kept M (existentials P) (literal u s) (set opened (slot u s) 3)
   start-kept =
       record {

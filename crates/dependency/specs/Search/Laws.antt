@@ -21,10 +21,9 @@ use Rattle.formula.specs.Decode.{clausesOf, clauseOf, formulaOf}
 use Rattle.dependency.specs.Search.{openEntries, Settled, Searched}
 use Rattle.dependency.specs.Search.Invariant.{Kept, passes-kept}
 use Rattle.dependency.specs.Search.Closed.{Ranged, paths-reached}
-use Rattle.dependency.specs.Search.Initial.{start-kept}
+use Rattle.dependency.specs.Search.Initial.{source-closed, start-kept}
 
-module _ (p c : List ℤ) (admitted : Admitted p c) (u : ℕ) (range : Ranged u) (s : Bool) (m : List ℕ)
-    (settled : Settled (clausesOf c) (set (openEntries (after u (prefixOf p)) (replicate 2050 0)) (slot u s) 3) m) where
+module _ (p c : List ℤ) (admitted : Admitted p c) (u : ℕ) (range : Ranged u) where
   abbrev X : List ℕ
   X = passable (formulaOf p c) u
 
@@ -35,27 +34,32 @@ module _ (p c : List ℤ) (admitted : Admitted p c) (u : ℕ) (range : Ranged u)
   X-apart : List·Memᴰ u X → ⊥
   X-apart i = right-asymmetric (prefixOf p) (admitted-proper p c admitted .prefix-distinct) u u (X-right u i) (X-right u i)
 
-  X-range : (v : ℕ) → List·Memᴰ v X → Ranged v
+  pub X-range : (v : ℕ) → List·Memᴰ v X → Ranged v
   X-range v i =
       let x = Memᴰ·of-map (λ (x : Entry). x .variable) (prefixOf p) (after-within u (prefixOf p) (X-right v i)) in
       rw (x .2) at (admitted-entries p c admitted .ranged (x .0) (x .1))
 
-  kept : Kept (map clauseOf (clausesOf c)) X (literal u s) m
-  kept =
-      subst (λ (k : List ℕ). Kept (map clauseOf (clausesOf c)) X (literal u s) k) (sym (settled .passed))
-      (passes-kept (map clauseOf (clausesOf c)) X (literal u s) (settled .count) (clausesOf c) (set (openEntries (after u (prefixOf p)) (replicate 2050 0)) (slot u s) 3)
-      (λ C i. Memᴰ·map clauseOf i)
-      (start-kept (map clauseOf (clausesOf c)) (after u (prefixOf p)) X-range u s range X-apart))
+  -- the mark of a literal of u before it is set
+  pub source-open : (s : Bool) → getD (openEntries (after u (prefixOf p)) (replicate 2050 0)) (slot u s) 0 ≡ 0
+  source-open s = source-closed (map clauseOf (clausesOf c)) (after u (prefixOf p)) X-range u s range X-apart s
 
-  pub searched : Searched (formulaOf p c) u s m
-  searched =
-      record {
-        size = kept .size;
-        reached = λ e t i q. paths-reached (clausesOf c) X (literal u s) m kept (settled .back) (settled .still) range X-range (literal e t) q i;
-        only = λ e t h. only′ e t h;
-      }
-    where
-      only′ : (e : ℕ) (t : Bool) → getD m (slot e (not t)) 0 ≡ 2 → List·Memᴰ e X × Path (map clauseOf (clausesOf c)) X (literal u s) (literal e t)
-      only′ e t h =
-          let r = kept .reached (literal e (not t)) h in
-          (r .0, subst (λ (l : Literal). Path (map clauseOf (clausesOf c)) X (literal u s) l) (neg-neg (literal e t)) (r .1))
+  module _ (s : Bool) (m : List ℕ) (settled : Settled (clausesOf c) (set (openEntries (after u (prefixOf p)) (replicate 2050 0)) (slot u s) 3) m) where
+    kept : Kept (map clauseOf (clausesOf c)) X (literal u s) m
+    kept =
+        subst (λ (k : List ℕ). Kept (map clauseOf (clausesOf c)) X (literal u s) k) (sym (settled .passed))
+        (passes-kept (map clauseOf (clausesOf c)) X (literal u s) (settled .count) (clausesOf c) (set (openEntries (after u (prefixOf p)) (replicate 2050 0)) (slot u s) 3)
+        (λ C i. Memᴰ·map clauseOf i)
+        (start-kept (map clauseOf (clausesOf c)) (after u (prefixOf p)) X-range u s range X-apart))
+
+    pub searched : Searched (formulaOf p c) u s m
+    searched =
+        record {
+          size = kept .size;
+          reached = λ e t i q. paths-reached (clausesOf c) X (literal u s) m kept (settled .back) (settled .still) range X-range (literal e t) q i;
+          only = λ e t h. only′ e t h;
+        }
+      where
+        only′ : (e : ℕ) (t : Bool) → getD m (slot e (not t)) 0 ≡ 2 → List·Memᴰ e X × Path (map clauseOf (clausesOf c)) X (literal u s) (literal e t)
+        only′ e t h =
+            let r = kept .reached (literal e (not t)) h in
+            (r .0, subst (λ (l : Literal). Path (map clauseOf (clausesOf c)) X (literal u s) l) (neg-neg (literal e t)) (r .1))

@@ -16,7 +16,7 @@ use Rattle.formula.specs.Text.{read, refused, reading}
 use Rattle.formula.specs.Text.Admits.{read-admitted}
 use Rattle.formula.specs.declared.refusal.Refusal.{Refusal}
 use Rattle.formula.specs.declared.refusal.Reason.the-variants.{Oversized}
-use Rattle.dependency.specs.Scratch.{rowIn, RowMade}
+use Rattle.dependency.specs.Row.{rowOf}
 use Rattle.dependency.specs.Scratch.Laws.{row-depends}
 use Rattle.report.specs.Line.{refusedLine, settled}
 use Rattle.report.specs.Check.{Room}
@@ -42,14 +42,14 @@ module _ (ws : List ℤ) (i : ℕ) (h : i < entryCount ws) where
   universal-at u e = quantifies-complete universal (prefixOf ws) u (rw e at (entry-member ws i h))
 
 -- The line by a row that was made is the universal's.
-module _ (F : Formula) (u : ℕ) (scratch scratch′ : List ℕ) (made : RowMade F u scratch scratch′) where
-  marked-row : (P : Prefix) → ((x : Entry) → List·Memᴰ x P → x .variable ≤ 1024) → marked (rowIn scratch′) P ≡ dependents F u P
+module _ (F : Formula) (u : ℕ) (row : List ℕ) (is : row ≡ rowOf F u) where
+  marked-row : (P : Prefix) → ((x : Entry) → List·Memᴰ x P → x .variable ≤ 1024) → marked row P ≡ dependents F u P
   unfolding marked dependents
   marked-row [] small = refl
   marked-row (x ∷ P) small =
-      rw (row-depends F u scratch scratch′ made (x .variable) (small x (List·Memᴰ·head refl)), marked-row P (λ y m. small y (List·Memᴰ·tail m)))
+      rw (row-depends F u row is (x .variable) (small x (List·Memᴰ·head refl)), marked-row P (λ y m. small y (List·Memᴰ·tail m)))
 
-  pub row-line-is : (ws : List ℤ) → Entries ws → rowLine (rowIn scratch′) (prefixOf ws) u ≡ universalLine F (prefixOf ws) u
+  pub row-line-is : (ws : List ℤ) → Entries ws → rowLine row (prefixOf ws) u ≡ universalLine F (prefixOf ws) u
   unfolding rowLine universalLine
   row-line-is ws h = rw (marked-row (prefixOf ws) (λ x m. h .ranged x m .1))
 

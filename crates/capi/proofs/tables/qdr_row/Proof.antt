@@ -8,30 +8,10 @@ use Rattle.capi.proofs.tables.qdr_row.Tie as tie
 
 returns : tie.Need-returns
 returns c =
-    let made = c .before .before .before .before .before .before .before .before in
-    let v = made .before .before .before .before .before .args .variable in
+    let made = c .before .before .before .before .before in
+    let v = made .before .before .before .before .before .before .args .variable in
     let e : toZ w32 (ofZ w32 v) ≡ v = search needs in
-    record { answer = made .dependency-row .result; promised = rw e at (made .dependency-row .ensures); told = rw (c .before .before .enum-told .given .1) (c .accept .ensures) }
-
-returns-2 : tie.Need-returns-2
-returns-2 c =
-    let made = c .before .before .before .before .before .before .before .before .before in
-    let v = made .before .before .before .before .before .args .variable in
-    let e : toZ w32 (ofZ w32 v) ≡ v = search needs in
-    record { answer = made .dependency-row .result; promised = rw e at (made .dependency-row .ensures); told = rw (c .before .before .before .r .given .1) (c .refuse .ensures) }
+    record { answer = made .dependency-row .result; promised = rw e at (made .dependency-row .ensures); told = c .tell-row .ensures }
 
 pub qdr-row-spec : {M : Type 1} → statement M
-qdr-row-spec =
-    tie.close
-    (tie.spec
-    (λ c κs. search needs)
-    (λ c. search needs)
-    (λ c κs. search needs)
-    (λ c. search needs)
-    (λ c κs. search needs)
-    (λ c. search needs)
-    (λ c. search needs)
-    returns
-    (λ c. search needs)
-    (λ c. search needs)
-    returns-2)
+qdr-row-spec = tie.close (tie.spec (λ c κs. search needs) (λ c κs. search needs) (λ c. search needs) (λ c. search needs) returns)

@@ -34,7 +34,7 @@ returns c =
 word-touches-requires : tie.Need-word-touches-requires Inv-loop μ-loop
 word-touches-requires c κs = c .before .before .before .before .before .before .pre
 
--- the word at the place, and its byte
+-- the word at the place, and its flag
 literal-at :
     (c : tie.After-word-touches Inv-loop μ-loop)
     → clauseAt (c .before .before .before .before .before .before .before .args .words .now) (c .before .before .before .before .before .loop .i) ≡ getD (c .before .before .before .before .before .before .before .args .words .now) (c .before .before .before .before .before .loop .i) (pos 0) ∷ clauseAt (c .before .before .before .before .before .before .before .args .words .now) (c .before .before .before .before .before .loop .i + 1)
@@ -43,10 +43,10 @@ literal-at c =
     let words = at .before .before .args .words .now in
     clause-literal words (at .loop .i) (search needs) (read-zero (getD words (at .loop .i) (pos 0)) (c .before .before .before .word .given) (c .before .before .is-zero .ensures) (c .before .if1 .left))
 
-byte-at :
+flag-at :
     (c : tie.After-word-touches Inv-loop μ-loop)
     → c .word-touches .result ≡ eqb (getD (rowIn (c .before .before .before .before .before .before .before .args .scratch .now)) (natAbs (getD (c .before .before .before .before .before .before .before .args .words .now) (c .before .before .before .before .before .loop .i) (pos 0))) 0) 1
-byte-at c =
+flag-at c =
     let at = c .before .before .before .before .before in
     let word = getD (at .before .before .args .words .now) (at .loop .i) (pos 0) in
     let e : toZ w32 (ofZ w32 word) ≡ word = read-back word (c .before .before .before .word .given) in
@@ -56,13 +56,13 @@ returns-2 : tie.Need-returns-2 Inv-loop μ-loop
 unfolding touches
 returns-2 c =
     let at = c .before .before .before .before .before .before in
-    sym (at .loop .inv ∙ rw (literal-at (c .before), ← byte-at (c .before), c .if2 .taken))
+    sym (at .loop .inv ∙ rw (literal-at (c .before), ← flag-at (c .before), c .if2 .taken))
 
 loop-again : tie.Need-loop-again Inv-loop μ-loop
 unfolding touches
 loop-again c =
     let at = c .before .before .before .before .before .before in
-    at .loop .inv ∙ rw (literal-at (c .before), ← byte-at (c .before), c .if2 .left)
+    at .loop .inv ∙ rw (literal-at (c .before), ← flag-at (c .before), c .if2 .left)
 
 returns-3 : tie.Need-returns-3 Inv-loop μ-loop
 unfolding touches

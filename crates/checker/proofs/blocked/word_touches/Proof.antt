@@ -1,4 +1,4 @@
--- `word_touches` asks the row of the word's variable; a magnitude past the row has no byte there. Assumes nothing.
+-- `word_touches` asks the row of the word's variable; a magnitude past the row has no flag there. Assumes nothing.
 use Prim.Native.Nat.{ℕ}
 use mathlib.Core.Path.{_≡_, ap, _∙_}
 use borrow.Author.Needs.{needs}

@@ -10,14 +10,14 @@ use mir.Syntax.{w32}
 use mir.Val.{toZ, ofZ}
 use Rattle.formula.specs.Decode.{clauseAt}
 use Rattle.formula.specs.Decode.Places.{clause-past, clause-zero, clause-literal}
-use Rattle.checker.specs.Marks.{alone, Ticked}
+use Rattle.checker.specs.Marks.{marksIn, alone, Ticked}
 use Rattle.checker.specs.Marks.Laws.{TicksOn, tick-turns, tick-stops, tick-ends}
 use Rattle.checker.proofs.Signed.{read-zero, read-back}
 use Rattle.checker.proofs.marks.tick.Statement.{statement}
 use Rattle.checker.proofs.marks.tick.Tie as tie
 
 abbrev Inv-loop : tie.InvT-loop
-Inv-loop words from marks₀ i₀ marks i = TicksOn marks₀ (clauseAt words from) marks (clauseAt words i) × (length marks ≡ length marks₀)
+Inv-loop words from marks₀ i₀ marks i = TicksOn (marksIn marks₀) (clauseAt words from) (marksIn marks) (clauseAt words i) × (length marks ≡ length marks₀)
 
 abbrev μ-loop : tie.MeasureT-loop
 μ-loop words from marks₀ i₀ marks i = length words - i
@@ -27,8 +27,8 @@ loop-holds c = ((refl, refl), refl)
 
 ends-at :
     (c : tie.At-loop Inv-loop μ-loop) → clauseAt (c .before .before .args .words .now) (c .loop .i) ≡ []
-    → Ticked (c .before .before .args .marks .now) (clauseAt (c .before .before .args .words .now) (c .before .before .args .from)) true (c .loop .marks)
-ends-at c d = tick-ends _ _ (c .loop .marks) (clauseAt (c .before .before .args .words .now) (c .loop .i)) d (c .loop .inv .0)
+    → Ticked (marksIn (c .before .before .args .marks .now)) (clauseAt (c .before .before .args .words .now) (c .before .before .args .from)) true (marksIn (c .loop .marks))
+ends-at c d = tick-ends _ _ (marksIn (c .loop .marks)) (clauseAt (c .before .before .args .words .now) (c .loop .i)) d (c .loop .inv .0)
 
 returns : tie.Need-returns Inv-loop μ-loop
 returns c =
@@ -50,7 +50,7 @@ literal-at c =
 
 ticked-at :
     (c : tie.After-tick-word Inv-loop μ-loop)
-    → Ticked (c .before .before .before .before .before .before .loop .marks) (alone (getD (c .before .before .before .before .before .before .before .before .args .words .now) (c .before .before .before .before .before .before .loop .i) (pos 0))) (c .tick-word .result) (c .tick-word .last .1 .0)
+    → Ticked (marksIn (c .before .before .before .before .before .before .loop .marks)) (alone (getD (c .before .before .before .before .before .before .before .before .args .words .now) (c .before .before .before .before .before .before .loop .i) (pos 0))) (c .tick-word .result) (marksIn (c .tick-word .last .1 .0))
 ticked-at c =
     let at = c .before .before .before .before .before .before in
     let word = getD (at .before .before .args .words .now) (at .loop .i) (pos 0) in
@@ -61,7 +61,7 @@ loop-again : tie.Need-loop-again Inv-loop μ-loop
 loop-again c =
     let called = c .before .before .before in
     let at = called .before .before .before .before .before .before in (
-      tick-turns _ _ (at .loop .marks) (called .tick-word .last .1 .0) _ _ (clauseAt (at .before .before .args .words .now) (at .loop .i + 1)) (literal-at called) (rw (c .if2 .taken) at (ticked-at called)) (at .loop .inv .0),
+      tick-turns _ _ (marksIn (at .loop .marks)) (marksIn (called .tick-word .last .1 .0)) _ _ (clauseAt (at .before .before .args .words .now) (at .loop .i + 1)) (literal-at called) (rw (c .if2 .taken) at (ticked-at called)) (at .loop .inv .0),
       called .tick-word .kept .1 .0 ∙ at .loop .inv .1,
     )
 
@@ -75,7 +75,7 @@ returns-2 : tie.Need-returns-2 Inv-loop μ-loop
 returns-2 c =
     let called = c .before .before .before in
     let at = called .before .before .before .before .before .before in
-    tick-stops _ _ (at .loop .marks) (called .tick-word .last .1 .0) _ _ (clauseAt (at .before .before .args .words .now) (at .loop .i + 1)) (literal-at called) (rw (c .if2 .left) at (ticked-at called)) (at .loop .inv .0)
+    tick-stops _ _ (marksIn (at .loop .marks)) (marksIn (called .tick-word .last .1 .0)) _ _ (clauseAt (at .before .before .args .words .now) (at .loop .i + 1)) (literal-at called) (rw (c .if2 .left) at (ticked-at called)) (at .loop .inv .0)
 
 returns-3 : tie.Need-returns-3 Inv-loop μ-loop
 returns-3 c = ends-at (c .before) (clause-past (c .before .before .before .args .words .now) (c .before .loop .i) (search needs))

@@ -1,37 +1,39 @@
 -- `judge_steps`: the scratch is made ready, the offsets are filled, the run is concluded. Assumes nothing.
 use Prim.Native.Nat.{ℕ}
-use mathlib.Core.Path.{_≡_, sym, _∙_}
+use mathlib.Core.Path.{_≡_, ap, sym, _∙_}
 use mathlib.Core.List.{List, _++_}
 use native.Mathlib.Omega.{arith}
-use lib.ListN.{length, take, drop}
+use lib.ListN.{length, take, drop, replicate}
 use Rattle.formula.specs.Decode.{clausesOf}
 use Rattle.formula.specs.Tables.Laws.{admitted-entries, admitted-clauses-length, admitted-closed}
-use borrow.Rule.Slice.PartMut.{same-len-mid, mid-len}
 use Rattle.checker.specs.declared.run.Run.the-variants.{Ended}
 use Rattle.checker.specs.Step.{Ready}
+use Rattle.checker.specs.Step.Laws.{filled-ready}
 use Rattle.checker.specs.Run.{RunDone}
-use Rattle.checker.specs.Verdict.Parts.{made-ready}
 use Rattle.checker.proofs.proof.judge_steps.Statement.{statement}
 use Rattle.checker.proofs.proof.judge_steps.Tie as tie
 
+-- the scratch, cleared
+cleared-at : (c : tie.After-clear-lent) → c .clear-lent .last .0 ≡ replicate 640 0
+cleared-at c = c .clear-lent .ensures .0 ∙ ap (λ (n : ℕ). replicate {A = ℕ} n 0) (c .before .before .before .before .before .pre .1 .1 .1 .0)
+
+cleared-size : (c : tie.After-clear-lent) → length (c .clear-lent .last .0) ≡ 640
+cleared-size c = c .clear-lent .kept .0 ∙ c .before .before .before .before .before .pre .1 .1 .1 .0
+
 -- the scratch before the run
 abbrev filled-at : (c : tie.After-fill-offsets) → List ℕ
-filled-at c = let cleared = c .before .before .before .before .before .before .before .before .before .before .clear-lent .last .0 in take 7175 cleared ++ (c .before .before .before .before .fill-kinds .last .1 .0 ++ drop 1025 (drop 7175 cleared))
+filled-at c = let cleared = c .before .before .before .before .before .before .before .before .before .before .clear-lent .last .0 in take 384 cleared ++ (c .before .before .before .before .fill-existentials .last .1 .0 ++ drop 128 (drop 384 cleared))
 
-ready-at : (c : tie.After-fill-offsets) → Ready (c .before .before .before .before .before .before .before .before .before .before .before .before .before .before .before .args .prefix .now) (take 8200 (filled-at c))
+ready-at : (c : tie.After-fill-offsets) → Ready (c .before .before .before .before .before .before .before .before .before .before .before .before .before .before .before .args .prefix .now) (filled-at c)
 ready-at c =
-    let start = c .before .before .before .before .before .before .before .before .before .before .before .before .before .before .before in
+    let filled = c .before .before .before .before in
     let cleared = c .before .before .before .before .before .before .before .before .before .before in
-    made-ready (start .args .prefix .now) (start .args .scratch .now) (cleared .clear-lent .last .0) (c .before .before .before .before .fill-kinds .last .1 .0) (start .pre .1 .1 .1 .0) (cleared .clear-lent .ensures .0) (c .before .before .before .before .fill-kinds .ensures)
+    filled-ready (c .before .before .before .before .before .before .before .before .before .before .before .before .before .before .before .args .prefix .now) (cleared .clear-lent .last .0) (filled .fill-existentials .last .1 .0) (cleared-size cleared) (filled .fill-existentials .kept .1 .0) (ap (take 256) (cleared-at cleared)) (filled .fill-existentials .ensures)
 
--- the scratch keeps its length, before the run and after it
-filled-size : (c : tie.After-fill-offsets) → length (filled-at c) ≡ length (c .before .before .before .before .before .before .before .before .before .before .before .before .before .before .before .args .scratch .now)
-filled-size c = same-len-mid 7175 1025 (c .before .before .before .before .before .before .before .before .before .before .clear-lent .last .0) (c .before .before .before .before .fill-kinds .last .1 .0) (c .before .before .before .before .fill-kinds .kept .1 .0) ∙ c .before .before .before .before .before .before .before .before .before .before .clear-lent .kept .0
+-- the scratch and the offsets keep their lengths
+scratch-at : (c : tie.After-run-steps) → length (c .run-steps .last .1 .1 .1 .1 .0) ≡ length (c .before .before .before .before .before .before .before .before .before .before .before .before .before .before .before .before .before .before .before .before .args .scratch .now)
+scratch-at c = c .run-steps .kept .1 .1 .1 .1 .0 ∙ ready-at (c .before .before .before .before .before) .size ∙ sym (c .before .before .before .before .before .before .before .before .before .before .before .before .before .before .before .before .before .before .before .before .pre .1 .1 .1 .0)
 
-scratch-at : (c : tie.After-run-steps) → length (c .run-steps .last .1 .1 .1 .1 .0 ++ drop 8200 (filled-at (c .before .before .before .before .before))) ≡ length (c .before .before .before .before .before .before .before .before .before .before .before .before .before .before .before .before .before .before .before .before .args .scratch .now)
-scratch-at c = same-len-mid 0 8200 (filled-at (c .before .before .before .before .before)) (c .run-steps .last .1 .1 .1 .1 .0) (c .run-steps .kept .1 .1 .1 .1 .0) ∙ filled-size (c .before .before .before .before .before)
-
--- the offsets keep their length
 room-at : (c : tie.After-run-steps) → length (c .run-steps .last .1 .1 .1 .1 .1 .0) ≡ length (c .before .before .before .before .before .before .before .before .before .before .before .before .before .before .before .before .before .before .before .before .args .offsets .now)
 room-at c = c .run-steps .kept .1 .1 .1 .1 .1 .0 ∙ c .before .before .before .before .before .fill-offsets .kept .1 .0 ∙ c .before .before .before .before .before .before .before .before .before .before .before .before .before .before .before .clear-lent .kept .1 .0
 
@@ -39,8 +41,10 @@ room-at c = c .run-steps .kept .1 .1 .1 .1 .1 .0 ∙ c .before .before .before .
 ended-at : (c : tie.After-known-told2) → let start = c .before .before .before .before .before .before .before .before .before .before .before .before .before .before .before .before .before .before .before .before .before .before .before .before .before .before .before in RunDone (start .args .prefix .now) (start .args .clauses .now) (start .args .steps .now) (start .args .inputs) (Ended (c .before .numbered .given .0 .0)) (c .before .before .before .before .before .before .before .run-steps .last .1 .1 .1 .1 .0) (c .before .before .before .before .before .before .before .run-steps .last .1 .1 .1 .1 .1 .0)
 ended-at c = rw (c .before .numbered .given .1) at (c .before .before .before .before .before .before .before .run-steps .ensures)
 
-fill-kinds-requires : tie.Need-fill-kinds-requires
-fill-kinds-requires c κs = let start = c .before .before .before .before .before .before .before .before .before .before in (admitted-entries (start .args .prefix .now) (start .args .clauses .now) (start .pre .0), mid-len 7175 8200 (c .before .before .before .before .before .clear-lent .last .0) (rw (c .before .before .before .before .before .clear-lent .kept .0) (start .pre .1 .1 .1 .0)))
+fill-existentials-requires : tie.Need-fill-existentials-requires
+fill-existentials-requires c κs =
+    let start = c .before .before .before .before .before .before .before .before .before .before in
+    (admitted-entries (start .args .prefix .now) (start .args .clauses .now) (start .pre .0), ap (λ (l : List ℕ). take 128 (drop 384 l)) (cleared-at (c .before .before .before .before .before)))
 
 fill-offsets-requires : tie.Need-fill-offsets-requires
 fill-offsets-requires c κs =
@@ -48,9 +52,6 @@ fill-offsets-requires c κs =
     let prefix = start .args .prefix .now in
     let clauses = start .args .clauses .now in
     (admitted-clauses-length prefix clauses (start .pre .0), omega (arith, admitted-closed prefix clauses (start .pre .0), start .pre .1 .0, start .pre .1 .1 .1 .1, c .before .before .before .before .before .before .before .before .before .clear-lent .kept .1 .0))
-
-slice-aggregate-run-steps : tie.Need-slice-aggregate-run-steps
-slice-aggregate-run-steps c = sym (ready-at (c .before .before .before) .size)
 
 run-steps-requires : tie.Need-run-steps-requires
 run-steps-requires c κs =
@@ -97,11 +98,9 @@ judge-steps-spec =
     (λ c κs. tt)
     (λ c. omega arith)
     (λ c. omega arith)
-    (λ c. rw (c .before .before .before .before .clear-lent .kept .0) (c .before .before .before .before .before .before .before .before .before .pre .1 .1 .1 .0))
-    fill-kinds-requires
+    (λ c. let e = cleared-size (c .before .before .before .before) in omega arith)
+    fill-existentials-requires
     fill-offsets-requires
-    (λ c. rw (filled-size (c .before .before)) (c .before .before .before .before .before .before .before .before .before .before .before .before .before .before .before .before .before .pre .1 .1 .1 .0))
-    slice-aggregate-run-steps
     run-steps-requires
     (λ c. c .match .keys1)
     (λ c. c .match .keys2)

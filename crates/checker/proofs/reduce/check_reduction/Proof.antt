@@ -6,6 +6,7 @@ use mir.Syntax.{w32}
 use mir.Val.{toZ, ofZ}
 use borrow.Author.Needs.{needs}
 use Rattle.formula.specs.Decode.{clauseAt}
+use Rattle.checker.specs.Steps.{judgeReduction}
 use Rattle.checker.specs.Numbered.{numberOf, storedAt}
 use Rattle.checker.specs.Numbered.Laws.{number-range, number-antecedent, number-no-antecedent}
 use Rattle.checker.specs.Step.Laws.{stored-in-range, stored-by-number}
@@ -48,10 +49,11 @@ reduce-fields-requires c κs =
     )
 
 returns : tie.Need-returns
+unfolding judgeReduction
 returns c =
     let start = c .before .before .before .before .before .before in
     let e = number-no-antecedent (start .args .inputs) (start .args .clauses .now) (start .args .steps .now) (start .args .offsets .now) (start .args .numbered) (start .args .step .first) (sym (c .enum-told .given .1) ∙ first-at (c .before .before)) in
-    rw e (record { answer = refl; kept = refl })
+    rw e (record { answer = refl; ready = start .pre .0 })
 
 returns-2 : tie.Need-returns-2
 returns-2 c =

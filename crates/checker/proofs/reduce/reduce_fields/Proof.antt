@@ -6,8 +6,9 @@ use mir.Syntax.{w32}
 use mir.Val.{toZ, ofZ}
 use Rattle.formula.specs.Bounds.{inRange}
 use Rattle.formula.specs.Bounds.Laws.{literal-made, literal-refused}
-use Rattle.checker.specs.Kinds.Laws.{universal-outside}
-use Rattle.checker.specs.Step.{kindsIn}
+use Rattle.formula.specs.Tables.Laws.{admitted-entries}
+use Rattle.checker.specs.Steps.{judgeReduction}
+use Rattle.checker.specs.Existentials.Laws.{universal-outside}
 use Rattle.checker.proofs.reduce.reduce_fields.Statement.{statement}
 use Rattle.checker.proofs.reduce.reduce_fields.Tie as tie
 
@@ -16,12 +17,14 @@ word-back : (c : tie.Start) → toZ w32 (ofZ w32 (c .args .step .pivot)) ≡ c .
 word-back c = search needs
 
 returns : tie.Need-returns
+unfolding judgeReduction
 returns c =
     let start = c .before .before .before .before .before in
+    let prefix = start .args .prefix .now in
     let word = start .args .step .pivot in
     let e = word-back start in
     let none = literal-refused (inRange (natAbs word) 1024) word (rw e at (sym (c .before .before .new .ensures)) ∙ c .enum-told .given .1) in
-    rw (universal-outside (kindsIn (start .args .scratch .now)) word none) (record { answer = refl; kept = refl })
+    rw (universal-outside prefix (admitted-entries prefix (start .args .clauses .now) (start .pre .1 .0)) word none) (record { answer = refl; ready = start .pre .0 })
 
 returns-2 : tie.Need-returns-2
 returns-2 c =

@@ -1,25 +1,22 @@
 -- `reduce_on` makes the row in scratch, asks it of the clause, and names what blocks or judges the result. Assumes nothing.
-use mathlib.Core.Path.{_≡_, refl, ap, sym, _∙_}
-use lib.ListN.{take, drop}
-use Rattle.dependency.specs.Scratch.{own}
-use Rattle.formula.specs.Decode.{clauseAt, formulaOf}
+use mathlib.Core.Path.{_≡_, ap, sym, _∙_}
+use native.Mathlib.Omega.{arith}
+use lib.ListN.{length, take}
+use lib.Seq.{length-take-le}
+use Rattle.dependency.specs.Scratch.{rowIn}
+use Rattle.formula.specs.Decode.{clauseAt}
 use Rattle.formula.specs.Tables.Laws.{admitted-words, admitted-entries}
 use Rattle.formula.specs.declared.refusal.Blocker.{Blocker}
 use Rattle.formula.specs.declared.refusal.Reason.the-variants.{Blocked}
 use borrow.Author.Needs.{needs}
+use borrow.Rule.Slice.PartMut.{same-len-mid}
 use Rattle.checker.specs.Steps.{blocked}
 use Rattle.checker.specs.Verdict.{scopeOf}
 use Rattle.checker.specs.Blocked.Laws.{row-blocked, row-blocker}
 use Rattle.checker.specs.declared.result.Judgement.the-variants.{Wrong}
-use Rattle.checker.specs.Step.Laws.{part-back, row-kept, clean-bound}
+use Rattle.checker.specs.Step.Laws.{front-judged, ready-again}
 use Rattle.checker.proofs.reduce.reduce_on.Statement.{statement}
 use Rattle.checker.proofs.reduce.reduce_on.Tie as tie
-
--- the checker's own part stays
-kept-at : (c : tie.After-make-row) → drop own (c .make-row .last .1 .1 .1 .0) ≡ drop own (c .before .before .before .args .scratch .now)
-kept-at c =
-    let start = c .before .before .before in
-    row-kept (formulaOf (start .args .prefix .now) (start .args .clauses .now)) (start .args .variable .0) (start .args .scratch .now) (c .make-row .last .1 .1 .1 .0) (c .make-row .ensures)
 
 -- the row touches the clause exactly when the clause is blocked
 blocked-at : (c : tie.After-row-touches) → let s = c .before .before .before .before .before .before .before .args in c .row-touches .result ≡ blocked (scopeOf (s .prefix .now) (s .clauses .now)) (s .variable .0) (clauseAt (s .words .now) (s .from))
@@ -27,18 +24,14 @@ blocked-at c =
     let made = c .before .before .before .before in
     let start = made .before .before .before in
     c .row-touches .ensures
-    ∙ row-blocked (start .args .prefix .now) (start .args .clauses .now) (start .args .variable .0) (start .args .scratch .now) (made .make-row .last .1 .1 .1 .0) (made .make-row .ensures) (clauseAt (start .args .words .now) (start .args .from)) (start .pre .1 .1 .1)
+    ∙ row-blocked (start .args .prefix .now) (start .args .clauses .now) (start .args .variable .0) (rowIn (made .row-for .last .1 .1 .1 .0)) (made .row-for .ensures .row) (clauseAt (start .args .words .now) (start .args .from)) (start .pre .1 .1 .1)
 
-make-row-requires : tie.Need-make-row-requires
-make-row-requires c κs =
-    let start = c .before .before in
-    (start .pre .1 .0, (start .pre .1 .1 .0, clean-bound (start .args .scratch .now) (start .args .scratch .now) (start .pre .0) refl))
+-- the marks are whole
+front-at : (c : tie.After-row-for) → length (take 256 (c .row-for .last .1 .1 .1 .0)) ≡ 256
+front-at c = length-take-le 256 (c .row-for .last .1 .1 .1 .0) (let e = c .row-for .ensures .ready .size in omega arith)
 
-row-touches-requires : tie.Need-row-touches-requires
-row-touches-requires c κs =
-    let made = c .before .before .before in
-    let start = made .before .before .before in
-    clean-bound (start .args .scratch .now) (made .make-row .last .1 .1 .1 .0) (start .pre .0) (made .make-row .kept .1 .1 .1 .0)
+row-for-requires : tie.Need-row-for-requires
+row-for-requires c κs = let p = c .before .before .pre in (p .0, (p .1 .0, p .1 .1 .0))
 
 find-blocker-requires : tie.Need-find-blocker-requires
 find-blocker-requires c κs =
@@ -46,7 +39,7 @@ find-blocker-requires c κs =
     let start = made .before .before .before in
     let prefix = start .args .prefix .now in
     let clauses = start .args .clauses .now in
-    (admitted-entries prefix clauses (start .pre .1 .0), (admitted-words prefix clauses (start .pre .1 .0), clean-bound (start .args .scratch .now) (made .make-row .last .1 .1 .1 .0) (start .pre .0) (made .make-row .kept .1 .1 .1 .0)))
+    (admitted-entries prefix clauses (start .pre .1 .0), (admitted-words prefix clauses (start .pre .1 .0), made .row-for .ensures .ready .size))
 
 returns : tie.Need-returns
 returns c =
@@ -55,13 +48,11 @@ returns c =
     let start = made .before .before .before in
     let prefix = start .args .prefix .now in
     let clauses = start .args .clauses .now in
-    let named = row-blocker prefix clauses (start .args .variable .0) (start .args .scratch .now) (made .make-row .last .1 .1 .1 .0) (made .make-row .ensures) (admitted-entries prefix clauses (start .pre .1 .0)) (clauseAt (start .args .words .now) (start .args .from)) in
-    rw (← blocked-at touched, c .before .before .if1 .taken) (record { answer = ap (λ (b : Blocker). Wrong (Blocked b)) (c .find-blocker .ensures ∙ named); kept = kept-at made })
+    let named = row-blocker prefix clauses (start .args .variable .0) (rowIn (made .row-for .last .1 .1 .1 .0)) (made .row-for .ensures .row) (admitted-entries prefix clauses (start .pre .1 .0)) (clauseAt (start .args .words .now) (start .args .from)) in
+    rw (← blocked-at touched, c .before .before .if1 .taken) (record { answer = ap (λ (b : Blocker). Wrong (Blocked b)) (c .find-blocker .ensures ∙ named); ready = made .row-for .ensures .ready })
 
 judge-reduct-requires : tie.Need-judge-reduct-requires
-judge-reduct-requires c κs =
-    let start = c .before .before .before .before .before .before .before .before .before in
-    (ap (take 2050) (kept-at (c .before .before .before .before .before .before)) ∙ start .pre .0 .marks, start .pre .1 .1 .1)
+judge-reduct-requires c κs = let made = c .before .before .before .before .before .before in (front-at made, (made .row-for .ensures .ready .marks, made .before .before .before .pre .1 .1 .1))
 
 returns-2 : tie.Need-returns-2
 returns-2 c =
@@ -69,21 +60,21 @@ returns-2 c =
     let touched = judged .before .before .before in
     let made = touched .before .before .before .before in
     let start = made .before .before .before in
-    let back = part-back (made .make-row .last .1 .1 .1 .0) (judged .judge-reduct .last .1 .1 .1 .1 .1 .0) own 2050 (judged .judge-reduct .ensures .wiped ∙ sym (ap (take 2050) (kept-at made) ∙ start .pre .0 .marks)) in
-    rw (← blocked-at touched, judged .before .before .if1 .left) (record { answer = judged .judge-reduct .ensures .answer; kept = ap (drop own) back ∙ kept-at made })
+    let scratch = made .row-for .last .1 .1 .1 .0 in
+    let answers = front-judged scratch (judged .judge-reduct .last .1 .1 .1 .1 .1 .0) (judged .judge-reduct .kept .1 .1 .1 .1 .1 .0 ∙ front-at made) (judged .judge-reduct .ensures) in
+    rw (← blocked-at touched, judged .before .before .if1 .left) (record { answer = answers .answer; ready = ready-again (start .args .prefix .now) scratch (made .row-for .ensures .ready) answers })
 
 pub reduce-on-spec : {M : Type 1} → statement M
 reduce-on-spec =
     tie.close
     (tie.spec
-    make-row-requires
-    row-touches-requires
+    row-for-requires
+    (λ c κs. c .before .before .before .row-for .ensures .ready .size)
     find-blocker-requires
     (λ c. search needs)
     returns
-    (λ c. search needs)
-    (λ c. search needs)
-    (λ c. search needs)
+    (λ c. let e = c .before .before .before .before .before .row-for .ensures .ready .size in omega arith)
+    (λ c. sym (front-at (c .before .before .before .before .before .before)))
     judge-reduct-requires
-    (λ c. search needs)
+    (λ c. same-len-mid 0 256 (c .before .before .before .before .before .before .before .before .before .row-for .last .1 .1 .1 .0) (c .before .before .judge-reduct .last .1 .1 .1 .1 .1 .0) (c .before .before .judge-reduct .kept .1 .1 .1 .1 .1 .0) ∙ c .before .before .before .before .before .before .before .before .before .row-for .kept .1 .1 .1 .0)
     returns-2)

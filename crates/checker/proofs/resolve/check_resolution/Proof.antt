@@ -65,7 +65,7 @@ returns : tie.Need-returns
 returns c =
     let start = c .before .before .before .before .before .before in
     let e = number-no-antecedent (start .args .inputs) (start .args .clauses .now) (start .args .steps .now) (start .args .offsets .now) (start .args .numbered) (start .args .step .first) (sym (c .enum-told .given .1) ∙ first-at (c .before .before)) in
-    rw e (record { answer = refl; kept = refl })
+    rw e (record { answer = refl; marks = start .pre .0 .marks; kept = refl })
 
 returns-2 : tie.Need-returns-2
 returns-2 c =
@@ -74,7 +74,7 @@ returns-2 c =
     let start = first .before .before .before .before in
     let d = number-antecedent (start .args .inputs) (start .args .clauses .now) (start .args .steps .now) (start .args .offsets .now) (start .args .numbered) (start .args .step .first) (second .before .before .before .left .given .0 .0) (sym (second .before .before .before .left .given .1) ∙ first-at first) in
     let e = number-no-antecedent (start .args .inputs) (start .args .clauses .now) (start .args .steps .now) (start .args .offsets .now) (start .args .numbered) (start .args .step .second) (sym (c .enum-told2 .given .1) ∙ second-at second) in
-    rw (d, e) (record { answer = refl; kept = refl })
+    rw (d, e) (record { answer = refl; marks = start .pre .0 .marks; kept = refl })
 
 returns-3 : tie.Need-returns-3
 returns-3 c =

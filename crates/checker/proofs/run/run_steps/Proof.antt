@@ -43,7 +43,7 @@ returns c =
     let called = c .before .before .before .before .before .before in
     let at = called .before .before .before .before in
     let start = at .before .before .before in
-    rw (c .new .ensures) (going-refused (start .args .prefix .now) (start .args .clauses .now) (start .args .steps .now) (start .args .inputs) (length (start .args .offsets .now)) (at .loop .scratch) (at .loop .offsets) (at .loop .numbered) (at .loop .at) (at .loop .inv .0) (c .before .before .reason .given .0 .0) (called .check-step .last .1 .1 .1 .1 .1 .1 .1 .0) (called .before .before .before .loop-test .taken) (rw (c .before .before .reason .given .1) at (called .check-step .ensures .answer)) (called .check-step .kept .1 .1 .1 .1 .1 .1 .1 .0) (called .check-step .ensures .kept))
+    rw (c .new .ensures) (going-refused (start .args .prefix .now) (start .args .clauses .now) (start .args .steps .now) (start .args .inputs) (length (start .args .offsets .now)) (at .loop .scratch) (at .loop .offsets) (at .loop .numbered) (at .loop .at) (at .loop .inv .0) (c .before .before .reason .given .0 .0) (called .check-step .last .1 .1 .1 .1 .1 .1 .1 .0) (called .before .before .before .loop-test .taken) (rw (c .before .before .reason .given .1) at (called .check-step .ensures .answer)) (called .check-step .ensures .ready))
 
 -- the step that was taken
 taken-at : (c : tie.After-known-told2 Inv-loop μ-loop) → Taken (scopeOf (c .before .before .before .before .before .before .before .before .before .before .before .before .args .prefix .now) (c .before .before .before .before .before .before .before .before .before .before .before .before .args .clauses .now)) (length (c .before .before .before .before .before .before .before .before .before .loop .offsets)) (stored (c .before .before .before .before .before .before .before .before .before .before .before .before .args .inputs) (c .before .before .before .before .before .before .before .before .before .before .before .before .args .clauses .now) (c .before .before .before .before .before .before .before .before .before .before .before .before .args .steps .now) (c .before .before .before .before .before .before .before .before .before .loop .offsets) (c .before .before .before .before .before .before .before .before .before .loop .numbered)) (c .before .before .before .before .before .before .before .before .before .before .before .before .args .steps .now) (c .before .before .before .before .before .before .before .before .before .loop .at) (c .before .next .given .0 .0)
@@ -86,7 +86,7 @@ loop-again c =
     let called = c .before .before .before .before .before in
     let at = called .before .before .before .before in
     let start = at .before .before .before in (
-      going-turns (start .args .prefix .now) (start .args .clauses .now) (start .args .steps .now) (start .args .inputs) (length (start .args .offsets .now)) (at .loop .scratch) (at .loop .offsets) (at .loop .numbered) (at .loop .at) (at .loop .inv .0) (c .before .next .given .0 .0) (called .check-step .last .1 .1 .1 .1 .1 .1 .1 .0) (taken-at c) (called .check-step .kept .1 .1 .1 .1 .1 .1 .1 .0) (called .check-step .ensures .kept),
+      going-turns (start .args .prefix .now) (start .args .clauses .now) (start .args .steps .now) (start .args .inputs) (length (start .args .offsets .now)) (at .loop .scratch) (at .loop .offsets) (at .loop .numbered) (at .loop .at) (at .loop .inv .0) (c .before .next .given .0 .0) (called .check-step .last .1 .1 .1 .1 .1 .1 .1 .0) (taken-at c) (called .check-step .ensures .ready),
       called .check-step .kept .1 .1 .1 .1 .1 .1 .1 .0 ∙ at .loop .inv .1,
     )
 

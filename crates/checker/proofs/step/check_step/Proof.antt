@@ -1,5 +1,5 @@
 -- `check_step` reads the step, asks for room and judges it. Assumes nothing.
-use mathlib.Core.Path.{_≡_, refl, ap, sym, _∙_}
+use mathlib.Core.Path.{_≡_, ap, sym, _∙_}
 use mathlib.Core.List.{List}
 use mathlib.Core.Option.{some}
 use native.Mathlib.Omega.{arith}
@@ -47,12 +47,12 @@ returns : tie.Need-returns
 returns c =
     let start = c .before .before .before .before .before .before .before in
     let t = step-at (c .before) in
-    record { answer = step-no-room (scope-at start) (length (start .args .offsets .now)) (known-at start) (drop (start .args .at) (start .args .steps .now)) (start .args .at) (t .0) (t .1) (omega (arith, count-at start, c .if1 .taken)); kept = refl }
+    record { answer = step-no-room (scope-at start) (length (start .args .offsets .now)) (known-at start) (drop (start .args .at) (start .args .steps .now)) (start .args .at) (t .0) (t .1) (omega (arith, count-at start, c .if1 .taken)); ready = start .pre .0 }
 
 returns-2 : tie.Need-returns-2
 returns-2 c =
     let start = c .before .before .before .before .before in
-    record { answer = step-broken (scope-at start) (length (start .args .offsets .now)) (known-at start) (drop (start .args .at) (start .args .steps .now)) (start .args .at) (reading-broken (start .args .at) _ (sym (c .enum-told .given .1) ∙ c .before .before .read-step .ensures)); kept = refl }
+    record { answer = step-broken (scope-at start) (length (start .args .offsets .now)) (known-at start) (drop (start .args .at) (start .args .steps .now)) (start .args .at) (reading-broken (start .args .at) _ (sym (c .enum-told .given .1) ∙ c .before .before .read-step .ensures)); ready = start .pre .0 }
 
 returns-3 : tie.Need-returns-3
 returns-3 c =
@@ -64,7 +64,7 @@ returns-3 c =
       answer =
           ap RightStep (ap (λ (r : StepRead). r .next) (t .2) ∙ fields-next (start .args .at) (t .0))
           ∙ step-right (scope-at start) (length (start .args .offsets .now)) (known-at start) (drop (start .args .at) (start .args .steps .now)) (start .args .at) (t .0) (t .1) (omega (arith, count-at start, called .before .before .if1 .left)) right;
-      kept = called .judge-step .ensures .kept;
+      ready = called .judge-step .ensures .ready;
     }
 
 returns-4 : tie.Need-returns-4
@@ -75,7 +75,7 @@ returns-4 c =
     let wrong = judgement-wrong _ (c .before .reason .given .0 .0) (sym (c .before .reason .given .1) ∙ judged-at called) in
     record {
       answer = step-wrong (scope-at start) (length (start .args .offsets .now)) (known-at start) (drop (start .args .at) (start .args .steps .now)) (start .args .at) (t .0) (c .before .reason .given .0 .0) (t .1) (omega (arith, count-at start, called .before .before .if1 .left)) wrong;
-      kept = called .judge-step .ensures .kept;
+      ready = called .judge-step .ensures .ready;
     }
 
 pub check-step-spec : {M : Type 1} → statement M

@@ -1,15 +1,9 @@
 -- `judge_step` by the kind. Assumes nothing.
-use mathlib.Core.List.{List}
 use borrow.Author.Needs.{needs}
-use Rattle.checker.specs.Words.{Words}
 use Rattle.checker.specs.Numbered.{stored}
-use Rattle.checker.specs.Step.Laws.{ready-clean, resolution-answers, reduction-answers}
+use Rattle.checker.specs.Step.Laws.{ready-clean, resolution-answers}
 use Rattle.checker.proofs.step.judge_step.Statement.{statement}
 use Rattle.checker.proofs.step.judge_step.Tie as tie
-
--- the numbered clauses before the step
-abbrev known-at : (c : tie.Start) → List Words
-known-at c = stored (c .args .inputs) (c .args .clauses .now) (c .args .steps .now) (c .args .offsets .now) (c .args .numbered)
 
 check-resolution-requires : tie.Need-check-resolution-requires
 check-resolution-requires c κs =
@@ -20,15 +14,12 @@ returns : tie.Need-returns
 returns c =
     let called = c .before .before in
     let start = called .before .before .before .before .before .before in
+    let known = stored (start .args .inputs) (start .args .clauses .now) (start .args .steps .now) (start .args .offsets .now) (start .args .numbered) in
     rw (called .before .before .enum-told .given .1)
-    (resolution-answers (start .args .prefix .now) (start .args .clauses .now) (start .pre .1 .0) (start .args .scratch .now) (start .pre .0) (known-at start) _ _ (start .args .step .first) (start .args .step .second) _ _ (called .check-resolution .ensures))
+    (resolution-answers (start .args .prefix .now) (start .args .clauses .now) (start .pre .1 .0) (start .args .scratch .now) (start .pre .0) known _ _ (start .args .step .first) (start .args .step .second) _ _ (called .check-resolution .ensures))
 
 returns-2 : tie.Need-returns-2
-returns-2 c =
-    let called = c .before .before in
-    let start = called .before .before .before .before .before .before in
-    rw (called .before .before .enum-told2 .given .1)
-    (reduction-answers (start .args .prefix .now) (start .args .clauses .now) (start .pre .1 .0) (start .args .scratch .now) (start .pre .0) (known-at start) _ _ (start .args .step .first) _ _ (called .check-reduction .ensures))
+returns-2 c = rw (c .before .before .before .before .enum-told2 .given .1) (c .before .before .check-reduction .ensures)
 
 pub judge-step-spec : {M : Type 1} → statement M
 judge-step-spec =

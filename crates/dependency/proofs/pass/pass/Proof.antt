@@ -4,10 +4,10 @@ use Rattle.dependency.proofs.pass.pass.Statement.{statement}
 use Rattle.dependency.proofs.pass.pass.Tie as tie
 
 returns : tie.Need-returns
-returns c = rw (c .before .before .before .before .if1 .taken) (c .before .before .pass-back .ensures)
+returns c s = rw (c .before .before .before .before .if1 .taken) (c .before .before .pass-back .ensures s)
 
 returns-2 : tie.Need-returns-2
-returns-2 c = rw (c .before .before .before .before .if1 .left) (c .before .before .pass-forth .ensures)
+returns-2 c s = rw (c .before .before .before .before .if1 .left) (c .before .before .pass-forth .ensures s)
 
 pub pass-spec : {M : Type 1} → statement M
 pass-spec =

@@ -1,83 +1,77 @@
--- `search` clears, opens, sets its start and settles: what the marks then say is `searched` of Search/Laws. Assumes nothing.
-use Prim.Native.Nat.{ℕ, _≤_, _<_}
-use mathlib.Core.Path.{_≡_, sym, _∙_}
+-- `search` opens, starts and settles: what the marks then say is `searched` of Search/Laws. Assumes nothing.
+use Prim.Native.Nat.{ℕ, _+_}
+use mathlib.Core.Path.{_≡_, ap, sym, _∙_}
 use mathlib.Core.Bool.{Bool, true, false}
+use mathlib.Core.List.{List}
 use native.Mathlib.Omega.{arith}
 use borrow.Author.Needs.{needs}
-use lib.ListN.{length, replicate, length-set}
-use Rattle.formula.specs.Clear.{clearFrom}
+use lib.ListN.{length, getD, set, replicate}
 use Rattle.qbf.specs.Formula.{after}
 use Rattle.formula.specs.Word.{slot}
-use Rattle.formula.specs.Prefix.{prefixOf, Entries}
+use Rattle.formula.specs.Prefix.{prefixOf}
 use Rattle.formula.specs.Tables.Laws.{admitted-entries}
-use Rattle.dependency.specs.Search.{openEntries}
-use Rattle.dependency.specs.Search.Laws.{searched}
+use Rattle.formula.specs.Decode.{clausesOf}
+use Rattle.dependency.specs.Search.{openEntries, ones, Settled}
+use Rattle.dependency.specs.Search.Laws.{source-open, searched}
+use Rattle.dependency.specs.Bits.{marksIn}
+use Rattle.dependency.specs.Bits.Count.{ones-kept}
 use Rattle.dependency.proofs.search.search.Statement.{statement}
 use Rattle.dependency.proofs.search.search.Tie as tie
 
--- the byte of a literal is among the marks
-slot-below : (v : ℕ) (s : Bool) → v ≤ 1024 → slot v s < 2050
-slot-below v true h = omega arith
-slot-below v false h = omega arith
+-- the marks once what is right of the universal is opened
+abbrev opened : (c : tie.Start) → List ℕ
+opened c = openEntries (after (c .args .variable .0) (prefixOf (c .args .prefix .now))) (replicate 2050 0)
 
--- the marks after each step
-cleared : (c : tie.After-clear-bytes) → c .clear-bytes .last .0 ≡ replicate 2050 0
-unfolding clearFrom
-cleared c = rw (c .before .before .before .pre .1 .1) at (c .clear-bytes .ensures)
+closed : (c : tie.Start) (s : Bool) → getD (opened c) (slot (c .args .variable .0) s) 0 ≡ 0
+closed c s = source-open (c .args .prefix .now) (c .args .clauses .now) (c .pre .0) (c .args .variable .0) (c .pre .1 .0) s
 
-opened :
-    (c : tie.After-open-entries)
-    → c .open-entries .last .1 .1 .0
-    ≡ openEntries (after (c .before .before .before .before .before .before .before .before .args .variable .0) (prefixOf (c .before .before .before .before .before .before .before .before .args .prefix .now))) (replicate 2050 0)
-opened c = rw (c .before .before .right-of .ensures, cleared (c .before .before .before .before .before)) at (c .open-entries .ensures)
+open-right-requires : tie.Need-open-right-requires
+open-right-requires c κs =
+    let s = c .before .before in
+    (admitted-entries (s .args .prefix .now) (s .args .clauses .now) (s .pre .0), s .pre .1 .1)
 
-opened-size : (c : tie.After-open-entries) → length (c .open-entries .last .1 .1 .0) ≡ 2050
-opened-size c = c .open-entries .kept .1 .1 .0 ∙ c .before .before .before .before .before .clear-bytes .kept .0 ∙ c .before .before .before .before .before .before .before .before .pre .1 .1
+opened-length : (c : tie.After-open-right) → length (c .open-right .last .1 .1 .0) ≡ 640
+opened-length c = c .open-right .kept .1 .1 .0 ∙ c .before .before .before .pre .1 .1
 
-entries : (c : tie.Start) → Entries (c .args .prefix .now)
-entries c = admitted-entries (c .args .prefix .now) (c .args .clauses .now) (c .pre .0)
+count-open-requires : tie.Need-count-open-requires
+count-open-requires c κs = let o = c .before .before .before in (opened-length o, o .open-right .ensures .none)
 
-right-of-requires : tie.Need-right-of-requires
-right-of-requires c κs = entries (c .before .before .before .before .before)
+start-requires : tie.Need-start-requires
+start-requires c κs =
+    let o = c .before .before .before .before .before in
+    let s = o .before .before .before in
+    (opened-length o, (s .pre .1 .0 .0, (s .pre .1 .0 .1, λ t. rw (o .open-right .ensures .marks t) (closed s t))))
 
-open-entries-requires : tie.Need-open-entries-requires
-open-entries-requires c κs =
-    let start = c .before .before .before .before .before .before .before in
-    (entries start, c .before .before .before .before .clear-bytes .kept .0 ∙ start .pre .1 .1)
+-- the marks where the passes begin
+begun : (c : tie.After-start) (t : Bool) → marksIn t (c .start .last .1 .0) ≡ set (opened (c .before .before .before .before .before .before .before .before .before)) (slot (c .before .before .before .before .before .before .before .before .before .args .variable .0) t) 3
+begun c t =
+    let o = c .before .before .before .before .before .before in
+    c .start .ensures t ∙ ap (λ (m : List ℕ). set m (slot (o .before .before .before .args .variable .0) t) 3) (o .open-right .ensures .marks t)
 
-source-of-requires : tie.Need-source-of-requires
-source-of-requires c κs = c .before .before .before .before .before .before .before .before .before .before .pre .1 .0 .1
-
-slice-write-marks : tie.Need-slice-write-marks
-slice-write-marks c =
-    let start = c .before .before .before .before .before .before .before .before .before .before .before in
-    let small = slot-below (start .args .variable .0) (start .args .positive) (start .pre .1 .0 .1) in
-    omega (arith, small, c .source-of .ensures, opened-size (c .before .before .before))
+same-ones : (c : tie.After-start) (t : Bool) → ones (marksIn t (c .start .last .1 .0)) ≡ ones (opened (c .before .before .before .before .before .before .before .before .before))
+same-ones c t =
+    let s = c .before .before .before .before .before .before .before .before .before in
+    ap ones (begun c t) ∙ ones-kept (opened s) (slot (s .args .variable .0) t) (closed s t)
 
 settle-requires : tie.Need-settle-requires
-settle-requires c κs = simp length-set (opened-size (c .before .before .before .before))
-
-same-length : tie.Need-same-length
-same-length c =
-    c .before .before .settle .kept .1 .0
-    ∙ simp length-set (opened-size (c .before .before .before .before .before .before .before))
-    ∙ sym (c .before .before .before .before .before .before .before .before .before .before .before .before .before .before .before .pre .1 .1)
+settle-requires c κs =
+    let b = c .before .before .before in
+    let n = b .before .before in
+    let o = n .before .before .before .before in
+    let e = o .open-right .ensures .marks in
+    let a = same-ones b true in
+    let d = same-ones b false in
+    let f = rw (e true, e false) at (n .count-open .ensures) in
+    (b .start .kept .1 .0 ∙ opened-length o, omega (arith, a, d, f))
 
 returns : tie.Need-returns
-returns c =
-    let start = c .before .before .before .before .before .before .before .before .before .before .before .before .before .before .before in
-    searched (start .args .prefix .now) (start .args .clauses .now) (start .pre .0) (start .args .variable .0) (start .pre .1 .0) (start .args .positive) (c .before .before .settle .last .1 .0)
-    (rw (opened (c .before .before .before .before .before .before .before), c .before .before .before .before .source-of .ensures) at (c .before .before .settle .ensures))
+returns c t =
+    let b = c .before .before .before .before .before .before in
+    let s = b .before .before .before .before .before .before .before .before .before in
+    searched (s .args .prefix .now) (s .args .clauses .now) (s .pre .0) (s .args .variable .0) (s .pre .1 .0) t (marksIn t (c .before .before .settle .last .1 .1 .0))
+    (rw (begun b t) at (c .before .before .settle .ensures t))
 
 pub search-spec : {M : Type 1} → statement M
 search-spec =
     tie.close
-    (tie.spec
-    (λ c κs. search needs)
-    right-of-requires
-    open-entries-requires
-    source-of-requires
-    slice-write-marks
-    settle-requires
-    same-length
-    returns)
+    (tie.spec open-right-requires count-open-requires start-requires settle-requires (λ c. search needs) returns)

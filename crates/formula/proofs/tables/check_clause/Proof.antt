@@ -10,7 +10,8 @@ use mir.Syntax.{w32}
 use mir.Val.{toZ, ofZ}
 use Rattle.formula.specs.Word.{wordOf, variableOf}
 use Rattle.formula.specs.Word.Laws.{variable-zero, variable-above, variable-within}
-use Rattle.formula.specs.Tables.Scan.{marked, plainRun, clashFree}
+use Rattle.formula.specs.Tables.{listedIn}
+use Rattle.formula.specs.Tables.Scan.{plainRun, clashFree}
 use Rattle.formula.proofs.Scan.{run-within, run-range, clause-clash, clause-unfinished, clause-closed, clause-large, clause-unbound}
 use borrow.Author.Needs.{needs}
 use Rattle.formula.proofs.tables.check_clause.Statement.{statement}
@@ -18,7 +19,7 @@ use Rattle.formula.proofs.tables.check_clause.Tie as tie
 
 -- the run from the clause's place, and its length from there on
 abbrev run : (c : tie.After-literals-end) → ℕ
-run c = plainRun (marked (c .before .before .args .listed .now)) (drop (c .before .before .args .from) (c .before .before .args .clauses .now))
+run c = plainRun (listedIn (c .before .before .args .prefix .now)) (drop (c .before .before .args .from) (c .before .before .args .clauses .now))
 
 run-length : (c : tie.After-literals-end) → c .literals-end .result - c .before .before .args .from ≡ run c
 run-length c = omega (arith, c .literals-end .ensures)
@@ -27,7 +28,7 @@ run-fits : (c : tie.After-literals-end) → c .literals-end .result ≤ length (
 run-fits c =
     let a = c .before .before .args in
     let w : run c ≤ length (a .clauses .now) - a .from =
-    rw (length-drop (a .from) (a .clauses .now)) at (run-within (marked (a .listed .now)) (drop (a .from) (a .clauses .now))) in
+    rw (length-drop (a .from) (a .clauses .now)) at (run-within (listedIn (a .prefix .now)) (drop (a .from) (a .clauses .now))) in
     omega (arith, w, c .literals-end .ensures)
 
 part-find-clash-end : tie.Need-part-find-clash-end
@@ -36,7 +37,7 @@ part-find-clash-end c = run-fits c
 find-clash-requires : tie.Need-find-clash-requires
 find-clash-requires c κs =
     let a = c .before .before .before .args in
-    rw (run-length (c .before)) (run-range (marked (a .listed .now)) (drop (a .from) (a .clauses .now)))
+    rw (run-length (c .before)) (run-range (listedIn (a .prefix .now)) (drop (a .from) (a .clauses .now)))
 
 -- where the first clash of the run is
 clash-at :
@@ -49,7 +50,7 @@ returns c =
     let k = c .before .before in
     let a = k .before .before .before .before .args in
     let h = rw (run-length (k .before .before), clash-at k) at (c .before .if1 .taken) in
-    rw (c .new .ensures, clash-at k) (clause-clash (marked (a .listed .now)) (a .clauses .now) (a .from) h)
+    rw (c .new .ensures, clash-at k) (clause-clash (listedIn (a .prefix .now)) (a .clauses .now) (a .from) h)
 
 returns-2 : tie.Need-returns-2
 returns-2 c =
@@ -57,7 +58,7 @@ returns-2 c =
     let a = k .before .before .before .before .args in
     let e = k .before .before .literals-end .ensures in
     let h = rw (run-length (k .before .before), clash-at k) at (c .before .before .if1 .left) in
-    rw (c .new2 .ensures, e) (clause-unfinished (marked (a .listed .now)) (a .clauses .now) (a .from) h (search needs) (rw e at (c .before .if2 .taken)))
+    rw (c .new2 .ensures, e) (clause-unfinished (listedIn (a .prefix .now)) (a .clauses .now) (a .from) h (search needs) (rw e at (c .before .if2 .taken)))
 
 -- the variable of the word after the run
 word-variable :
@@ -92,14 +93,14 @@ returns-3 c =
     let m = c .before in
     let a = start m .args in
     rw (looked m .before .before .literals-end .ensures)
-    (clause-closed (marked (a .listed .now)) (a .clauses .now) (a .from) (free m .0) (free m .1) (variable-zero _ (rw (word-variable m) at (c .if3 .taken))))
+    (clause-closed (listedIn (a .prefix .now)) (a .clauses .now) (a .from) (free m .0) (free m .1) (variable-zero _ (rw (word-variable m) at (c .if3 .taken))))
 
 returns-4 : tie.Need-returns-4
 returns-4 c =
     let m = c .before .before .before in
     let a = start m .args in
     rw (c .new3 .ensures, looked m .before .before .literals-end .ensures)
-    (clause-large (marked (a .listed .now)) (a .clauses .now) (a .from) (free m .0) (free m .1) (variable-above _ (rw (word-variable m) at (c .before .if4 .taken))))
+    (clause-large (listedIn (a .prefix .now)) (a .clauses .now) (a .from) (free m .0) (free m .1) (variable-above _ (rw (word-variable m) at (c .before .if4 .taken))))
 
 returns-5 : tie.Need-returns-5
 returns-5 c =
@@ -107,7 +108,7 @@ returns-5 c =
     let a = start m .args in
     let v = word-variable m ∙ variable-within _ (rw (word-variable m) at (c .before .if4 .left)) in
     rw (c .new4 .ensures, looked m .before .before .literals-end .ensures)
-    (clause-unbound (marked (a .listed .now)) (a .clauses .now) (a .from) (free m .0) (free m .1) (rw v at (c .before .before .if3 .left)) (rw v at (c .before .if4 .left)))
+    (clause-unbound (listedIn (a .prefix .now)) (a .clauses .now) (a .from) (free m .0) (free m .1) (rw v at (c .before .before .if3 .left)) (rw v at (c .before .if4 .left)))
 
 pub check-clause-spec : {M : Type 1} → statement M
 check-clause-spec =

@@ -5,16 +5,16 @@ use mathlib.Core.List.{[]}
 use native.Mathlib.Omega.{arith}
 use borrow.Author.Needs.{needs}
 use lib.ListN.{length, drop, drop-of-length-le}
-use Rattle.formula.specs.Tables.{clausesRefusal}
-use Rattle.formula.specs.Tables.Scan.{marked, checkOf, afterClause}
+use Rattle.formula.specs.Tables.{clausesRefusal, listedIn}
+use Rattle.formula.specs.Tables.Scan.{checkOf, afterClause}
 use Rattle.formula.proofs.tables.check_clauses.Statement.{statement}
 use Rattle.formula.proofs.tables.check_clauses.Tie as tie
 
 abbrev Inv-loop : tie.InvT-loop
-Inv-loop clauses listed at₀ at = (clausesRefusal (marked listed) 0 [] clauses ≡ clausesRefusal (marked listed) at [] (drop at clauses)) × (at ≤ length clauses)
+Inv-loop prefix clauses marks at₀ at = (clausesRefusal (listedIn prefix) 0 [] clauses ≡ clausesRefusal (listedIn prefix) at [] (drop at clauses)) × (at ≤ length clauses)
 
 abbrev μ-loop : tie.MeasureT-loop
-μ-loop clauses listed at₀ at = length clauses - at
+μ-loop prefix clauses marks at₀ at = length clauses - at
 
 loop-holds : tie.Need-loop-holds Inv-loop μ-loop
 loop-holds c = (refl, omega arith)
@@ -31,14 +31,14 @@ loop-again c =
     let a = c .before .before .before .before .before .before .before .args in
     let e = c .before .next .given .1 in
     let o = k .ensures .onward (c .before .next .given .0 .0) e in
-    (l .inv .0 ∙ k .ensures .same ∙ ap (afterClause (marked (a .listed .now)) (a .clauses .now)) e, o .1)
+    (l .inv .0 ∙ k .ensures .same ∙ ap (afterClause (listedIn (a .prefix .now)) (a .clauses .now)) e, o .1)
 
 returns : tie.Need-returns Inv-loop μ-loop
 returns c =
     let k = c .before .before .before .check-clause in
     let l = c .before .before .before .before .before .loop in
     let a = c .before .before .before .before .before .before .before .args in
-    sym (ap checkOf (l .inv .0 ∙ k .ensures .same ∙ ap (afterClause (marked (a .listed .now)) (a .clauses .now)) (c .before .r .given .1)))
+    sym (ap checkOf (l .inv .0 ∙ k .ensures .same ∙ ap (afterClause (listedIn (a .prefix .now)) (a .clauses .now)) (c .before .r .given .1)))
 
 returns-2 : tie.Need-returns-2 Inv-loop μ-loop
 unfolding clausesRefusal
@@ -46,7 +46,7 @@ returns-2 c =
     let l = c .before .loop in
     let a = c .before .before .before .args in
     let h : length (a .clauses .now) ≤ l .at = search needs in
-    sym (ap checkOf (l .inv .0 ∙ ap (clausesRefusal (marked (a .listed .now)) (l .at) []) (drop-of-length-le (a .clauses .now) h)))
+    sym (ap checkOf (l .inv .0 ∙ ap (clausesRefusal (listedIn (a .prefix .now)) (l .at) []) (drop-of-length-le (a .clauses .now) h)))
 
 pub check-clauses-spec : {M : Type 1} → statement M
 check-clauses-spec =

@@ -1,6 +1,6 @@
 -- `check_prefix` goes on at each record. Assumes nothing.
-use Prim.Native.Nat.{ℕ, _+_, _-_, _<_}
-use mathlib.Core.Path.{_≡_, ap, sym, _∙_}
+use Prim.Native.Nat.{ℕ, _-_}
+use mathlib.Core.Path.{_≡_, refl, ap, sym, _∙_}
 use native.Mathlib.Omega.{arith}
 use borrow.Author.Needs.{needs}
 use lib.ListN.{length}
@@ -12,23 +12,23 @@ use Rattle.formula.proofs.tables.check_prefix.Statement.{statement}
 use Rattle.formula.proofs.tables.check_prefix.Tie as tie
 
 abbrev Inv-loop : tie.InvT-loop
-Inv-loop prefix listed₀ last₀ block₀ at₀ listed last block at = PrefixSoFar prefix listed at last block
+Inv-loop prefix marks₀ last₀ block₀ at₀ marks last block at = PrefixSoFar prefix marks at last block × (length marks ≡ length marks₀)
 
 abbrev μ-loop : tie.MeasureT-loop
-μ-loop prefix listed₀ last₀ block₀ at₀ listed last block at = length prefix - at
+μ-loop prefix marks₀ last₀ block₀ at₀ marks last block at = length prefix - at
 
 loop-holds : tie.Need-loop-holds Inv-loop μ-loop
-loop-holds c = prefix-begins (c .before .args .prefix .now) (c .before .args .listed .now) (c .before .pre .0) (c .before .pre .1)
+loop-holds c = (prefix-begins (c .before .args .prefix .now) (c .before .args .marks .now) (c .before .pre), refl)
 
 add-loop : tie.Need-add-loop Inv-loop μ-loop
-add-loop c = let h = c .loop .inv .within in search needs
+add-loop c = let h = c .loop .inv .0 .within in search needs
 
 check-entry-requires : tie.Need-check-entry-requires Inv-loop μ-loop
 check-entry-requires c κs =
     let l = c .before .before .loop in
-    let h = l .inv .within in
-    let k = l .inv .low in
-    (c .before .loop-test .taken, l .inv .size, search needs)
+    let h = l .inv .0 .within in
+    let k = l .inv .0 .low in
+    ((c .before .loop-test .taken, l .inv .0 .threes, search needs), l .inv .0 .listing)
 
 refused : {r : Refusal} {A : Type 0} → Check.Refused r ≡ Check.Passed → A
 refused e = let z : _≡_ {A = ℕ} 0 1 = cc in absurd (omega arith)
@@ -38,10 +38,10 @@ returns c =
     let l = c .before .before .before .before .before .before .before .before .loop in
     let k = c .before .before .before .before .before .check-entry in
     let step = rw (c .before .r .given .1) at (k .ensures) in
-    (ap checkOf (sym (prefix-refuses (l .inv) step)), λ e. refused e)
+    (ap checkOf (sym (prefix-refuses (l .inv .0) step)), λ e. refused e)
 
 add-at : tie.Need-add-at Inv-loop μ-loop
-add-at c = let h = c .before .before .before .before .before .before .before .before .loop .inv .within in search needs
+add-at c = let h = c .before .before .before .before .before .before .before .before .loop .inv .0 .within in search needs
 
 loop-less : tie.Need-loop-less Inv-loop μ-loop
 loop-less c = let h = c .before .before .before .before .before .before .before .loop-test .taken in omega arith
@@ -51,11 +51,11 @@ loop-again c =
     let l = c .before .before .before .before .before .before .before .before .loop in
     let k = c .before .before .before .before .before .check-entry in
     let step = rw (c .before .quantifier .given .1) at (k .ensures) in
-    prefix-goes-on (l .inv) (c .before .before .before .before .before .before .before .loop-test .taken) _ _ _ step
+    (prefix-goes-on (l .inv .0) (c .before .before .before .before .before .before .before .loop-test .taken) _ _ _ step, k .kept .1 .1 .1 .1 .0 ∙ l .inv .1)
 
 returns-2 : tie.Need-returns-2 Inv-loop μ-loop
 returns-2 c =
-    let e = prefix-ends (c .before .loop .inv) (c .loop-test .left) in
+    let e = prefix-ends (c .before .loop .inv .0) (c .loop-test .left) in
     (ap checkOf (sym (e .0)), λ p. e .1)
 
 pub check-prefix-spec : {M : Type 1} → statement M

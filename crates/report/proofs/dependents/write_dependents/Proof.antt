@@ -41,7 +41,7 @@ depends-in-requires : tie.Need-depends-in-requires Inv-loop μ-loop
 depends-in-requires c κs =
     let v = c .before in
     let s = v .before .before .before .before .before .before in
-    (s .pre .1 .0, rw (v .variable-at .ensures) (entry-at-ranged (s .args .prefix .now) (s .pre .0) (v .before .before .loop .i) (within (v .before)) .1))
+    (search needs, rw (v .variable-at .ensures) (entry-at-ranged (s .args .prefix .now) (s .pre .0) (v .before .before .loop .i) (within (v .before)) .1))
 
 -- where the loop's body begins, and what is left there begins with the entry's variable
 abbrev body : tie.After-depends-in Inv-loop μ-loop → tie.In-loop Inv-loop μ-loop

@@ -1,0 +1,2 @@
+-- The flags of bytes.
+pub mod Flags

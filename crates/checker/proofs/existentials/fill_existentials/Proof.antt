@@ -1,0 +1,64 @@
+-- `fill_existentials`: filling from the entries that are left gives the same flags. Assumes nothing.
+use Prim.Native.Nat.{ℕ, _≤_, _<_, _-_}
+use mathlib.Core.Path.{_≡_, refl, ap, _∙_}
+use native.Mathlib.Numerals.{add-one}
+use native.Mathlib.Omega.{arith}
+use borrow.Author.Needs.{needs}
+use lib.ListN.{length, drop, drop-of-length-le, length-replicate}
+use Rattle.bits.specs.Flags.{flags}
+use Rattle.formula.specs.Prefix.{prefixOf, entryCount}
+use Rattle.formula.specs.Prefix.Laws.{entries-drop}
+use Rattle.checker.specs.Existentials.{existentialsFrom, existentialsOf}
+use Rattle.checker.specs.Existentials.Laws.{from-cleared}
+use Rattle.checker.proofs.existentials.fill_existentials.Statement.{statement}
+use Rattle.checker.proofs.existentials.fill_existentials.Tie as tie
+
+abbrev Inv-loop : tie.InvT-loop
+Inv-loop prefix bytes₀ count i₀ bytes i =
+    (existentialsFrom (flags bytes) (drop i (prefixOf prefix)) ≡ existentialsOf prefix) × (length bytes ≡ length bytes₀)
+
+abbrev μ-loop : tie.MeasureT-loop
+μ-loop prefix bytes₀ count i₀ bytes i = count - i
+
+within : (c : tie.In-loop Inv-loop μ-loop) → c .before .loop .i < entryCount (c .before .before .before .before .args .prefix .now)
+within c = omega (arith, c .before .before .entry-count .ensures, c .loop-test .taken)
+
+loop-holds : tie.Need-loop-holds Inv-loop μ-loop
+loop-holds c = (from-cleared _ _ (c .before .before .pre .1), refl)
+
+fill-entry-requires : tie.Need-fill-entry-requires Inv-loop μ-loop
+fill-entry-requires c κs =
+    let start = c .before .before .before .before .before in
+    (start .pre .0, (within (c .before), c .before .before .loop .inv .1 ∙ ap length (start .pre .1) ∙ length-replicate {A = ℕ} 128 0))
+
+loop-again : tie.Need-loop-again Inv-loop μ-loop
+unfolding existentialsFrom
+loop-again c =
+    let loop = c .before .before .before .before in
+    let l = loop .before .loop in (
+      rw (c .before .before .fill-entry .ensures, add-one) (rw (entries-drop _ _ (within loop)) at (l .inv .0)),
+      c .before .before .fill-entry .kept .1 .1 .0 ∙ l .inv .1,
+    )
+
+returns : tie.Need-returns Inv-loop μ-loop
+unfolding existentialsFrom
+returns c =
+    let l = c .before .loop in
+    let P = prefixOf (c .before .before .before .before .args .prefix .now) in
+    let h : length P ≤ l .i = omega (arith, c .before .before .entry-count .ensures, c .loop-test .left) in
+    rw (drop-of-length-le P h) at (l .inv .0)
+
+pub fill-existentials-spec : {M : Type 1} → statement M
+fill-existentials-spec =
+    tie.close
+    (tie.spec
+    Inv-loop
+    μ-loop
+    (λ c κs. search needs)
+    loop-holds
+    fill-entry-requires
+    (λ c. search needs)
+    (λ c. search needs)
+    loop-again
+    (λ c. search needs)
+    returns)
