@@ -1,7 +1,7 @@
 /* Warpmaroon for C: reading and writing formulas, dependency rows, checking refutations, evaluating small formulas, and the lines
  * that the two programs print. Link with libcapi.a, which `rt staticlib capi` makes for x86-64 Linux.
  *
- * The first seven functions return 0, or the number of a refusal (enum qdr_refusal), and fill all five words of `out`. After 0
+ * The first nine functions return 0, or the number of a refusal (enum qdr_refusal), and fill all five words of `out`. After 0
  * these are the numbers that the function names below, and zeros; after a refusal they are its place, line, column, variable and
  * block. Line and column, both from 1, are those of a place in a text; they are 0 where the refusal is QDR_OVERSIZED or not about
  * text. LF alone ends a line, every byte is one column, and the place at a text's end is the one just behind its last byte.
@@ -37,9 +37,11 @@ extern "C" {
 /* The words of `out`. */
 #define QDR_OUT_LENGTH 5
 
-/* Bytes that qdr_row needs for a row, and that qdr_row, qdr_check and the last two functions need for scratch. */
+/* Bytes that qdr_row and qdr_row_small need for a row; that qdr_row, qdr_check and the last two functions need for scratch; and
+ * that qdr_row_small and qdr_check_small need for scratch. */
 #define QDR_ROW_LENGTH 1025
 #define QDR_SCRATCH_LENGTH 8200
+#define QDR_SMALL_SCRATCH_LENGTH 640
 
 /* The bounds: beyond one of the first six the answer is QDR_OVERSIZED. A table as long as its bound never lacks room. */
 #define QDR_MAX_VARIABLES 1024     /* entries of a prefix; no variable has a larger number */
@@ -123,6 +125,15 @@ uint32_t qdr_row(const int32_t *prefix, size_t prefix_length,
                  uint8_t *scratch, size_t scratch_length,
                  uint64_t out[QDR_OUT_LENGTH]);
 
+/* qdr_row with less scratch: 3 under QDR_SMALL_SCRATCH_LENGTH bytes of it. All else is as above, so that with
+ * QDR_SCRATCH_LENGTH bytes or more both answer the same. */
+uint32_t qdr_row_small(const int32_t *prefix, size_t prefix_length,
+                       const int32_t *clauses, size_t clauses_length,
+                       int32_t variable,
+                       uint8_t *row, size_t row_length,
+                       uint8_t *scratch, size_t scratch_length,
+                       uint64_t out[QDR_OUT_LENGTH]);
+
 /* Reads the step words of a proof file, for a formula of clause_count clauses.
  * Returns 0, or a refusal: 11, 2, 12 or 3.
  * out: the step words.
@@ -144,6 +155,15 @@ uint32_t qdr_check(const int32_t *prefix, size_t prefix_length,
                    uint8_t *scratch, size_t scratch_length,
                    uint32_t *starts, size_t starts_length,
                    uint64_t out[QDR_OUT_LENGTH]);
+
+/* qdr_check with less scratch: 3 under QDR_SMALL_SCRATCH_LENGTH bytes of it. All else is as above, so that with
+ * QDR_SCRATCH_LENGTH bytes or more both answer the same. */
+uint32_t qdr_check_small(const int32_t *prefix, size_t prefix_length,
+                         const int32_t *clauses, size_t clauses_length,
+                         const int32_t *steps, size_t steps_length,
+                         uint8_t *scratch, size_t scratch_length,
+                         uint32_t *starts, size_t starts_length,
+                         uint64_t out[QDR_OUT_LENGTH]);
 
 /* Evaluates a formula of up to 16 variables by playing its game to the end.
  * Returns 0, or a refusal: those of qdr_check_tables, then 2 beyond 16 variables.

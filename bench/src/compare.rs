@@ -1,14 +1,19 @@
 //! Compares a library's answers with the reference's on many inputs: the answer, and the contents of every
-//! buffer lent. Counts what was seen for each entry, and stops at the first difference.
+//! buffer lent. Rows and proofs go through both sizes of their entry, which must agree where both have their
+//! scratch. Counts what was seen for each entry, and stops at the first difference.
 
 mod drawn;
 mod expected;
 #[cfg(proved)]
 mod proved;
+mod seen;
 
 use std::fmt;
 
-use crate::generate::{batch, edges, empty, Case, Random};
+#[cfg(any(proved, test))]
+use crate::generate::empty;
+use crate::generate::{batch, edges, Case, Random, Size};
+use seen::{entry, Seen, ENTRIES};
 
 pub use expected::reference_answer;
 #[cfg(proved)]
@@ -49,137 +54,37 @@ impl fmt::Debug for Buffer {
     }
 }
 
-/// Counts with the refusals where a line does not fit its buffer.
-const UNFIT: usize = 21;
-
-/// The entries in the order of the counts, and the refusals each can give.
-const ENTRIES: [(&str, &[usize]); 9] = [
-    ("check_tables", &[2, 5, 6, 7, 8, 9]),
-    ("read", &[1, 2, 3, 4, 5, 6, 8, 9, 10]),
-    ("write", &[2, 3, 5, 6, 7, 8, 9]),
-    ("row", &[2, 3, 5, 6, 7, 8, 9, 20]),
-    ("read_proof", &[2, 3, 11, 12]),
-    ("check", &[2, 3, 5, 6, 7, 8, 9, 13, 14, 15, 16, 17, 18, 19]),
-    ("evaluate", &[2, 5, 6, 7, 8, 9]),
-    (
-        "check_line",
-        &[
-            1, 2, 3, 4, 5, 6, 8, 9, 10, 11, 12, 13, 14, 15, 16, 17, 18, 19, UNFIT,
-        ],
-    ),
-    ("dependency_lines", &[1, 2, 3, 4, 5, 6, 8, 9, 10, UNFIT]),
-];
-
-fn entry(case: &Case) -> usize {
-    match case {
-        Case::CheckTables { .. } => 0,
-        Case::Read { .. } => 1,
-        Case::Write { .. } => 2,
-        Case::Row { .. } => 3,
-        Case::ReadProof { .. } => 4,
-        Case::Check { .. } => 5,
-        Case::Evaluate { .. } => 6,
-        Case::CheckLine { .. } => 7,
-        Case::DependencyLines { .. } => 8,
-    }
-}
-
-/// How often each entry gave each number, 0 being acceptance, and drew what it is to draw beyond numbers.
-pub struct Seen {
-    numbers: [[usize; UNFIT + 1]; ENTRIES.len()],
-    drawn: [Vec<(&'static str, usize)>; ENTRIES.len()],
-}
-
-impl Seen {
-    fn new() -> Seen {
-        let none = |case: &Case| drawn::due(case).into_iter().map(|kind| (kind, 0)).collect();
-        Seen {
-            numbers: Default::default(),
-            drawn: empty().each_ref().map(none),
-        }
-    }
-
-    fn count(&mut self, case: &Case, number: usize) {
-        let entry = entry(case);
-        self.numbers[entry][number] += 1;
-        let kinds = drawn::drawn(case, number);
-        for (kind, count) in &mut self.drawn[entry] {
-            *count += usize::from(kinds.contains(kind));
-        }
-    }
-
-    pub fn inputs(&self) -> usize {
-        self.numbers.iter().flatten().sum()
-    }
-
-    /// The refusals that an entry can give, and what else it is to draw, that no input drew, as `entry number`.
-    pub fn missing(&self) -> Vec<String> {
-        let mut missing = Vec::new();
-        for (at, (name, refusals)) in ENTRIES.iter().enumerate() {
-            for &number in refusals.iter().chain(&[0]) {
-                if self.numbers[at][number] == 0 {
-                    missing.push(format!("{name} {number}"));
-                }
-            }
-            let kinds = self.drawn[at].iter().filter(|(_, count)| *count == 0);
-            missing.extend(kinds.map(|(kind, _)| format!("{name} {kind}")));
-        }
-        missing
-    }
-}
-
-impl fmt::Display for Seen {
-    fn fmt(&self, f: &mut fmt::Formatter) -> fmt::Result {
-        writeln!(
-            f,
-            "{:<17}{:>8} {:>9}  refused, number: inputs (21: a line that does not fit)",
-            "entry", "inputs", "accepted"
-        )?;
-        for (counts, (name, _)) in self.numbers.iter().zip(ENTRIES) {
-            let inputs: usize = counts.iter().sum();
-            write!(f, "{name:<17}{inputs:>8} {:>9} ", counts[0])?;
-            for (number, count) in counts.iter().enumerate().skip(1) {
-                if *count > 0 {
-                    write!(f, " {number}: {count} ")?;
-                }
-            }
-            writeln!(f)?;
-        }
-        for (kinds, (name, _)) in self.drawn.iter().zip(ENTRIES) {
-            for (kind, count) in kinds {
-                writeln!(f, "{name:<17}{count:>8}  {kind}")?;
-            }
-        }
-        Ok(())
-    }
-}
-
-/// The first input on which the two disagree.
+/// The first input on which two disagree: the reference and the library, or the library's two sizes.
 pub struct Difference {
     pub case: Case,
+    pub who: [&'static str; 2],
     pub expected: Answer,
     pub found: Answer,
 }
+
+const REFERENCE_AND_LIBRARY: [&str; 2] = ["reference", "library"];
+const BOTH_SIZES: [&str; 2] = ["large", "small"];
 
 impl fmt::Display for Difference {
     fn fmt(&self, f: &mut fmt::Formatter) -> fmt::Result {
         writeln!(f, "difference in {}", ENTRIES[entry(&self.case)].0)?;
         writeln!(f, "{}", self.case)?;
-        for (who, answer) in [("reference", &self.expected), ("library", &self.found)] {
+        let [one, other] = self.who;
+        for (who, answer) in [(one, &self.expected), (other, &self.found)] {
             writeln!(f, "{who}: {} {:?}", answer.returned, answer.out)?;
         }
         let buffers = self.expected.buffers.iter().zip(&self.found.buffers);
         for (place, (expected, found)) in buffers.enumerate() {
             if expected != found {
-                writeln!(f, "buffer {place}: reference {expected:?}")?;
-                writeln!(f, "buffer {place}: library {found:?}")?;
+                writeln!(f, "buffer {place}: {one} {expected:?}")?;
+                writeln!(f, "buffer {place}: {other} {found:?}")?;
             }
         }
         Ok(())
     }
 }
 
-/// Runs at least so many drawn inputs, then the edges.
+/// Runs at least so many drawn inputs, then the edges; each row and each proof by both sizes.
 pub fn compare(
     library: impl Fn(&Case, &mut Random) -> Answer,
     seed: u64,
@@ -188,27 +93,56 @@ pub fn compare(
     let mut random = Random::new(seed);
     let mut filling = Random::new(seed + 1);
     let mut seen = Seen::new();
-    while seen.inputs() < inputs {
+    while seen.inputs < inputs {
         for case in batch(&mut random) {
-            compare_one(&library, case, &mut filling, &mut seen)?;
+            compare_sizes(&library, case, &mut filling, &mut seen)?;
         }
     }
     for case in edges(&mut random) {
-        compare_one(&library, case, &mut filling, &mut seen)?;
+        compare_sizes(&library, case, &mut filling, &mut seen)?;
     }
     Ok(seen)
 }
 
-fn compare_one(
+/// Compares an input, that of two sizes by each, and the two with each other.
+fn compare_sizes(
     library: impl Fn(&Case, &mut Random) -> Answer,
     case: Case,
     filling: &mut Random,
     seen: &mut Seen,
 ) -> Result<(), Box<Difference>> {
-    let (number, expected) = reference_answer(&case);
-    let found = library(&case, filling);
-    seen.count(&case, number);
-    agreed(case, expected, found)
+    seen.inputs += 1;
+    let large = compare_one(&library, &case, filling, seen)?;
+    let Some(case) = case.in_size(Size::Small) else {
+        return Ok(());
+    };
+    let small = compare_one(&library, &case, filling, seen)?;
+    seen.alike += usize::from(alike(case, large, small)?);
+    Ok(())
+}
+
+/// The library's answer, which is the reference's.
+fn compare_one(
+    library: impl Fn(&Case, &mut Random) -> Answer,
+    case: &Case,
+    filling: &mut Random,
+    seen: &mut Seen,
+) -> Result<Answer, Box<Difference>> {
+    let (number, expected) = reference_answer(case);
+    let found = library(case, filling);
+    seen.count(case, number);
+    agreed(REFERENCE_AND_LIBRARY, case, expected, &found)?;
+    Ok(found)
+}
+
+/// Whether there is scratch enough for both sizes, so that their answers are to be the same, and are.
+fn alike(case: Case, large: Answer, small: Answer) -> Result<bool, Box<Difference>> {
+    let enough = |(_, room)| room >= Size::Large.scratch();
+    if !case.scratch().is_some_and(enough) {
+        return Ok(false);
+    }
+    agreed(BOTH_SIZES, &case, large, &small)?;
+    Ok(true)
 }
 
 /// Runs each entry once with every table empty and no room in any buffer, and answers how many. The library is
@@ -221,25 +155,33 @@ pub fn compare_empty(library: impl Fn(&Case) -> Answer) -> Result<usize, Box<Dif
         let (_, mut expected) = reference_answer(&case);
         expected.buffers.clear();
         let found = library(&case);
-        agreed(case, expected, found)?;
+        agreed(REFERENCE_AND_LIBRARY, &case, expected, &found)?;
     }
     Ok(count)
 }
 
-fn agreed(case: Case, expected: Answer, found: Answer) -> Result<(), Box<Difference>> {
-    if expected == found {
+fn agreed(
+    who: [&'static str; 2],
+    case: &Case,
+    expected: Answer,
+    found: &Answer,
+) -> Result<(), Box<Difference>> {
+    if expected == *found {
         return Ok(());
     }
     Err(Box::new(Difference {
-        case,
+        case: case.clone(),
+        who,
         expected,
-        found,
+        found: found.clone(),
     }))
 }
 
 #[cfg(test)]
 mod tests {
     use super::*;
+    use crate::generate::scratch::{row_case, SHORT};
+    use crate::generate::Tables;
     use crate::reference::prefix::Entry;
 
     /// The reference against itself: the inputs draw every refusal of every entry.
@@ -253,12 +195,14 @@ mod tests {
 
     /// What the specification says where every table is empty and no buffer has room, by the reference: what is
     /// returned, and the words of `out`, which are a refusal's place, line, column, variable and block.
-    const EMPTY: [(u64, [u64; 5]); 9] = [
+    const EMPTY: [(u64, [u64; 5]); 11] = [
         (0, [0; 5]),
         (1, [0, 1, 1, 0, 0]),
         (3, [0; 5]),
         (20, [0; 5]),
+        (20, [0; 5]),
         (11, [0; 5]),
+        (3, [0; 5]),
         (3, [0; 5]),
         (0, [1, 0, 0, 0, 0]),
         (0, [0; 5]),
@@ -276,9 +220,9 @@ mod tests {
 
     #[test]
     fn empty_slices() {
-        assert_eq!(empty().each_ref().map(entry), [0, 1, 2, 3, 4, 5, 6, 7, 8]);
+        assert!(empty().iter().map(entry).eq(0..ENTRIES.len()));
         let run = compare_empty(empty_answer);
-        assert_eq!(run.unwrap_or_else(|difference| panic!("{difference}")), 9);
+        assert_eq!(run.unwrap_or_else(|difference| panic!("{difference}")), 11);
         #[cfg(proved)]
         for case in empty() {
             assert_eq!(null_answer(&case), empty_answer(&case));
@@ -357,9 +301,10 @@ mod tests {
                 }
             },
             |_, answer| answer.out[0] += u64::from(answer.returned == 8),
-            |case, answer| answer.out[1] += u64::from(entry(case) == 5 && answer.returned == 0),
+            |case, answer| answer.out[1] += u64::from(is_check(case) && answer.returned == 0),
             |case, answer| {
-                if let (5, Some(Buffer::Starts(starts))) = (entry(case), answer.buffers.get_mut(1))
+                if let (true, Some(Buffer::Starts(starts))) =
+                    (is_check(case), answer.buffers.get_mut(1))
                 {
                     if let Some(last) = starts.last_mut() {
                         *last = u32::from(answer.returned == 17);
@@ -377,7 +322,7 @@ mod tests {
             |_, answer| answer.out[2] += u64::from(answer.returned == 9),
             |case, answer| {
                 // A line cut off where it does not fit.
-                if let (7, Some(Buffer::Bytes(line))) = (entry(case), answer.buffers.last_mut()) {
+                if let (9, Some(Buffer::Bytes(line))) = (entry(case), answer.buffers.last_mut()) {
                     if answer.returned == 0 && !line.is_empty() {
                         line[0] = b'r';
                     }
@@ -387,14 +332,127 @@ mod tests {
         assert_eq!(faults.map(is_found), [true; 8]);
     }
 
+    fn is_check(case: &Case) -> bool {
+        matches!(case, Case::Check { .. })
+    }
+
     /// Whether a library is found out that has the reference's answers but for this fault.
-    fn is_found(fault: fn(&Case, &mut Answer)) -> bool {
+    fn is_found(fault: impl Fn(&Case, &mut Answer)) -> bool {
         let faulty = |case: &Case, _: &mut Random| {
             let (_, mut answer) = reference_answer(case);
             fault(case, &mut answer);
             answer
         };
         compare(faulty, 1, 20_000).is_err()
+    }
+
+    /// A library with a fault in one size alone, or at one length of the scratch, is found out.
+    #[test]
+    fn faults_of_a_size_are_found() {
+        let in_other = |case: &Case, size| {
+            let case = case.in_size(size).expect("an entry of two sizes");
+            reference_answer(&case).1
+        };
+        for wrong in [Size::Large, Size::Small] {
+            // Asks for the other's scratch.
+            let other = match wrong {
+                Size::Large => Size::Small,
+                Size::Small => Size::Large,
+            };
+            for rows in [true, false] {
+                assert!(is_found(|case, answer| {
+                    if is_sized(case, wrong) && rows != is_check(case) {
+                        *answer = in_other(case, other);
+                    }
+                }));
+                // Asks for a byte more, or for a byte less.
+                for (less, returned) in [(0, 3), (1, 0)] {
+                    assert!(is_found(|case, answer| {
+                        let short = wrong.scratch() - less;
+                        if case.scratch() == Some((wrong, short)) && rows != is_check(case) {
+                            let whole = [0, 3].contains(&answer.returned);
+                            answer.returned = if whole { returned } else { answer.returned };
+                        }
+                    }));
+                }
+            }
+        }
+    }
+
+    /// A library that looks at the scratch ahead of the tables, or leaves a byte of it, is found out.
+    #[test]
+    fn faults_in_the_scratch_are_found() {
+        for rows in [true, false] {
+            for length in SHORT {
+                assert!(is_found(|case, answer| {
+                    let refused = (5..=9).contains(&answer.returned);
+                    let own = case.scratch() == Some((Size::Small, length));
+                    if own && refused && rows != is_check(case) {
+                        answer.returned = 3;
+                        answer.out = [0; 5];
+                    }
+                }));
+            }
+            for (length, place, accepted) in [
+                (127, 126, false),
+                (640, 639, true),
+                (641, 640, true),
+                (8201, 640, true),
+                (8201, 8200, false),
+            ] {
+                assert!(is_found(|case, answer| {
+                    let own = case.scratch() == Some((Size::Small, length));
+                    let number = answer.returned;
+                    let scratch = answer.buffers.iter_mut().find_map(|buffer| match buffer {
+                        Buffer::Bytes(bytes) if bytes.len() == length => Some(bytes),
+                        _ => None,
+                    });
+                    if let (true, Some(scratch)) = (own && rows != is_check(case), scratch) {
+                        scratch[place] = u8::from((number == 0) == accepted);
+                    }
+                }));
+            }
+        }
+    }
+
+    /// The two sizes are held against each other wherever both have their scratch, all of the answer.
+    #[test]
+    fn sizes_that_differ_are_found() {
+        let tables = Tables::new(&[-1, 2], vec![1, 2, 0, -1, -2, 0]);
+        let case = |scratch_room| row_case(&tables, 1, 1025, scratch_room);
+        let answers = |case: &Case| {
+            let case = case.in_size(Size::Small).expect("a row");
+            let (_, answer) = reference_answer(&case);
+            assert_eq!(answer.returned, 0);
+            (case, answer)
+        };
+        let faults: [fn(&mut Answer); 4] = [
+            |answer| answer.returned = 3,
+            |answer| answer.out[4] = 1,
+            |answer| answer.buffers[0] = Buffer::Bytes(vec![0; 1025]),
+            |answer| answer.buffers[1] = Buffer::Bytes(vec![1; 8200]),
+        ];
+        for fault in faults {
+            for room in [8200, 8201, 20_000] {
+                let (case, small) = answers(&case(room));
+                let mut large = small.clone();
+                assert!(matches!(
+                    alike(case.clone(), large.clone(), small.clone()),
+                    Ok(true)
+                ));
+                fault(&mut large);
+                let difference = alike(case, large, small).err();
+                assert_eq!(difference.map(|found| found.who), Some(BOTH_SIZES));
+            }
+            let (case, small) = answers(&case(8199));
+            let mut large = small.clone();
+            fault(&mut large);
+            assert!(matches!(alike(case, large, small), Ok(false)));
+        }
+    }
+
+    fn is_sized(case: &Case, wanted: Size) -> bool {
+        case.scratch().is_some_and(|(size, _)| size == wanted)
     }
 
     /// A library that leaves out either of the two numbers of a blocked reduction is found out.
@@ -405,7 +463,7 @@ mod tests {
             |_, answer| answer.out[4] *= u64::from(answer.returned != 17),
             |case, answer| {
                 // A blocked line without its last number.
-                if let (7, Some(Buffer::Bytes(line))) = (entry(case), answer.buffers.last_mut()) {
+                if let (9, Some(Buffer::Bytes(line))) = (entry(case), answer.buffers.last_mut()) {
                     if line.starts_with(b"refused 17") {
                         let end = line.iter().rposition(|&byte| byte == b' ');
                         line[end.unwrap_or(0)..].fill(0);

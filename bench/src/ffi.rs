@@ -72,8 +72,16 @@ library! {
         const prefix: [i32], const clauses: [i32], value variable: i32,
         mut row: [u8], mut scratch: [u8], fill out
     ) -> u32;
+    fn qdr_row_small(
+        const prefix: [i32], const clauses: [i32], value variable: i32,
+        mut row: [u8], mut scratch: [u8], fill out
+    ) -> u32;
     fn qdr_read_proof(const file: [u8], value clause_count: u32, mut steps: [i32], fill out) -> u32;
     fn qdr_check(
+        const prefix: [i32], const clauses: [i32], const steps: [i32],
+        mut scratch: [u8], mut starts: [u32], fill out
+    ) -> u32;
+    fn qdr_check_small(
         const prefix: [i32], const clauses: [i32], const steps: [i32],
         mut scratch: [u8], mut starts: [u32], fill out
     ) -> u32;

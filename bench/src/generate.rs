@@ -10,14 +10,17 @@ mod lines;
 pub mod long;
 mod prefixes;
 pub mod proofs;
+pub mod scratch;
 mod tables;
 mod texts;
 
 use std::fmt;
 
-use crate::reference::prefix::{entries, records, Entry};
+use crate::reference::prefix::{entries, records, Entry, ENTRY_WORDS};
 use crate::reference::program::Room;
-use crate::reference::{MAX_CLAUSES, MAX_CLAUSE_WORDS, MAX_VARIABLE};
+use crate::reference::{
+    MAX_CLAUSES, MAX_CLAUSE_WORDS, MAX_VARIABLE, SCRATCH_BYTES, SMALL_SCRATCH_BYTES,
+};
 
 pub use edges::{edges, empty};
 
@@ -86,6 +89,22 @@ impl Tables {
         let entries = self.entries().into_iter().enumerate();
         let short = entries.map(|(place, entry)| sign(place) * entry.variable);
         self.prefix = records(&short.collect::<Vec<i32>>());
+    }
+
+    /// Gives the variables of admitted tables other numbers: those about powers of two first, in any order.
+    pub fn renumber(&mut self, random: &mut Random) {
+        let mut numbers: Vec<i32> = (1..=MAX_VARIABLE as i32).collect();
+        random.shuffle(&mut numbers);
+        let about_a_power = |n: &i32| (-1..=1).any(|by| (n + by) as u32 & (n + by - 1) as u32 == 0);
+        numbers.sort_by_key(|n| !about_a_power(n));
+        let mut new = [0; MAX_VARIABLE + 1];
+        for (words, number) in self.prefix.chunks_exact_mut(ENTRY_WORDS).zip(numbers) {
+            new[words[0] as usize] = number;
+            words[0] = number;
+        }
+        for word in &mut self.clauses {
+            *word = word.signum() * new[word.unsigned_abs() as usize];
+        }
     }
 
     /// The numbers of the universal variables, in prefix order.
@@ -208,6 +227,23 @@ fn push_clause(random: &mut Random, numbers: &mut [i32], length: usize, clauses:
     clauses.push(0);
 }
 
+/// Rows and the check of proofs have two entries each, which differ in the scratch that they ask for.
+#[derive(Clone, Copy, Debug, PartialEq, Eq)]
+pub enum Size {
+    Large,
+    Small,
+}
+
+impl Size {
+    /// The bytes of scratch asked for.
+    pub fn scratch(self) -> usize {
+        match self {
+            Size::Large => SCRATCH_BYTES,
+            Size::Small => SMALL_SCRATCH_BYTES,
+        }
+    }
+}
+
 /// One input of one entry, with the lengths of the buffers lent.
 #[derive(Clone, PartialEq, Eq)]
 pub enum Case {
@@ -224,6 +260,7 @@ pub enum Case {
         room: usize,
     },
     Row {
+        size: Size,
         tables: Tables,
         variable: i32,
         row_room: usize,
@@ -235,6 +272,7 @@ pub enum Case {
         room: usize,
     },
     Check {
+        size: Size,
         tables: Tables,
         steps: Vec<i32>,
         scratch_room: usize,
@@ -256,6 +294,31 @@ pub enum Case {
     },
 }
 
+impl Case {
+    /// The same input in this size, where the entry has two.
+    pub fn in_size(&self, wanted: Size) -> Option<Case> {
+        let mut case = self.clone();
+        match &mut case {
+            Case::Row { size, .. } | Case::Check { size, .. } => *size = wanted,
+            _ => return None,
+        }
+        Some(case)
+    }
+
+    /// The size and the length of the scratch, where the entry has two sizes.
+    pub fn scratch(&self) -> Option<(Size, usize)> {
+        match *self {
+            Case::Row {
+                size, scratch_room, ..
+            }
+            | Case::Check {
+                size, scratch_room, ..
+            } => Some((size, scratch_room)),
+            _ => None,
+        }
+    }
+}
+
 impl fmt::Display for Case {
     fn fmt(&self, f: &mut fmt::Formatter) -> fmt::Result {
         match self {
@@ -274,6 +337,7 @@ impl fmt::Display for Case {
                 variable,
                 row_room,
                 scratch_room,
+                ..
             } => {
                 writeln!(f, "{tables}\nvariable {variable}")?;
                 write!(f, "row of {row_room} bytes, scratch of {scratch_room}")
@@ -291,6 +355,7 @@ impl fmt::Display for Case {
                 steps,
                 scratch_room,
                 starts_room,
+                ..
             } => {
                 writeln!(f, "{tables}\nsteps {steps:?}")?;
                 write!(f, "scratch of {scratch_room} bytes, {starts_room} starts")
@@ -336,5 +401,49 @@ pub fn batch(random: &mut Random) -> Vec<Case> {
         16 => blocked::blocked_batch(random),
         17..=20 => lines::line_batch(random),
         _ => tables::game_batch(random),
+    }
+}
+
+#[cfg(test)]
+mod tests {
+    use super::*;
+    use crate::reference::row::row;
+
+    /// Other numbers, among them the largest, and nothing else: the rows are the same but for the numbers.
+    #[test]
+    fn renumbered_tables() {
+        let random = &mut Random::new(9);
+        let mut largest = 0;
+        for turn in 0..200 {
+            let shape = if turn == 0 {
+                Shape::large(random)
+            } else {
+                Shape::tight(random)
+            };
+            let old = shape.tables(random);
+            let mut new = old.clone();
+            new.renumber(random);
+            let (before, after) = (old.entries(), new.entries());
+            assert_eq!(before.len(), after.len());
+            let dependents = |tables: &Tables, universal: &Entry| {
+                let Tables { prefix, clauses } = tables;
+                let row = row(prefix, clauses, universal.variable, 1025, 640, 640).unwrap();
+                let depends = |entry: Entry| row[entry.variable as usize];
+                tables
+                    .entries()
+                    .into_iter()
+                    .map(depends)
+                    .collect::<Vec<u8>>()
+            };
+            for (old_entry, new_entry) in before.iter().zip(&after).take(10) {
+                assert_eq!(old_entry.block, new_entry.block);
+                assert_eq!(old_entry.quantifier, new_entry.quantifier);
+                if old_entry.is_universal() {
+                    assert_eq!(dependents(&old, old_entry), dependents(&new, new_entry));
+                }
+            }
+            largest += usize::from(after.iter().any(|entry| entry.variable == 1024));
+        }
+        assert!((20..100).contains(&largest), "{largest}");
     }
 }

@@ -2,7 +2,7 @@
 //! library against a reference that searches by worklist and keeps rows.
 
 use crate::generate::chains::{chain, reductions, Order};
-use crate::generate::{Random, Shape};
+use crate::generate::{Random, Shape, Size};
 use crate::reference::row::passes;
 use crate::reference::steps::Rows;
 use crate::time::{heading, time_check, time_rows, Runs};
@@ -42,7 +42,7 @@ fn time_drawn() {
         .map(|&u| passes(&tables.prefix, &tables.clauses, u));
     let most = taken.max().unwrap_or(0);
     let name = format!("512 rows, drawn, at most {most} passes");
-    time_rows(&name, RUNS, &tables, false);
+    time_rows(&name, RUNS, &tables, Size::Large, false);
 }
 
 fn time_chain(universals: i32, existentials: i32, order: Order) {
@@ -50,8 +50,8 @@ fn time_chain(universals: i32, existentials: i32, order: Order) {
     let passes = passes(&tables.prefix, &tables.clauses, 1);
     let order = format!("{order:?}").to_lowercase();
     let name = format!("{universals} rows, {existentials} {order}, {passes} passes");
-    time_rows(&name, RUNS, &tables, false);
+    time_rows(&name, RUNS, &tables, Size::Large, false);
     let steps = reductions(&tables, REDUCTIONS);
     let name = format!("{REDUCTIONS} reductions, {existentials} {order}");
-    time_check(&name, RUNS, &tables, &steps, &[Rows::Kept]);
+    time_check(&name, RUNS, &tables, &steps, Size::Large, &[Rows::Kept]);
 }

@@ -132,7 +132,7 @@ fn compare_all(with_library: bool, seed: u64, inputs: usize) -> ExitCode {
         }
     };
     print!("{seen}");
-    println!("{} inputs, no difference, seed {seed}", seen.inputs());
+    println!("{} inputs, no difference, seed {seed}", seen.inputs);
     #[cfg(proved)]
     if with_library {
         match compare::compare_empty(compare::null_answer) {

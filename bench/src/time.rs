@@ -6,7 +6,7 @@ use std::time::{Duration, Instant};
 
 use crate::generate::derive::long_derivation;
 use crate::generate::long::refutation;
-use crate::generate::{Random, Shape, Tables};
+use crate::generate::{Random, Shape, Size, Tables};
 use crate::reference::file::{read_proof, write_proof};
 use crate::reference::play::{evaluate, evaluate_by_words};
 use crate::reference::program::{check_line, dependency_lines, Room};
@@ -17,7 +17,7 @@ use crate::reference::text::read;
 use crate::reference::write::write;
 use crate::reference::{
     MAX_CLAUSES, MAX_CLAUSE_WORDS, MAX_PREFIX_WORDS, MAX_STEP_WORDS, MAX_TEXT, MAX_VARIABLE,
-    ROW_BYTES, SCRATCH_BYTES,
+    ROW_BYTES,
 };
 
 /// The best and the median of some runs, in milliseconds.
@@ -150,8 +150,10 @@ pub fn time() {
     let mut random = Random::new(3);
     let tables = full_tables(&mut random);
     time_tables(&tables);
-    let name = "row, each of 512 universals, 65,536 clause words";
-    time_rows(name, RUNS, &tables, true);
+    for (size, entry) in [(Size::Large, "row"), (Size::Small, "row_small")] {
+        let name = format!("{entry}, each of 512 universals, 65,536 clause words");
+        time_rows(&name, RUNS, &tables, size, true);
+    }
     time_proof_file(&mut random);
     time_checks(&mut random, &tables);
     time_games(&mut random);
@@ -248,14 +250,16 @@ fn time_read(name: &str, text: &[u8]) {
     );
 }
 
-/// Every row, against a search by worklist and, where that is of interest, one by passes.
-pub fn time_rows(name: &str, runs: Runs, tables: &Tables, with_passes: bool) {
+/// Every row, with the scratch that this size asks for, against a search by worklist and, where that is of interest, one
+/// by passes.
+pub fn time_rows(name: &str, runs: Runs, tables: &Tables, size: Size, with_passes: bool) {
     let Tables { prefix, clauses } = tables;
+    let asked = size.scratch();
     let universals = tables.universals();
     let universals = || universals.iter().copied();
     let by_worklist = &mut || {
         for variable in universals() {
-            black_box(row(prefix, clauses, variable, ROW_BYTES, SCRATCH_BYTES)).ok();
+            black_box(row(prefix, clauses, variable, ROW_BYTES, asked, asked)).ok();
         }
     };
     let by_passes = &mut || {
@@ -264,7 +268,12 @@ pub fn time_rows(name: &str, runs: Runs, tables: &Tables, with_passes: bool) {
         }
     };
     #[cfg(proved)]
-    let (mut bytes, mut scratch) = (vec![0; ROW_BYTES], vec![0; SCRATCH_BYTES]);
+    let (mut bytes, mut scratch) = (vec![0; ROW_BYTES], vec![0; asked]);
+    #[cfg(proved)]
+    let call = match size {
+        Size::Large => crate::ffi::qdr_row,
+        Size::Small => crate::ffi::qdr_row_small,
+    };
     let references: &mut [Reference] =
         &mut [("by worklist", by_worklist), ("by passes", by_passes)];
     report(
@@ -272,7 +281,7 @@ pub fn time_rows(name: &str, runs: Runs, tables: &Tables, with_passes: bool) {
         runs,
         proved!(for variable in universals() {
             let (row, scratch) = (&mut bytes[..], &mut scratch[..]);
-            crate::ffi::qdr_row(prefix, clauses, variable, row, scratch, &mut [0; 5]);
+            call(prefix, clauses, variable, row, scratch, &mut [0; 5]);
         }),
         &mut references[..1 + usize::from(with_passes)],
     );
@@ -302,29 +311,47 @@ fn time_checks(random: &mut Random, full: &Tables) {
     };
     let tables = shape.tables(random);
     let steps = long_derivation(random, &tables, MAX_STEP_WORDS, 14, usize::MAX);
-    let name = "check, resolutions, 1,048,576 step words";
-    time_check(name, RUNS, &tables, &steps, &[Rows::Kept]);
+    let name = "resolutions, 1,048,576 step words";
+    time_both_checks(name, &tables, &steps, &[Rows::Kept]);
     let steps = long_derivation(random, &tables, MAX_STEP_WORDS, 14, 2);
-    let name = "check, the same with reductions";
-    time_check(name, RUNS, &tables, &steps, &[Rows::Kept, Rows::Anew]);
+    let name = "the same with reductions";
+    time_both_checks(name, &tables, &steps, &[Rows::Kept, Rows::Anew]);
     let steps = long_derivation(random, full, MAX_STEP_WORDS, 20, 200);
-    let name = "check, few reductions, 65,536 clause words";
-    time_check(name, RUNS, full, &steps, &[Rows::Kept, Rows::Anew]);
+    let name = "few reductions, 65,536 clause words";
+    time_both_checks(name, full, &steps, &[Rows::Kept, Rows::Anew]);
 }
 
-pub fn time_check(name: &str, runs: Runs, tables: &Tables, steps: &[i32], kinds: &[Rows]) {
+/// A proof by each size, on lines of its own.
+fn time_both_checks(name: &str, tables: &Tables, steps: &[i32], kinds: &[Rows]) {
+    for (size, entry) in [(Size::Large, "check"), (Size::Small, "check_small")] {
+        let name = format!("{entry}, {name}");
+        time_check(&name, RUNS, tables, steps, size, kinds);
+    }
+}
+
+/// A proof, with the scratch that this size asks for, against references that make their rows in these ways.
+pub fn time_check(
+    name: &str,
+    runs: Runs,
+    tables: &Tables,
+    steps: &[i32],
+    size: Size,
+    kinds: &[Rows],
+) {
     let Tables { prefix, clauses } = tables;
-    let room = Room::FULL;
+    let (asked, room) = (size.scratch(), Room::FULL.starts);
     #[cfg(proved)]
-    let (mut scratch, mut starts) = (vec![0; room.scratch], vec![0; room.starts]);
+    let (mut scratch, mut starts) = (vec![0; asked], vec![0; room]);
+    #[cfg(proved)]
+    let call = match size {
+        Size::Large => crate::ffi::qdr_check,
+        Size::Small => crate::ffi::qdr_check_small,
+    };
     let mut work: Vec<_> = kinds
         .iter()
         .map(|&rows| {
             move || {
-                let Room {
-                    scratch, starts, ..
-                } = room;
-                black_box(check(prefix, clauses, steps, scratch, starts, rows)).ok();
+                black_box(check(prefix, clauses, steps, asked, asked, room, rows)).ok();
             }
         })
         .collect();
@@ -339,7 +366,7 @@ pub fn time_check(name: &str, runs: Runs, tables: &Tables, steps: &[i32], kinds:
     report(
         name,
         runs,
-        proved!(crate::ffi::qdr_check(
+        proved!(call(
             prefix,
             clauses,
             steps,

@@ -168,7 +168,15 @@ pub fn dependents(tables: &Tables, steps: &[i32]) -> Vec<Entry> {
 /// The entries of a clause's variables that depend on a universal, in the clause's order.
 fn dependents_in(tables: &Tables, clause: &[i32], universal: i32) -> Vec<Entry> {
     let Tables { prefix, clauses } = tables;
-    let Ok(row) = row(prefix, clauses, universal, ROW_BYTES, SCRATCH_BYTES) else {
+    let row = row(
+        prefix,
+        clauses,
+        universal,
+        ROW_BYTES,
+        SCRATCH_BYTES,
+        SCRATCH_BYTES,
+    );
+    let Ok(row) = row else {
         return vec![];
     };
     let entries = tables.entries();

@@ -1,6 +1,7 @@
 //! What the reference says of an input, buffers included.
 
-use super::{Answer, Buffer, UNFIT};
+use super::seen::UNFIT;
+use super::{Answer, Buffer};
 use crate::generate::Case;
 use crate::reference::steps::Rows;
 use crate::reference::tables::Counts;
@@ -44,13 +45,20 @@ pub fn reference_answer(case: &Case) -> (usize, Answer) {
             numbered(&answer, |text| [text.len() as u64, 0, 0], buffers)
         }
         Case::Row {
+            size,
             tables: given,
             variable,
             row_room,
             scratch_room,
         } => {
-            let (prefix, clauses) = (&given.prefix, &given.clauses);
-            let answer = row::row(prefix, clauses, *variable, *row_room, *scratch_room);
+            let answer = row::row(
+                &given.prefix,
+                &given.clauses,
+                *variable,
+                *row_room,
+                *scratch_room,
+                size.scratch(),
+            );
             let row = answer.as_ref().map_or(&[][..], |row| &row[..]);
             let buffers = vec![
                 Buffer::Bytes(padded(row, *row_room)),
@@ -69,6 +77,7 @@ pub fn reference_answer(case: &Case) -> (usize, Answer) {
             numbered(&answer, |steps| [steps.len() as u64, 0, 0], buffers)
         }
         Case::Check {
+            size,
             tables: given,
             steps: words,
             scratch_room,
@@ -79,6 +88,7 @@ pub fn reference_answer(case: &Case) -> (usize, Answer) {
                 &given.clauses,
                 words,
                 *scratch_room,
+                size.scratch(),
                 *starts_room,
                 Rows::Kept,
             );

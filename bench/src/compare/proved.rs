@@ -3,7 +3,7 @@
 
 use super::{Answer, Buffer};
 use crate::ffi::*;
-use crate::generate::{Case, Random};
+use crate::generate::{Case, Random, Size};
 use crate::reference::program::Room;
 
 /// What the proved library says of an input, its buffers full of other values beforehand.
@@ -22,11 +22,23 @@ pub fn null_answer(case: &Case) -> Answer {
         Case::CheckTables { .. } => null::qdr_check_tables(&mut out).into(),
         Case::Read { .. } => null::qdr_read(&mut out).into(),
         Case::Write { .. } => null::qdr_write(&mut out).into(),
-        Case::Row { variable, .. } => null::qdr_row(*variable, &mut out).into(),
+        Case::Row { size, variable, .. } => {
+            let call = match size {
+                Size::Large => null::qdr_row,
+                Size::Small => null::qdr_row_small,
+            };
+            call(*variable, &mut out).into()
+        }
         Case::ReadProof { clause_count, .. } => {
             null::qdr_read_proof(*clause_count, &mut out).into()
         }
-        Case::Check { .. } => null::qdr_check(&mut out).into(),
+        Case::Check { size, .. } => {
+            let call = match size {
+                Size::Large => null::qdr_check,
+                Size::Small => null::qdr_check_small,
+            };
+            call(&mut out).into()
+        }
         Case::Evaluate { .. } => null::qdr_evaluate(&mut out).into(),
         Case::CheckLine { room, .. } => {
             out = [0; 5];
@@ -68,6 +80,7 @@ fn call(case: &Case, random: &mut Random) -> Answer {
             (number.into(), vec![text.returned()])
         }
         Case::Row {
+            size,
             tables,
             variable,
             row_room,
@@ -75,7 +88,11 @@ fn call(case: &Case, random: &mut Random) -> Answer {
         } => {
             let mut row = Lent::new(*row_room, random);
             let mut scratch = Lent::new(*scratch_room, random);
-            let number = qdr_row(
+            let call = match size {
+                Size::Large => qdr_row,
+                Size::Small => qdr_row_small,
+            };
+            let number = call(
                 &tables.prefix,
                 &tables.clauses,
                 *variable,
@@ -95,6 +112,7 @@ fn call(case: &Case, random: &mut Random) -> Answer {
             (number.into(), vec![steps.returned()])
         }
         Case::Check {
+            size,
             tables,
             steps,
             scratch_room,
@@ -102,7 +120,11 @@ fn call(case: &Case, random: &mut Random) -> Answer {
         } => {
             let mut scratch = Lent::new(*scratch_room, random);
             let mut starts = Lent::new(*starts_room, random);
-            let number = qdr_check(
+            let call = match size {
+                Size::Large => qdr_check,
+                Size::Small => qdr_check_small,
+            };
+            let number = call(
                 &tables.prefix,
                 &tables.clauses,
                 steps,

@@ -1,10 +1,11 @@
-//! Blocked reductions: existentials in several blocks depend on a universal, and the clauses to be reduced hold some
-//! of them, in any order and under any numbers, beside variables that do not depend on it.
+//! Blocked reductions, and rows of the same formulas: existentials in several blocks depend on a universal, and the
+//! clauses to be reduced hold some of them, in any order and under any numbers, beside variables that do not depend
+//! on it.
 
 use super::derive::derivation;
 use super::proofs::{check_case, numbered};
-use super::{Case, Random, Tables};
-use crate::reference::MAX_VARIABLE;
+use super::{scratch, Case, Random, Tables};
+use crate::reference::{MAX_VARIABLE, ROW_BYTES};
 
 pub fn blocked_batch(random: &mut Random) -> Vec<Case> {
     let mut cases = Vec::new();
@@ -12,8 +13,16 @@ pub fn blocked_batch(random: &mut Random) -> Vec<Case> {
         let tables = tables(random);
         for _ in 0..3 {
             let steps = blocked_steps(random, &tables);
-            cases.push(check_case(random, &tables, steps));
+            cases.push(check_case(random, &tables, &steps));
         }
+        let variable = random.pick(&tables.universals());
+        let scratch_room = scratch::room(random);
+        cases.push(scratch::row_case(
+            &tables,
+            variable,
+            ROW_BYTES,
+            scratch_room,
+        ));
     }
     cases
 }
@@ -99,7 +108,11 @@ fn listed(random: &mut Random, short: &[i32], mut clauses: Vec<Vec<i32>>) -> Tab
         words.extend(clause);
         words.push(0);
     }
-    Tables::new(short, words)
+    let mut tables = Tables::new(short, words);
+    if random.one_in(3) {
+        tables.renumber(random);
+    }
+    tables
 }
 
 /// So many entries, a universal, and so many more, numbered in any order; three in five are existential.

@@ -68,7 +68,7 @@ mod tests {
         let taken = orders.map(|order| {
             let mut tables = chain(&mut Random::new(5), 124, 900, order);
             let row_of = |tables: &Tables, variable| {
-                let row = row(&tables.prefix, &tables.clauses, variable, 1025, 8200).unwrap();
+                let row = row(&tables.prefix, &tables.clauses, variable, 1025, 640, 640).unwrap();
                 row.iter().filter(|&&byte| byte == 1).count()
             };
             assert_eq!([1, 2, 124].map(|u| row_of(&tables, u)), [0; 3]);
@@ -77,6 +77,7 @@ mod tests {
                 &tables.prefix,
                 &tables.clauses,
                 &steps,
+                8200,
                 8200,
                 9000,
                 Rows::Kept,

@@ -68,6 +68,7 @@ impl Derivation {
                 variable,
                 ROW_BYTES,
                 SCRATCH_BYTES,
+                SCRATCH_BYTES,
             );
             rows[variable as usize] = row.ok();
         }

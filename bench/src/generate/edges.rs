@@ -4,14 +4,14 @@ use super::chains::{chain, reductions, Order};
 use super::derive::long_derivation;
 use super::lines::edge_lines;
 use super::prefixes::{edge_prefixes, edge_sets, every_room, full_prefix, small_prefixes};
-use super::proofs::check_case;
+use super::scratch::{self, edge_scratch};
 use super::texts::{spell, tokens};
-use super::{push_clause, Case, Random, Shape, Tables};
+use super::{push_clause, Case, Random, Shape, Size, Tables};
 use crate::reference::file::write_proof;
 use crate::reference::program::Room;
 use crate::reference::{
     MAX_CLAUSES, MAX_CLAUSE_WORDS, MAX_PREFIX_WORDS, MAX_STEP_WORDS, MAX_TEXT, ROW_BYTES,
-    SCRATCH_BYTES,
+    SCRATCH_BYTES, SMALL_SCRATCH_BYTES,
 };
 
 pub fn edges(random: &mut Random) -> Vec<Case> {
@@ -37,44 +37,52 @@ pub fn edges(random: &mut Random) -> Vec<Case> {
     cases.extend(edge_texts());
     cases.extend(edge_proofs(random));
     cases.extend(edge_chains(random));
+    cases.extend(edge_scratch());
     cases.extend(edge_lines(random));
     cases
 }
 
 /// Every entry that takes tables, on these.
 fn of_tables(tables: &Tables) -> Vec<Case> {
+    let row = |variable, scratch_room| scratch::row_case(tables, variable, 2000, scratch_room);
+    let steps = [1, 1, 2, 1, 0];
+    let check = |scratch_room| scratch::check_case(tables, &steps, scratch_room, MAX_CLAUSES + 1);
     let tables = || tables.clone();
-    let row = |variable| Case::Row {
-        tables: tables(),
-        variable,
-        row_room: 2000,
-        scratch_room: SCRATCH_BYTES,
-    };
-    let check = |scratch_room| Case::Check {
-        tables: tables(),
-        steps: vec![1, 1, 2, 1, 0],
-        scratch_room,
-        starts_room: MAX_CLAUSES + 1,
-    };
-    vec![
+    let mut cases = vec![
         Case::CheckTables { tables: tables() },
         Case::Write {
             tables: tables(),
             room: 400_000,
         },
         Case::Evaluate { tables: tables() },
-        row(1),
-        row(1024),
-        check(SCRATCH_BYTES),
-        check(SCRATCH_BYTES - 1),
-    ]
+    ];
+    let enough = [SMALL_SCRATCH_BYTES, SCRATCH_BYTES];
+    cases.extend(enough.map(|scratch_room| row(1024, scratch_room)));
+    for scratch_room in [0, 127, 128, 639, 640, 8199, 8200] {
+        cases.extend([row(1, scratch_room), check(scratch_room)]);
+    }
+    cases
 }
 
 /// Each entry once, with every table empty and no room in any buffer.
-pub fn empty() -> [Case; 9] {
+pub fn empty() -> [Case; 11] {
     let tables = Tables {
         prefix: vec![],
         clauses: vec![],
+    };
+    let row = |size| Case::Row {
+        size,
+        tables: tables.clone(),
+        variable: 1,
+        row_room: 0,
+        scratch_room: 0,
+    };
+    let check = |size| Case::Check {
+        size,
+        tables: tables.clone(),
+        steps: vec![],
+        scratch_room: 0,
+        starts_room: 0,
     };
     let room = Room {
         file: usize::MAX,
@@ -97,24 +105,18 @@ pub fn empty() -> [Case; 9] {
             tables: tables.clone(),
             room: 0,
         },
-        Case::Row {
-            tables: tables.clone(),
-            variable: 1,
-            row_room: 0,
-            scratch_room: 0,
-        },
+        row(Size::Large),
+        row(Size::Small),
         Case::ReadProof {
             file: vec![],
             clause_count: 0,
             room: 0,
         },
-        Case::Check {
+        check(Size::Large),
+        check(Size::Small),
+        Case::Evaluate {
             tables: tables.clone(),
-            steps: vec![],
-            scratch_room: 0,
-            starts_room: 0,
         },
-        Case::Evaluate { tables },
         Case::CheckLine {
             formula: vec![],
             proof: vec![],
@@ -211,13 +213,17 @@ fn edge_chains(random: &mut Random) -> Vec<Case> {
         bound.clauses.extend([1, -1024, 0]);
         for tables in [free, bound] {
             let steps = reductions(&tables, 6);
-            cases.push(check_case(random, &tables, steps));
-            cases.extend([1, 2].map(|variable| Case::Row {
-                tables: tables.clone(),
-                variable,
-                row_room: ROW_BYTES,
-                scratch_room: SCRATCH_BYTES,
-            }));
+            for scratch_room in [SMALL_SCRATCH_BYTES, SCRATCH_BYTES] {
+                let starts_room = tables.count() + 6;
+                cases.push(scratch::check_case(
+                    &tables,
+                    &steps,
+                    scratch_room,
+                    starts_room,
+                ));
+                let row = |variable| scratch::row_case(&tables, variable, ROW_BYTES, scratch_room);
+                cases.extend([1, 2].map(row));
+            }
         }
     }
     cases
@@ -240,13 +246,12 @@ fn edge_proofs(random: &mut Random) -> Vec<Case> {
     let step = [2, 3, 2, 0];
     for words in [MAX_STEP_WORDS, MAX_STEP_WORDS + 1] {
         let steps: Vec<i32> = step.iter().copied().cycle().take(words).collect();
+        let check = |scratch, starts| scratch::check_case(&tables, &steps, scratch, starts);
         for starts_room in [MAX_STEP_WORDS, 3 + words / 4, 2 + words / 4, 2] {
-            cases.push(Case::Check {
-                tables: tables.clone(),
-                steps: steps.clone(),
-                scratch_room: SCRATCH_BYTES,
-                starts_room,
-            });
+            cases.push(check(SCRATCH_BYTES, starts_room));
+        }
+        for scratch_room in [0, SMALL_SCRATCH_BYTES - 1, SMALL_SCRATCH_BYTES] {
+            cases.push(check(scratch_room, 3 + words / 4));
         }
     }
     let mut shape = Shape::large(random);
@@ -254,6 +259,13 @@ fn edge_proofs(random: &mut Random) -> Vec<Case> {
     shape.clauses = 6000;
     let tables = shape.tables(random);
     let steps = long_derivation(random, &tables, 60_000, 30, 12);
-    cases.push(check_case(random, &tables, steps));
+    for scratch_room in [SMALL_SCRATCH_BYTES, SCRATCH_BYTES] {
+        cases.push(scratch::check_case(
+            &tables,
+            &steps,
+            scratch_room,
+            MAX_CLAUSES + 15_000,
+        ));
+    }
     cases
 }

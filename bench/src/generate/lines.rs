@@ -10,7 +10,7 @@ use super::texts::{damage_bytes, damage_tokens, spell, tokens};
 use super::{Case, Random, Tables};
 use crate::reference::file::write_proof;
 use crate::reference::program::{check_line, dependency_lines, printed, Room, LINES_BYTES};
-use crate::reference::{MAX_STEP_WORDS, MAX_TEXT, SCRATCH_BYTES};
+use crate::reference::{MAX_STEP_WORDS, MAX_TEXT, SCRATCH_BYTES, SMALL_SCRATCH_BYTES};
 
 pub fn line_batch(random: &mut Random) -> Vec<Case> {
     let (tables, steps) = if random.one_in(3) {
@@ -70,7 +70,7 @@ fn drawn_room(
         2 | 3 => lent.prefix = prefix_room(random, tables.prefix.len()),
         4 => lent.clauses = room(random, tables.clauses.len()),
         5 => lent.steps = room(random, steps.len()),
-        6 => lent.scratch = random.pick(&[0, SCRATCH_BYTES / 2, SCRATCH_BYTES - 1]),
+        6 => lent.scratch = random.pick(&[0, SMALL_SCRATCH_BYTES, SCRATCH_BYTES - 1]),
         7 => lent.starts = random.below(lent.starts + 1),
         8..=13 => lent.file = 65_536,
         _ => lent.file = usize::MAX,

@@ -190,7 +190,7 @@ mod tests {
         let universals = ring.universals();
         assert_eq!(universals.len() as i32, OUTER + INNER);
         for variable in universals {
-            let row = row(&ring.prefix, &ring.clauses, variable, 1025, 8200).unwrap();
+            let row = row(&ring.prefix, &ring.clauses, variable, 1025, 8200, 8200).unwrap();
             let dependents: Vec<i32> = (0..1025).filter(|&v| row[v as usize] == 1).collect();
             let expected = if variable < X { vec![] } else { vec![W] };
             assert_eq!(dependents, expected, "{variable}");

@@ -1,11 +1,12 @@
 //! Prefixes: damage to a word of an entry, to entries or to the length; and the prefixes and the rooms for them at each
 //! bound and past it.
 
+use super::scratch::{check_case, row_case, ROOMS};
 use super::tables::{damage_words, odd_word, room};
 use super::texts::{spell, tokens};
 use super::{Case, Random, Tables};
 use crate::reference::prefix::{records, ENTRY_WORDS};
-use crate::reference::{MAX_CLAUSE_WORDS, MAX_PREFIX_WORDS, MAX_VARIABLE};
+use crate::reference::{MAX_CLAUSE_WORDS, MAX_PREFIX_WORDS, MAX_VARIABLE, ROW_BYTES};
 
 /// Damage to the words of an entry, to an entry, to the blocks, or to the length.
 pub fn damage_prefix(random: &mut Random, prefix: &mut Vec<i32>) {
@@ -124,7 +125,8 @@ pub fn edge_prefixes(random: &mut Random) -> Vec<Vec<i32>> {
     all
 }
 
-/// Every prefix of two entries whose words are small, right and wrong.
+/// Every prefix of two entries whose words are small, right and wrong: the check of tables, and a row and a proof, by turns
+/// with each length of the scratch.
 pub fn small_prefixes() -> Vec<Case> {
     let mut entries = Vec::new();
     for variable in [-1, 0, 1, 2] {
@@ -140,11 +142,16 @@ pub fn small_prefixes() -> Vec<Case> {
         prefix,
         clauses: vec![0, -2, 0],
     };
-    pairs
-        .map(|prefix| Case::CheckTables {
-            tables: tables(prefix),
-        })
-        .collect()
+    let cases = |(turn, prefix)| {
+        let tables = tables(prefix);
+        let rooms = [turn, turn + turn / ROOMS.len()].map(|turn| ROOMS[turn % ROOMS.len()]);
+        [
+            row_case(&tables, 1, ROW_BYTES, rooms[0]),
+            check_case(&tables, &[], rooms[1], 2),
+            Case::CheckTables { tables },
+        ]
+    };
+    pairs.enumerate().flat_map(cases).collect()
 }
 
 /// Sets of 1,024 variables in all, some listed and the others in a clause alone, with room for them or up to four words

@@ -2,9 +2,8 @@
 //! lengths they need.
 
 use super::derive::derivation;
-use super::tables::{buffer, damage_words, damaged_tables, odd_word};
-use super::{Case, Random, Shape, Tables};
-use crate::reference::SCRATCH_BYTES;
+use super::tables::{damage_words, damaged_tables, odd_word};
+use super::{scratch, Case, Random, Shape, Tables};
 
 /// The places at which steps begin, up to the first that is broken.
 pub fn step_places(steps: &[i32]) -> Vec<usize> {
@@ -42,7 +41,10 @@ pub fn lawful(random: &mut Random) -> (Tables, Vec<i32>) {
         1..=5 => Shape::small(random),
         _ => Shape::tight(random),
     };
-    let tables = shape.tables(random);
+    let mut tables = shape.tables(random);
+    if random.one_in(3) {
+        tables.renumber(random);
+    }
     let count = random.pick(&[3, 10, 30, 60]);
     let steps = derivation(random, &tables, count, 16);
     (tables, steps)
@@ -50,23 +52,38 @@ pub fn lawful(random: &mut Random) -> (Tables, Vec<i32>) {
 
 pub fn proof_batch(random: &mut Random) -> Vec<Case> {
     let (tables, steps) = lawful(random);
-    let mut cases = vec![check_case(random, &tables, steps.clone())];
+    let mut cases = vec![check_case(random, &tables, &steps)];
     for _ in 0..8 {
         let mut damaged = steps.clone();
         for _ in 0..random.pick(&[1, 1, 1, 2]) {
             damage_steps(random, &tables, &mut damaged);
         }
-        cases.push(check_case(random, &tables, damaged));
+        cases.push(check_case(random, &tables, &damaged));
     }
-    let damaged = damaged_tables(random, &tables);
-    cases.push(check_case(random, &damaged, steps));
+    for _ in 0..2 {
+        let damaged = damaged_tables(random, &tables);
+        let scratch_room = scratch::room_for_damaged(random);
+        let starts_room = starts_room(random, &damaged, &steps);
+        cases.push(scratch::check_case(
+            &damaged,
+            &steps,
+            scratch_room,
+            starts_room,
+        ));
+    }
     cases
 }
 
-pub fn check_case(random: &mut Random, tables: &Tables, steps: Vec<i32>) -> Case {
+pub fn check_case(random: &mut Random, tables: &Tables, steps: &[i32]) -> Case {
+    let starts_room = starts_room(random, tables, steps);
+    scratch::check_case(tables, steps, scratch::room(random), starts_room)
+}
+
+/// Mostly a start for each clause and each step or more, seldom fewer.
+fn starts_room(random: &mut Random, tables: &Tables, steps: &[i32]) -> usize {
     let inputs = tables.count();
-    let numbered = inputs + step_places(&steps).len();
-    let starts_room = match random.below(40) {
+    let numbered = inputs + step_places(steps).len();
+    match random.below(40) {
         0 => inputs.saturating_sub(1),
         1 => inputs,
         2 => 0,
@@ -74,12 +91,6 @@ pub fn check_case(random: &mut Random, tables: &Tables, steps: Vec<i32>) -> Case
         4 => numbered.saturating_sub(1),
         5..=14 => numbered + random.below(30),
         _ => numbered,
-    };
-    Case::Check {
-        tables: tables.clone(),
-        steps,
-        scratch_room: buffer(random, SCRATCH_BYTES),
-        starts_room,
     }
 }
 

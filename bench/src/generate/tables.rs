@@ -2,9 +2,10 @@
 //! there, repeats them, or cuts a table off.
 
 use super::prefixes::damage_prefix;
+use super::scratch::{self, row_case};
 use super::{Case, Random, Shape, Tables};
 use crate::reference::write::write;
-use crate::reference::{ROW_BYTES, SCRATCH_BYTES};
+use crate::reference::ROW_BYTES;
 
 pub fn tables_batch(random: &mut Random) -> Vec<Case> {
     let tables = Shape::any(random).tables(random);
@@ -117,7 +118,7 @@ pub fn write_batch(random: &mut Random) -> Vec<Case> {
 }
 
 /// A byte buffer around the least length: that, one less, none, or more.
-pub fn buffer(random: &mut Random, least: usize) -> usize {
+fn buffer(random: &mut Random, least: usize) -> usize {
     match random.below(40) {
         0 => least - 1,
         1 => random.below(least),
@@ -128,7 +129,14 @@ pub fn buffer(random: &mut Random, least: usize) -> usize {
 }
 
 pub fn row_batch(random: &mut Random) -> Vec<Case> {
-    let tables = Shape::any(random).tables(random);
+    let shape = match random.below(8) {
+        0 => Shape::middling(random),
+        _ => Shape::any(random),
+    };
+    let mut tables = shape.tables(random);
+    if random.one_in(2) {
+        tables.renumber(random);
+    }
     let mut entries = tables.entries();
     random.shuffle(&mut entries);
     entries.retain(|entry| entry.is_universal() || random.one_in(8));
@@ -137,24 +145,21 @@ pub fn row_batch(random: &mut Random) -> Vec<Case> {
     variables.push(odd_word(random));
     let mut cases: Vec<Case> = variables
         .iter()
-        .map(|&variable| Case::Row {
-            tables: tables.clone(),
-            variable: if random.one_in(20) {
+        .map(|&variable| {
+            let variable = if random.one_in(20) {
                 variable.wrapping_neg()
             } else {
                 variable
-            },
-            row_room: buffer(random, ROW_BYTES),
-            scratch_room: buffer(random, SCRATCH_BYTES),
+            };
+            let row_room = buffer(random, ROW_BYTES);
+            row_case(&tables, variable, row_room, scratch::room(random))
         })
         .collect();
-    for _ in 0..3 {
-        cases.push(Case::Row {
-            tables: damaged_tables(random, &tables),
-            variable: variables[0],
-            row_room: buffer(random, ROW_BYTES),
-            scratch_room: buffer(random, SCRATCH_BYTES),
-        });
+    for _ in 0..4 {
+        let damaged = damaged_tables(random, &tables);
+        let row_room = buffer(random, ROW_BYTES);
+        let scratch_room = scratch::room_for_damaged(random);
+        cases.push(row_case(&damaged, variables[0], row_room, scratch_room));
     }
     cases
 }

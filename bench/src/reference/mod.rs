@@ -25,7 +25,9 @@ pub const MAX_TEXT: usize = 1_048_576;
 pub const MAX_PLAYED: usize = 16;
 /// One byte for each variable number from 0.
 pub const ROW_BYTES: usize = MAX_VARIABLE + 1;
+/// The scratch that rows and the check of proofs ask for, and the one that their small entries ask for.
 pub const SCRATCH_BYTES: usize = 8200;
+pub const SMALL_SCRATCH_BYTES: usize = 640;
 
 #[derive(Clone, Copy, Debug, PartialEq, Eq)]
 pub enum Reason {

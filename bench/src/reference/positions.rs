@@ -21,7 +21,11 @@ const STEPS: [i32; 27] = [
 ];
 
 fn dependents(short: &[i32], clauses: &[i32], variable: i32) -> Vec<usize> {
-    let row = row(&records(short), clauses, variable, 1025, 8200).unwrap();
+    let prefix = records(short);
+    let large = row(&prefix, clauses, variable, 1025, 8200, 8200);
+    let small = row(&prefix, clauses, variable, 1025, 640, 640);
+    assert_eq!(large, small);
+    let row = large.unwrap();
     (0..1025).filter(|&v| row[v] == 1).collect()
 }
 
@@ -36,7 +40,11 @@ fn dependency_lines(formula: &[u8]) -> String {
 
 /// The empty clause and the number of steps, or the refusal's number and place.
 fn judged(short: &[i32], clauses: &[i32], steps: &[i32]) -> Result<(usize, usize), (u32, usize)> {
-    match check(&records(short), clauses, steps, 8200, 1000, Rows::Kept) {
+    let prefix = records(short);
+    let large = check(&prefix, clauses, steps, 8200, 8200, 1000, Rows::Kept);
+    let small = check(&prefix, clauses, steps, 640, 640, 1000, Rows::Kept);
+    assert_eq!(large, small);
+    match large {
         Ok(Verdict { empty, steps }) => Ok((empty, steps)),
         Err(refusal) => Err((refusal.reason.number(), refusal.place)),
     }
@@ -58,8 +66,18 @@ fn c_d_both_rows_hold_3() {
     assert_eq!(dependents(&prefix, &clauses, 2), vec![3]);
     let steps = [2, 1, 1, 2, -3, 0];
     assert_eq!(judged(&prefix, &clauses, &steps), Err((17, 3)));
-    let refusal = check(&records(&prefix), &clauses, &steps, 8200, 3, Rows::Kept).unwrap_err();
-    assert_eq!(refusal.blocker, [3, 2]);
+    for asked in [8200, 640] {
+        let answer = check(
+            &records(&prefix),
+            &clauses,
+            &steps,
+            asked,
+            asked,
+            3,
+            Rows::Kept,
+        );
+        assert_eq!(answer.unwrap_err().blocker, [3, 2]);
+    }
 }
 
 #[test]
@@ -111,8 +129,10 @@ fn bounds() {
         2,
         "1,025 variables"
     );
-    assert!(row(&records(&[-1]), &[], 1, 1025, 8200).is_ok());
-    assert!(row(&records(&[-1]), &[], 1, 1025, 8199).is_err());
+    for asked in [8200, 640] {
+        assert!(row(&records(&[-1]), &[], 1, 1025, asked, asked).is_ok());
+        assert!(row(&records(&[-1]), &[], 1, 1025, asked - 1, asked).is_err());
+    }
 }
 
 #[test]

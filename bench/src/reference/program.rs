@@ -79,6 +79,7 @@ pub fn check_line<P: AsRef<[u8]>>(
         &reading.clauses,
         &steps,
         room.scratch,
+        SCRATCH_BYTES,
         room.starts,
         Rows::Kept,
     )?;

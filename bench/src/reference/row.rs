@@ -3,21 +3,22 @@
 
 use super::prefix::{entries, Entry};
 use super::tables::{check_tables, Counts};
-use super::{literal_index, Reason, Refusal, LITERALS, ROW_BYTES, SCRATCH_BYTES};
+use super::{literal_index, Reason, Refusal, LITERALS, ROW_BYTES};
 
 pub type Row = [u8; ROW_BYTES];
 
-/// The row of a universal variable, for buffers of so many bytes.
+/// The row of a universal variable, for buffers of so many bytes, where so many are asked for as scratch.
 pub fn row(
     prefix: &[i32],
     clauses: &[i32],
     variable: i32,
     row_room: usize,
     scratch_room: usize,
+    scratch_asked: usize,
 ) -> Result<Row, Refusal> {
     let counts = check_tables(prefix, clauses)?;
     let entries = with_universal(prefix, variable)?;
-    if row_room < ROW_BYTES || scratch_room < SCRATCH_BYTES {
+    if row_room < ROW_BYTES || scratch_room < scratch_asked {
         return Err(Reason::NoRoom.at(0));
     }
     Ok(Occurrences::of(clauses, counts).row(&entries, variable))
@@ -101,7 +102,9 @@ fn reached_by_passes(clauses: &[i32], start: i32, scope: &Scope) -> ([bool; LITE
         let in_order = clauses.split(|&word| word == 0);
         match passes % 2 {
             0 => in_order.for_each(|clause| search.visit(clause, scope)),
-            _ => in_order.rev().for_each(|clause| search.visit(clause, scope)),
+            _ => in_order
+                .rev()
+                .for_each(|clause| search.visit(clause, scope)),
         }
         passes += 1;
     }
@@ -291,7 +294,7 @@ mod tests {
                 let universal = prefix[place];
                 let positive = joined(clauses, universal, &right);
                 let negative = joined(clauses, -universal, &right);
-                let row = row(prefix, clauses, universal, 1025, 8200).unwrap();
+                let row = row(prefix, clauses, universal, 1025, 8200, 8200).unwrap();
                 assert_eq!(row_by_passes(prefix, clauses, universal), Ok(row));
                 for variable in 0..1025 {
                     let both = |sign: i32| {
@@ -309,22 +312,48 @@ mod tests {
 
     #[test]
     fn refusals_in_order() {
-        let refused = |clauses: &[i32], variable, row_room, scratch_room| {
-            let answer = row(
-                &records(&[1, -2]),
-                clauses,
-                variable,
-                row_room,
-                scratch_room,
-            );
-            answer.map_err(|r| r.reason.number())
-        };
-        assert_eq!(refused(&[3], 1, 0, 0), Err(7));
-        for variable in [0, 1, -2, 3, 1025, i32::MAX, i32::MIN] {
-            assert_eq!(refused(&[], variable, 0, 0), Err(20));
+        for asked in [8200, 640] {
+            let refused = |clauses: &[i32], variable, row_room, scratch_room| {
+                let answer = row(
+                    &records(&[1, -2]),
+                    clauses,
+                    variable,
+                    row_room,
+                    scratch_room,
+                    asked,
+                );
+                answer.map_err(|r| (r.reason.number(), r.place))
+            };
+            for scratch in [0, 127, 128, 639, asked - 1, asked] {
+                assert_eq!(refused(&[2, 3], 1, 0, scratch), Err((7, 1)));
+                for variable in [0, 1, -2, 3, 1025, i32::MAX, i32::MIN] {
+                    assert_eq!(refused(&[], variable, 0, scratch), Err((20, 0)));
+                }
+                assert_eq!(refused(&[], 2, 1024, scratch), Err((3, 0)));
+                assert_eq!(refused(&[], 2, 1025, scratch).is_ok(), scratch == asked);
+            }
+            assert_eq!(refused(&[], 2, 1025, asked - 1), Err((3, 0)));
+            assert!(refused(&[], 2, 1025, asked + 1).is_ok());
         }
-        assert_eq!(refused(&[], 2, 1024, 8200), Err(3));
-        assert_eq!(refused(&[], 2, 1025, 8199), Err(3));
-        assert!(refused(&[], 2, 1025, 8200).is_ok());
+    }
+
+    /// How much scratch is asked for changes nothing but which scratch is short.
+    #[test]
+    fn both_sizes_have_the_same_row() {
+        let clauses = [1, 2, 0, -1, 2, 0, -2, 3, 0, -2, -3, 0];
+        let made = |scratch, asked| row(&records(&[-1, 2, 3]), &clauses, 1, 1025, scratch, asked);
+        let whole = made(8200, 8200).unwrap();
+        assert_eq!(whole.iter().filter(|&&byte| byte == 1).count(), 2);
+        for (scratch, asked) in [
+            (640, 640),
+            (641, 640),
+            (8199, 640),
+            (8200, 640),
+            (8201, 8200),
+        ] {
+            assert_eq!(made(scratch, asked), Ok(whole));
+        }
+        assert_eq!(made(8199, 8200), Err(Reason::NoRoom.at(0)));
+        assert_eq!(made(639, 640), Err(Reason::NoRoom.at(0)));
     }
 }

@@ -20,12 +20,13 @@ pub enum Rows {
     Anew,
 }
 
-/// The verdict on a proof, for a scratch of so many bytes and so many starts.
+/// The verdict on a proof, for a scratch of so many bytes, where so many are asked for, and so many starts.
 pub fn check(
     prefix: &[i32],
     clauses: &[i32],
     steps: &[i32],
     scratch_room: usize,
+    scratch_asked: usize,
     starts_room: usize,
     rows: Rows,
 ) -> Result<Verdict, Refusal> {
@@ -33,7 +34,7 @@ pub fn check(
     if steps.len() > MAX_STEP_WORDS {
         return Err(Reason::Oversized.at(0));
     }
-    if scratch_room < super::SCRATCH_BYTES {
+    if scratch_room < scratch_asked {
         return Err(Reason::NoRoom.at(0));
     }
     if starts_room < counts.clauses {
@@ -268,7 +269,7 @@ mod tests {
     use crate::reference::play;
 
     fn refusal(short: &[i32], clauses: &[i32], steps: &[i32]) -> Refusal {
-        check(&records(short), clauses, steps, 8200, 100, Rows::Kept).unwrap_err()
+        check(&records(short), clauses, steps, 8200, 8200, 100, Rows::Kept).unwrap_err()
     }
 
     fn refused(short: &[i32], clauses: &[i32], steps: &[i32]) -> (u32, usize) {
@@ -337,23 +338,36 @@ mod tests {
 
     #[test]
     fn room() {
-        let refused = |steps: &[i32], scratch, starts| {
-            let prefix = records(&[-1]);
-            let answer = check(&prefix, &[1, 0, -1, 0], steps, scratch, starts, Rows::Kept);
-            answer.map_err(|r| (r.reason.number(), r.place))
-        };
-        let right = [2, 1, 1, 0, 2, 2, -1, 0];
-        let verdict = Verdict { empty: 3, steps: 2 };
-        assert_eq!(refused(&right, 8200, 4), Ok(verdict));
-        assert_eq!(refused(&right, 8199, 4), Err((3, 0)));
-        assert_eq!(refused(&right, 8200, 3), Err((3, 4)));
-        assert_eq!(refused(&right, 8200, 2), Err((3, 3)));
-        assert_eq!(refused(&[5], 8200, 2), Err((13, 3)));
-        assert_eq!(refused(&[5], 8200, 1), Err((3, 2)));
-        assert_eq!(refused(&[5], 8200, 0), Err((3, 1)));
         let long = vec![0; MAX_STEP_WORDS + 1];
-        assert_eq!(refused(&long, 0, 0), Err((2, 0)));
-        assert_eq!(refused(&long[1..], 8200, 2), Err((13, 3)));
+        for asked in [8200, 640] {
+            let refused = |clauses: &[i32], steps: &[i32], scratch, starts| {
+                let prefix = records(&[-1]);
+                let answer = check(&prefix, clauses, steps, scratch, asked, starts, Rows::Kept);
+                answer.map_err(|r| (r.reason.number(), r.place))
+            };
+            // Tables first, then the step words, then scratch, then starts.
+            for scratch in [0, 127, 128, 639, asked] {
+                assert_eq!(refused(&[1, 1], &long, scratch, 0), Err((8, 1)));
+            }
+            let refused =
+                |steps: &[i32], scratch, starts| refused(&[1, 0, -1, 0], steps, scratch, starts);
+            let right = [2, 1, 1, 0, 2, 2, -1, 0];
+            let verdict = Verdict { empty: 3, steps: 2 };
+            assert_eq!(refused(&right, asked, 4), Ok(verdict));
+            assert_eq!(refused(&right, 8201, 4), Ok(verdict));
+            for scratch in [0, 639, asked - 1] {
+                assert_eq!(refused(&right, scratch, 4), Err((3, 0)));
+                assert_eq!(refused(&right, scratch, 0), Err((3, 0)));
+                assert_eq!(refused(&[5], scratch, 4), Err((3, 0)));
+            }
+            assert_eq!(refused(&right, asked, 3), Err((3, 4)));
+            assert_eq!(refused(&right, asked, 2), Err((3, 3)));
+            assert_eq!(refused(&[5], asked, 2), Err((13, 3)));
+            assert_eq!(refused(&[5], asked, 1), Err((3, 2)));
+            assert_eq!(refused(&[5], asked, 0), Err((3, 1)));
+            assert_eq!(refused(&long, 0, 0), Err((2, 0)));
+            assert_eq!(refused(&long[1..], asked, 2), Err((13, 3)));
+        }
     }
 
     #[test]
@@ -364,9 +378,11 @@ mod tests {
             let tables = Shape::tight(&mut random).tables(&mut random);
             let (prefix, clauses) = (&tables.prefix, &tables.clauses);
             let steps = derivation(&mut random, &tables, 40, 12);
-            let answer = check(prefix, clauses, &steps, 8200, 9000, Rows::Kept);
-            let anew = check(prefix, clauses, &steps, 8200, 9000, Rows::Anew);
+            let answer = check(prefix, clauses, &steps, 8200, 8200, 9000, Rows::Kept);
+            let anew = check(prefix, clauses, &steps, 8200, 8200, 9000, Rows::Anew);
             assert_eq!(answer, anew);
+            let small = check(prefix, clauses, &steps, 640, 640, 9000, Rows::Kept);
+            assert_eq!(answer, small);
             match answer {
                 Ok(_) => {
                     accepted += 1;

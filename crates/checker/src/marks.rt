@@ -20,7 +20,8 @@ fn looked_at(word: i32, on: bool) -> usize
     Word::slot(word)
 }
 
-// Stores a word's mark, unless it is the one left out; tells, when on, whether its opposite is marked, and when off, whether it was.
+// Stores a word's mark, unless it is the one left out; tells, when on, whether its opposite is marked, and when off, whether it was. Where a mark is
+// wiped that is not there, as in every right step, nothing is stored.
 fn put_word(word: i32, except: i32, on: bool, marks: &mut [u8]) -> bool
     requires { ⌜ length (now marks) ≡ 256 ⌝ ∗ ⌜ InRange word ⌝ }
     ensures { λ r. ⌜ Put on (marksIn (now (marks .entry))) (without except (alone word)) r (marksIn (now (marks .exit))) ⌝ }
@@ -29,7 +30,10 @@ fn put_word(word: i32, except: i32, on: bool, marks: &mut [u8]) -> bool
         return false;
     }
     let found = is_set(marks, looked_at(word, on) - 2);
-    put(marks, Word::slot(word) - 2, on);
+    if on | found {
+        put(marks, Word::slot(word) - 2, on);
+        return found;
+    }
     found
 }
 

@@ -61,7 +61,7 @@ pub record ReachedAt (entry : ℕ) (s : Bool) (at : ℕ) (bytes bytes′ : List 
   pub own : marksIn s bytes′ ≡ reachAt entry (at / 2) at (marksIn s bytes)
   pub other : (t : Bool) → t ≢ s → marksIn t bytes′ ≡ marksIn t bytes
 
--- What is known of the entries of the clause at `from`, and that the next one is found where there are none.
+-- What is known of the entries of the clause at `from`, and that the next clause is found where the search from u has none.
 pub record EntriesSeen (ws : List ℤ) (from : ℕ) (bytes : List ℕ) (r : ClauseEntries) : Type 0 where
   pub seen : (s : Bool) → seenBy s (r .positive) (r .negative) ≡ clauseEntry (marksIn s bytes) 0 (clauseAt ws from)
   pub later : r .positive ≡ 0 → drop (r .next) ws ≡ wordsAfter ws from
@@ -78,16 +78,16 @@ pub record ClausePassed (ws : List ℤ) (from : ℕ) (bytes bytes′ : List ℕ)
   pub later : drop next ws ≡ wordsAfter ws from
   pub further : from < length ws → from < next
 
--- No literal is an entry.
+-- No literal is an entry of either search.
 abbrev pub NoEntries : List ℕ → Type 0
 NoEntries bytes = (s : Bool) (i : ℕ) → i < 2048 → getD (flags bytes) (base s + i) 0 ≡ 0
 
--- Marks are opened before there are entries.
+-- Marks are opened while no literal is an entry.
 pub record Opens (bytes bytes′ : List ℕ) (opened : List ℕ → List ℕ) : Type 0 where
   pub marks : (s : Bool) → marksIn s bytes′ ≡ opened (marksIn s bytes)
   pub none : NoEntries bytes′
 
--- The existentials of the entries P may be passed, and there are no entries.
+-- The existentials of the prefix P may be passed, and no literal is an entry yet.
 pub record RightOpened (P : Prefix) (bytes : List ℕ) : Type 0 where
   pub marks : (s : Bool) → marksIn s bytes ≡ openEntries P (replicate 2050 0)
   pub none : NoEntries bytes

@@ -21,12 +21,12 @@ select true a b = a
 select false a b = b
 
 -- What is known of a clause's entries is one number: 0 for none, the variable of the only ones, or `several` for entries
--- of two variables. It grows by a literal of v whose byte is `byte`.
+-- of two variables. It grows by a literal of v whose mark is `mark`.
 abbrev pub several : ℕ
 several = 1025
 
 unfoldable pub seeAt : ℕ → ℕ → ℕ → ℕ
-seeAt byte v seen = select (ltb byte 2) seen (select (eqb seen 0) v (select (eqb seen v) seen several))
+seeAt mark v seen = select (ltb mark 2) seen (select (eqb seen 0) v (select (eqb seen v) seen several))
 
 unfoldable pub seeWord : List ℕ → Word → ℕ → ℕ
 seeWord m Zero seen = seen
@@ -34,7 +34,7 @@ seeWord m TooLarge seen = seen
 seeWord m (Positive v) seen = seeAt (getD m (slot (v .0) true) 0) (v .0) seen
 seeWord m (Negative v) seen = seeAt (getD m (slot (v .0) false) 0) (v .0) seen
 
--- A literal of v is reached from entries of another variable: the byte of its opposite, at `at`, becomes 2.
+-- A literal of v is reached from entries of another variable: the mark of its opposite, at `at`, becomes 2.
 unfoldable pub reachAt : ℕ → ℕ → ℕ → List ℕ → List ℕ
 reachAt entry v at m = select (eqb entry 0) m (select (eqb entry v) m (select (eqb (getD m at 0) 1) (set m at 2) m))
 

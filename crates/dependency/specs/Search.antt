@@ -1,7 +1,6 @@
 -- A search for the paths from one literal of a universal: the marks it starts with, passes over the clauses in both directions until
 -- one changes nothing, and what the marks then say. The theorem is in Search/Laws.antt; what it joins: Initial, Invariant, Closed.
 pub mod Laws
-pub mod Count
 pub mod Order
 pub mod Progress
 pub mod Entries

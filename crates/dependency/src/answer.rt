@@ -120,7 +120,7 @@ fn row_answer(
     }
 }
 
-// The variable whose number the word is; where it is none's, the first.
+// The variable whose number the word is; where it is none's, any.
 fn asked_variable(word: i32) -> Variable
     ensures { λ r. ⌜ Asked (wordOf word) (r .0) ⌝ }
 {

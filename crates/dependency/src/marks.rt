@@ -12,7 +12,7 @@ use bits::is_set;
 use bits::put;
 use formula::word::Word;
 
-// Where the flags of the variables begin, that of a variable 0 coming before them.
+// The variable v has the flag VARIABLES + v.
 pub const VARIABLES: usize = 2_047;
 
 // What is known of a clause's entries, for the search from u and the one from −u.

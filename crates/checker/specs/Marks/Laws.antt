@@ -1,16 +1,19 @@
 -- Laws of marks: the slot of a word, the marks that bytes hold, storing and ticking word by word and lists put together, lengths.
 -- Definitions: Marks. Assumes nothing.
 use Prim.Native.Nat.{ℕ, zero, suc, _+_, _*_, _-_, _<_, _≤_}
-use mathlib.Core.Path.{_≡_, refl, ap, sym, _∙_}
+use mathlib.Core.Path.{_≡_, refl, ap, sym, _∙_, subst}
+use mathlib.Core.Logic.{dite}
 use mathlib.Core.Bool.{Bool, true, false, _&&_, _||_, false≢true, or-false, or-assoc}
 use mathlib.Core.List.{List, [], _∷_, _++_, List·Memᴰ·head, List·Memᴰ·tail}
+use native.Mathlib.Decide.{ℕ-discrete}
 use native.Mathlib.Omega.{arith}
-use borrow.Author.Tests.{le-leb}
+use borrow.Author.Tests.{le-leb, eqb-false}
 use lib.Dec.{eqb}
 use lib.ListN.{length, getD, set, replicate, length-set}
+use lib.Seq.{set-getD}
 use lib.IntN.{ℤ, pos, negsuc, negℤ}
 use Rattle.bits.specs.Flags.{flags, flag}
-use Rattle.bits.specs.Flags.Laws.{flags-zeros}
+use Rattle.bits.specs.Flags.Laws.{flags-zeros, flag-small}
 use Rattle.formula.specs.Word.{wordOf}
 use Rattle.formula.specs.Word.Laws.{slot-bound}
 use Rattle.checker.specs.Words.{Words, sameWord, keep, without, InRange, AllInRange}
@@ -115,6 +118,21 @@ module _ (on : Bool) where
     pub put-one : sameWord e x ≡ false → Put on m (without e (alone x)) (eqb (getD m (lookedAt on x) 0) 1) (set m (slotAt x) (flag on))
     unfolding without finds putAll
     put-one h = rw h (record { told = sym (or-false (eqb (getD m (lookedAt on x) 0) 1)); left = refl })
+
+-- A mark that is not there is wiped by storing nothing.
+pub put-idle :
+    (on : Bool) (bytes : List ℕ) (e x : ℤ) → InRange x → sameWord e x ≡ false
+    → (on || eqb (getD (marksIn bytes) (lookedAt on x) 0) 1) ≡ false → Put on (marksIn bytes) (without e (alone x)) (eqb (getD (marksIn bytes) (lookedAt on x) 0) 1) (marksIn bytes)
+unfolding lookedAt
+put-idle true bytes e x r h k = absurd (false≢true (sym k))
+put-idle false bytes e x r h k =
+    let s = flag-small bytes (slotAt x - 2) in
+    let n = eqb-false (getD (marksIn bytes) (slotAt x) 0) 1 k in
+    let m = mark-read bytes (slotAt x) (slot-has-bit x r) in
+    let z : 0 ≡ getD (marksIn bytes) (slotAt x) 0 = dite (ℕ-discrete (getD (marksIn bytes) (slotAt x) 0) 0) (λ q. sym q) (λ q. absurd (n (omega arith))) in
+    subst (λ (l : List ℕ). Put false (marksIn bytes) (without e (alone x)) (eqb (getD (marksIn bytes) (slotAt x) 0) 1) l)
+    (ap (set (marksIn bytes) (slotAt x)) z ∙ set-getD (marksIn bytes) (slotAt x) 0)
+    (put-one false (marksIn bytes) e x h)
 
 pub length-tick : (m : List ℕ) (L : Words) → length (tickAll m L) ≡ length m
 unfolding tickAll

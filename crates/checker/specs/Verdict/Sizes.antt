@@ -1,16 +1,17 @@
--- How many bytes of scratch are asked for decides nothing but whether there is room: where there is, the verdicts are equal. Assumes nothing.
+-- How many bytes of scratch are asked for decides nothing but whether there is room: where both have it, the verdicts are equal (02, P8). Assumes nothing.
 use Prim.Native.Nat.{ℕ, zero, suc, _≤_}
 use mathlib.Core.Path.{_≡_, refl, ap, sym, _∙_}
 use mathlib.Core.List.{List, [], _∷_, _++_}
-use native.Mathlib.Omega.{arith}
 use borrow.Author.Tests.{le-leb}
 use lib.IntN.{ℤ}
+use lib.ListN.{length, replicate}
 use Rattle.formula.specs.Decode.{clausesOf}
 use Rattle.dependency.specs.Scratch.{scratchBound, smallBound}
 use Rattle.checker.specs.Rules.{Rules, resized, plainRules, smallRules}
 use Rattle.checker.specs.Words.{Words}
 use Rattle.checker.specs.Steps.{Scope, Step, statedBy, sizeOf, readStep, Judged, right, wrong, judgeFirst, turn, less-one, run}
-use Rattle.checker.specs.Verdict.{scopeOf, sizedVerdict, verdictOf}
+use Rattle.checker.specs.declared.verdict.Verdict.{Verdict}
+use Rattle.checker.specs.Verdict.{scopeOf, sizedVerdict, verdictOf, Checked}
 
 module _ (n : ℕ) (rules : Rules) (S : Scope) (room : ℕ) where
   first-resized : (known : List Words) (ws : Words) → judgeFirst (resized n rules) S room known ws ≡ judgeFirst rules S room known ws
@@ -34,16 +35,29 @@ module _ (n : ℕ) (rules : Rules) (S : Scope) (room : ℕ) where
       go (right s) h = h s
       go (wrong r) h = refl
 
--- Both have room: the verdicts are equal.
+-- Both have room, each in a scratch of its own length: the verdicts are equal.
 pub resized-verdict :
-    (n : ℕ) (rules : Rules) (prefix clauses steps : List ℤ) (scratch room : ℕ) → n ≤ scratch → rules .scratch ≤ scratch
-    → verdictOf (resized n rules) prefix clauses steps scratch room ≡ verdictOf rules prefix clauses steps scratch room
+    (n : ℕ) (rules : Rules) (prefix clauses steps : List ℤ) (scratch scratch-n room : ℕ) → rules .scratch ≤ scratch → n ≤ scratch-n
+    → verdictOf rules prefix clauses steps scratch room ≡ verdictOf (resized n rules) prefix clauses steps scratch-n room
 unfolding verdictOf sizedVerdict
-resized-verdict n rules prefix clauses steps scratch room h k =
-    rw (le-leb n scratch h, le-leb (rules .scratch) scratch k, run-resized n rules (scopeOf prefix clauses) room (clausesOf clauses) zero steps)
+resized-verdict n rules prefix clauses steps scratch scratch-n room h k =
+    rw (le-leb (rules .scratch) scratch h, le-leb n scratch-n k, run-resized n rules (scopeOf prefix clauses) room (clausesOf clauses) zero steps)
 
--- So the two entries answer the same wherever the larger scratch is there.
+-- So the two entries answer the same wherever both have their scratch.
 pub small-verdict :
-    (prefix clauses steps : List ℤ) (scratch room : ℕ) → scratchBound ≤ scratch
-    → verdictOf plainRules prefix clauses steps scratch room ≡ verdictOf smallRules prefix clauses steps scratch room
-small-verdict prefix clauses steps scratch room h = sym (resized-verdict smallBound plainRules prefix clauses steps scratch room (omega arith) h)
+    (prefix clauses steps : List ℤ) (scratch scratch-s room : ℕ) → scratchBound ≤ scratch → smallBound ≤ scratch-s
+    → verdictOf plainRules prefix clauses steps scratch room ≡ verdictOf smallRules prefix clauses steps scratch-s room
+small-verdict prefix clauses steps scratch scratch-s room h k = resized-verdict smallBound plainRules prefix clauses steps scratch scratch-s room h k
+
+module _ (prefix clauses steps : List ℤ) (scratch scratch-s offsets : List ℕ) (room : scratchBound ≤ length scratch) (room-s : smallBound ≤ length scratch-s)
+    (verdict verdict-s : Verdict) (scratch′ scratch-s′ offsets′ offsets-s′ : List ℕ)
+    (large : Checked plainRules prefix clauses steps scratch offsets verdict scratch′ offsets′)
+    (small : Checked smallRules prefix clauses steps scratch-s offsets verdict-s scratch-s′ offsets-s′) where
+  pub same-verdict : verdict ≡ verdict-s
+  same-verdict = large .verdict ∙ small-verdict prefix clauses steps (length scratch) (length scratch-s) (length offsets) room room-s ∙ sym (small .verdict)
+
+  pub same-offsets : offsets′ ≡ offsets-s′
+  same-offsets = large .offsets-cleared ∙ sym (small .offsets-cleared)
+
+  pub both-cleared : (scratch′ ≡ replicate (length scratch) 0) × (scratch-s′ ≡ replicate (length scratch-s) 0)
+  both-cleared = (large .scratch-cleared, small .scratch-cleared)

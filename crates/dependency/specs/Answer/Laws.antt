@@ -4,7 +4,7 @@ use Prim.Native.Nat.{ℕ, zero, suc, _-_, _≤_, _<_}
 use mathlib.Core.Path.{_≡_, refl, ap, sym, _∙_}
 use mathlib.Core.Bool.{Bool, true, false, _&&_, false≢true}
 use mathlib.Core.Option.{Option, none, some}
-use mathlib.Core.List.{List, [], _∷_, _++_}
+use mathlib.Core.List.{List, _++_}
 use native.Mathlib.Omega.{arith}
 use borrow.Author.Tests.{leb-true, le-leb}
 use lib.ListN.{length, getD, set, drop, replicate, length-append, length-drop}
@@ -28,7 +28,6 @@ use Rattle.formula.specs.declared.refusal.Reason.the-variants.{NoRoom, NotUnive
 use Rattle.dependency.specs.declared.answer.RowAnswer.the-variants.{Filled, Refused}
 use Rattle.dependency.specs.Row.{rowBelow, rowOf}
 use Rattle.dependency.specs.Row.Laws.{row-length}
-use Rattle.dependency.specs.Scratch.{rowIn, RowMade}
 use Rattle.dependency.specs.Scratch.Laws.{row-depends}
 use Rattle.dependency.specs.Answer.{universalAsked, rowRefusal, answerRow, askedByte, askedBytes}
 

@@ -1,17 +1,17 @@
 -- The marks that bytes hold: each by its two flags, and what storing a flag does to them. Definitions: Bits. Assumes nothing.
-use Prim.Native.Nat.{ℕ, zero, suc, _+_, _*_, _-_, _/_, _<_, _≤_}
-use mathlib.Core.Path.{_≡_, refl, ap, sym, _∙_}
+use Prim.Native.Nat.{ℕ, zero, suc, _+_, _-_, _/_, _<_, _≤_}
+use mathlib.Core.Path.{_≡_, refl, sym, _∙_}
 use mathlib.Core.Logic.{_≢_, dite}
-use mathlib.Core.Bool.{Bool, true, false, false≢true}
-use mathlib.Core.List.{List, [], _∷_, _++_}
+use mathlib.Core.Bool.{Bool, true, false}
+use mathlib.Core.List.{List, [], _∷_}
 use native.Mathlib.Decide.{ℕ-discrete, decLt}
 use native.Mathlib.Omega.{arith}
 use borrow.Author.Tests.{lt-ltb, le-ltb}
 use lib.ListN.{length, getD, set, replicate, length-append, length-set, length-replicate, List·getD-append, getD-replicate}
 use lib.Seq.{ext-getD, getD-set-same, getD-set-other, getD-at}
-use lib.Dec.{eqb, ltb}
+use lib.Dec.{ltb}
 use Rattle.formula.specs.Word.{slot}
-use Rattle.dependency.specs.Marks.{select, seeAt, reachAt}
+use Rattle.dependency.specs.Marks.{select}
 use Rattle.dependency.specs.Bits.{tab, markFrom, isOn, base, markAt, marksOf}
 
 -- A list by its places.

@@ -1,7 +1,7 @@
 -- Where clauses begin and end, from the table's end back: the end is a boundary, and so is the place behind a 0; a literal more before a clause. Assumes
 -- nothing.
 use Prim.Native.Nat.{ℕ, zero, suc, _+_, _-_, _≤_, _<_}
-use mathlib.Core.Path.{_≡_, refl, ap, sym, _∙_}
+use mathlib.Core.Path.{_≡_, refl, ap, _∙_}
 use mathlib.Core.Bool.{true, false}
 use mathlib.Core.List.{List, [], _∷_}
 use native.Mathlib.Omega.{arith}

@@ -19,7 +19,7 @@ use Rattle.formula.specs.declared.word.Word.{Word}
 use Rattle.formula.specs.declared.word.Word.the-variants.{Zero, TooLarge, Positive, Negative}
 use Rattle.dependency.specs.Marks.{select, several, seeAt, seeWord, clauseEntry}
 
--- A literal's byte.
+-- A literal's mark.
 abbrev pub byte : List ℕ → Literal → ℕ
 byte m l = getD m (slot (l .variable) (l .sign)) 0
 

@@ -58,7 +58,7 @@ open-size (x ∷ P) m = open-size P (openEntry (x .quantifier) (x .variable) m) 
     go existential = simp length-set
     go universal = refl
 
--- Each byte: opened, or as it was.
+-- Each mark: opened, or as it was.
 abbrev Opened : Prefix → List ℕ → Literal → Type 0
 Opened P m l = (List·Memᴰ (l .variable) (existentials P) × (byte (openEntries P m) l ≡ 1)) ⊎ (byte (openEntries P m) l ≡ byte m l)
 

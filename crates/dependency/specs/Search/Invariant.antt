@@ -23,7 +23,7 @@ use Rattle.dependency.specs.Search.{ordered, odd, passes}
 use Rattle.dependency.specs.Search.Order.{ordered-member}
 use Rattle.dependency.specs.Search.Entries.{byte, clause-entry-witnessed}
 
--- Literals of one byte are equal.
+-- Literals of one place are equal.
 pub slot-injective : (k l : Literal) → slot (k .variable) (k .sign) ≡ slot (l .variable) (l .sign) → k ≡ l
 slot-injective k l h = go (k .sign) (l .sign) refl refl h
   where
@@ -33,7 +33,7 @@ slot-injective k l h = go (k .sign) (l .sign) refl refl h
     go false true p q e = absurd (omega arith)
     go false false p q e = let v : k .variable ≡ l .variable = omega arith in λ i. literal (v i) ((p ∙ sym q) i)
 
--- A byte that is not 0 stands within the marks.
+-- A mark that is not 0 stands within the marks.
 pub inside : (m : List ℕ) (at : ℕ) → 0 < getD m at 0 → at < length m
 inside m at h = go (decLt at (length m))
   where
@@ -41,7 +41,7 @@ inside m at h = go (decLt at (length m))
     go (yes k) = k
     go (no n) = let e = List·getD-eq-default m 0 {n = at} (omega arith) in absurd (omega arith)
 
--- A store at one literal's byte, seen from any other's.
+-- A store at one literal's mark, seen from any other's.
 abbrev pub stored : List ℕ → Literal → ℕ → List ℕ
 stored m l b = set m (slot (l .variable) (l .sign)) b
 

@@ -1,20 +1,19 @@
 -- A search that has settled says which literals right of u paths reach, and no others: the theorem of layer 2's searches.
 -- It joins Initial (the marks at the start), Invariant (each pass keeps what they say) and Closed (at the end nothing is
 -- missed). Assumes nothing.
-use Prim.Native.Nat.{ℕ, zero, suc, _<_}
-use mathlib.Core.Path.{_≡_, refl, sym, subst}
+use Prim.Native.Nat.{ℕ}
+use mathlib.Core.Path.{_≡_, sym, subst}
 use mathlib.Core.Bool.{Bool, not}
-use mathlib.Core.List.{List, [], _∷_, map, List·Memᴰ, List·Memᴰ·head, List·Memᴰ·tail, Memᴰ·map, Memᴰ·of-map}
-use native.Mathlib.Nat.{le-of-suc-le-suc, not-suc-le-zero}
-use lib.ListN.{length, getD, set, replicate}
+use mathlib.Core.List.{List, map, List·Memᴰ, Memᴰ·map, Memᴰ·of-map}
+use lib.ListN.{getD, set, replicate}
 use lib.IntN.{ℤ}
 use Rattle.qbf.specs.Literal.{Literal, literal}
-use Rattle.qbf.specs.Formula.{Entry, entry, existential, Prefix, after, RightOf}
+use Rattle.qbf.specs.Formula.{Entry, Prefix, after, RightOf}
 use Rattle.qbf.specs.Formula.Laws.{neg-neg, after-within, right-asymmetric, existentials-member}
 use Rattle.qbf.specs.Path.{Path}
 use Rattle.qbf.specs.Dependency.{passable}
 use Rattle.formula.specs.Word.{slot}
-use Rattle.formula.specs.Prefix.{prefixOf, entryAt, entryCount, Entries}
+use Rattle.formula.specs.Prefix.{prefixOf}
 use Rattle.formula.specs.Tables.{Admitted}
 use Rattle.formula.specs.Tables.Laws.{admitted-entries, admitted-proper}
 use Rattle.formula.specs.Decode.{clausesOf, clauseOf, formulaOf}

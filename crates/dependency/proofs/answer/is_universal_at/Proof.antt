@@ -1,5 +1,5 @@
 -- `is_universal_at` answers by what the entry is. Assumes nothing.
-use mathlib.Core.Path.{_≡_, sym, _∙_}
+use mathlib.Core.Path.{sym, _∙_}
 use borrow.Author.Needs.{needs}
 use Rattle.qbf.specs.Formula.{Entry}
 use Rattle.formula.specs.Prefix.{entryAt}

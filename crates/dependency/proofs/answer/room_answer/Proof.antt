@@ -1,7 +1,6 @@
 -- `room_answer` answers by its two tests. Assumes nothing.
 use borrow.Author.Needs.{needs}
 use borrow.Author.Tests.{le-leb, lt-leb}
-use Rattle.dependency.specs.Scratch.{scratchBound}
 use Rattle.dependency.proofs.answer.room_answer.Statement.{statement}
 use Rattle.dependency.proofs.answer.room_answer.Tie as tie
 

@@ -2,13 +2,11 @@
 use Prim.Native.Nat.{ℕ}
 use mathlib.Core.Path.{_≡_, ap, sym, _∙_}
 use mathlib.Core.List.{List, _++_}
-use native.Mathlib.Omega.{arith}
 use borrow.Author.Needs.{needs}
 use lib.ListN.{length, take, drop, replicate}
 use lib.Seq.{length-take-le}
 use Rattle.formula.specs.Clear.{clearFrom}
 use Rattle.formula.specs.Decode.{formulaOf}
-use Rattle.dependency.specs.Scratch.{rowIn, smallBound}
 use Rattle.dependency.specs.Scratch.Laws.{row-front}
 use Rattle.dependency.specs.Answer.Laws.{row-cleared, asked-row}
 use Rattle.dependency.proofs.answer.write_row.Statement.{statement}

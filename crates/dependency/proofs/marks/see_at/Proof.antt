@@ -1,10 +1,9 @@
 -- `see_at` answers by its three tests. Assumes nothing.
 use mathlib.Core.Path.{_≡_, ap, sym, _∙_}
-use Prim.Native.Nat.{ℕ, _+_, _-_, _/_, _<_}
+use Prim.Native.Nat.{_+_, _-_, _/_}
 use native.Mathlib.Omega.{arith}
 use borrow.Author.Needs.{needs}
 use borrow.Author.Tests.{eq-eqb, ne-eqb}
-use lib.ListN.{length}
 use Rattle.bits.specs.Flags.{flags}
 use Rattle.dependency.specs.Bits.{isOn, base}
 use Rattle.dependency.specs.Bits.Words.{see-flag, entry-within}

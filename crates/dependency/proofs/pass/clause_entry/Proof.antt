@@ -1,6 +1,6 @@
 -- `clause_entry` runs down the clause: what is left of it gives the same answers, and the same words come after it. Assumes nothing.
-use Prim.Native.Nat.{ℕ, _≤_, _+_, _-_}
-use mathlib.Core.Path.{_≡_, refl, ap, sym, _∙_}
+use Prim.Native.Nat.{_≤_, _+_, _-_}
+use mathlib.Core.Path.{_≡_, refl, sym, _∙_}
 use mathlib.Core.Bool.{Bool, true, false}
 use mathlib.Core.List.{List}
 use native.Mathlib.Omega.{arith}

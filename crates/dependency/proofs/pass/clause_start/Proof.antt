@@ -1,6 +1,6 @@
 -- `clause_start` goes back over the clause's literals: the words after the clause from here on are those from its end on. Assumes nothing.
-use Prim.Native.Nat.{suc, _-_, _≤_, _<_}
-use mathlib.Core.Path.{_≡_, refl, sym, _∙_}
+use Prim.Native.Nat.{suc, _-_, _<_}
+use mathlib.Core.Path.{_≡_, sym, _∙_}
 use native.Mathlib.Omega.{arith}
 use borrow.Author.Needs.{needs}
 use lib.IntN.{ℤ, pos}

@@ -1,6 +1,6 @@
 -- `pass_clause` leaves a clause without entries, and reaches from the entries of any other. Assumes nothing.
 use Prim.Native.Nat.{ℕ}
-use mathlib.Core.Path.{_≡_, ap, sym, _∙_}
+use mathlib.Core.Path.{ap, sym, _∙_}
 use mathlib.Core.Bool.{true}
 use borrow.Author.Needs.{needs}
 use Rattle.formula.specs.Decode.{clauseAt}

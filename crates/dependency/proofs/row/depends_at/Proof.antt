@@ -1,5 +1,5 @@
 -- `depends_at` joins what its flags tell. Assumes nothing.
-use mathlib.Core.Path.{_≡_, sym, _∙_}
+use mathlib.Core.Path.{sym, _∙_}
 use borrow.Author.Needs.{needs}
 use Rattle.dependency.proofs.row.depends_at.Statement.{statement}
 use Rattle.dependency.proofs.row.depends_at.Tie as tie

@@ -1,9 +1,8 @@
 -- `depends_in` reads the row's flag of a variable. Assumes nothing.
-use Prim.Native.Nat.{ℕ, _+_, _≤_}
-use mathlib.Core.Path.{_≡_, ap, sym, _∙_}
+use Prim.Native.Nat.{ℕ}
+use mathlib.Core.Path.{ap, sym, _∙_}
 use borrow.Author.Needs.{needs}
 use lib.Dec.{eqb}
-use Rattle.dependency.specs.Scratch.{rowIn}
 use Rattle.dependency.specs.Scratch.Laws.{row-first, row-flag}
 use Rattle.dependency.proofs.row.depends_in.Statement.{statement}
 use Rattle.dependency.proofs.row.depends_in.Tie as tie

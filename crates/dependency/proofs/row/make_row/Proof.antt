@@ -1,11 +1,10 @@
 -- `make_row` searches, stores the row and clears all else. Assumes nothing.
-use Prim.Native.Nat.{ℕ, _≤_}
-use mathlib.Core.Path.{_≡_, ap, sym, _∙_}
+use Prim.Native.Nat.{_≤_}
+use mathlib.Core.Path.{_≡_, sym, _∙_}
 use native.Mathlib.Omega.{arith}
 use borrow.Author.Needs.{needs}
-use lib.ListN.{length, take, replicate}
+use lib.ListN.{length, take}
 use lib.Seq.{length-take-le}
-use Rattle.formula.specs.Clear.{clearFrom}
 use Rattle.dependency.specs.Row.Laws.{universal-range}
 use Rattle.dependency.specs.Scratch.{rowIn}
 use Rattle.dependency.specs.Scratch.Laws.{row-alone}

@@ -1,11 +1,9 @@
 -- `count_entries` counts the two searches' parts. Assumes nothing.
-use Prim.Native.Nat.{_≤_}
 use mathlib.Core.Path.{_≡_, sym, _∙_}
 use mathlib.Core.Bool.{true, false}
 use native.Mathlib.Omega.{arith}
 use lib.ListN.{length, take, drop, length-drop}
 use lib.Seq.{length-take-le}
-use Rattle.bits.specs.Flags.{flags, total}
 use Rattle.bits.specs.Flags.Laws.{total-bound}
 use Rattle.dependency.specs.Search.{entries}
 use Rattle.dependency.specs.Bits.{marksIn}

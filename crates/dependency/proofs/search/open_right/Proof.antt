@@ -1,8 +1,7 @@
 -- `open_right` clears and opens. Assumes nothing.
 use Prim.Native.Nat.{ℕ}
-use mathlib.Core.Path.{_≡_, ap, sym, _∙_}
-use native.Mathlib.Omega.{arith}
-use lib.ListN.{length, replicate, getD-replicate}
+use mathlib.Core.Path.{_≡_, ap, _∙_}
+use lib.ListN.{replicate, getD-replicate}
 use Rattle.bits.specs.Flags.{flags}
 use Rattle.bits.specs.Flags.Laws.{flags-zeros}
 use Rattle.formula.specs.Clear.{clearFrom}

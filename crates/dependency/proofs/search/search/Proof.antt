@@ -1,6 +1,6 @@
 -- `search` opens, starts and settles: what the marks then say is `searched` of Search/Laws. Assumes nothing.
-use Prim.Native.Nat.{ℕ, _+_}
-use mathlib.Core.Path.{_≡_, ap, sym, _∙_}
+use Prim.Native.Nat.{ℕ}
+use mathlib.Core.Path.{_≡_, ap, _∙_}
 use mathlib.Core.Bool.{Bool, true, false}
 use mathlib.Core.List.{List}
 use native.Mathlib.Omega.{arith}
@@ -10,8 +10,7 @@ use Rattle.qbf.specs.Formula.{after}
 use Rattle.formula.specs.Word.{slot}
 use Rattle.formula.specs.Prefix.{prefixOf}
 use Rattle.formula.specs.Tables.Laws.{admitted-entries}
-use Rattle.formula.specs.Decode.{clausesOf}
-use Rattle.dependency.specs.Search.{openEntries, ones, Settled}
+use Rattle.dependency.specs.Search.{openEntries, ones}
 use Rattle.dependency.specs.Search.Laws.{source-open, searched}
 use Rattle.dependency.specs.Bits.{marksIn}
 use Rattle.dependency.specs.Bits.Count.{ones-kept}

@@ -1,7 +1,7 @@
 -- `settle` passes until the entries stay or nothing is left: the marks come from so many passes, the counts are theirs, and the direction of the
 -- next one goes by how many they are. Assumes nothing.
 use Prim.Native.Nat.{ℕ, suc, _+_, _≤_}
-use mathlib.Core.Path.{_≡_, refl, ap, sym, _∙_}
+use mathlib.Core.Path.{_≡_, refl, ap, _∙_}
 use native.Mathlib.Omega.{arith}
 use borrow.Author.Needs.{needs}
 use mathlib.Core.Bool.{Bool, true, false, not}

@@ -1,5 +1,5 @@
 -- `start` stores one flag for each search. Assumes nothing.
-use Prim.Native.Nat.{ℕ, _+_, _*_, _-_, _/_, _≤_, _<_}
+use Prim.Native.Nat.{ℕ, _+_, _-_, _≤_, _<_}
 use mathlib.Core.Path.{_≡_, ap, sym, _∙_}
 use mathlib.Core.Bool.{Bool, true, false, false≢true}
 use mathlib.Core.List.{List}
@@ -7,7 +7,7 @@ use native.Mathlib.Omega.{arith}
 use lib.ListN.{length, set}
 use Rattle.bits.specs.Flags.{flags}
 use Rattle.formula.specs.Word.{slot}
-use Rattle.dependency.specs.Bits.{base, marksIn}
+use Rattle.dependency.specs.Bits.{base}
 use Rattle.dependency.specs.Bits.Words.{entry-within, source-set, source-other}
 use borrow.Author.Needs.{needs}
 use Rattle.dependency.proofs.search.start.Statement.{statement}
