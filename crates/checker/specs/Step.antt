@@ -1,7 +1,7 @@
 -- What the parts of a step's check answer, and the scratch they work in: the marks of a step, the row that was made last, which variables are
 -- existential. That the parts make up the judgement of Steps.antt is in Step/Laws.antt.
 pub mod Laws
-use Prim.Native.Nat.{ℕ, _+_}
+use Prim.Native.Nat.{ℕ, _+_, _≤_}
 use mathlib.Core.Path.{_≡_}
 use mathlib.Core.Bool.{not, _&&_}
 use mathlib.Core.Option.{Option, none, some}
@@ -12,16 +12,21 @@ use Rattle.bits.specs.Flags.{flags}
 use Rattle.dependency.specs.Row.{rowOf}
 use Rattle.dependency.specs.Scratch.{rowAt, later, smallBound, rowIn}
 use Rattle.formula.specs.Decode.{formulaOf}
-use Rattle.formula.specs.Word.{wordOf}
+use Rattle.formula.specs.Word.{wordOf, variableOf}
 use Rattle.formula.specs.declared.literal.VariableFit.{VariableFit}
 use Rattle.formula.specs.declared.literal.VariableFit.the-variants.{Within, Outside}
 use Rattle.formula.specs.declared.refusal.Reason.{Reason}
 use Rattle.formula.specs.declared.refusal.Reason.the-variants.{NotEarlier, WrongPivot, Blocked}
+use Rattle.checker.specs.declared.read.StepKind.{StepKind}
+use Rattle.checker.specs.declared.read.StepKind.the-variants.{Resolution, Reduction}
+use Rattle.checker.specs.declared.read.StepRead.{StepRead}
 use Rattle.checker.specs.declared.result.Judgement.{Judgement}
+use Rattle.checker.specs.declared.result.Judgement.the-variants.{Right, Wrong}
 use Rattle.checker.specs.declared.step.StepAnswer.{StepAnswer}
 use Rattle.checker.specs.declared.step.StepAnswer.the-variants.{Right as RightStep, Wrong as WrongStep}
 use Rattle.checker.specs.Words.{Words, holds}
 use Rattle.checker.specs.Steps.{Scope, sizeOf, resolvent, blocked, blockerOf, demand, Judged, right, wrong}
+use Rattle.checker.specs.Read.{fieldsOf}
 use Rattle.checker.specs.Marks.{marksIn, clean}
 use Rattle.checker.specs.Existentials.{existentialsOf, existentialOf}
 use Rattle.checker.specs.Result.{judgementOf, resultReason, statementReason}
@@ -49,6 +54,19 @@ pub record RowReady (prefix clauses : List ℤ) (u : ℕ) (scratch : List ℕ) :
   pub row : rowIn scratch ≡ rowOf (formulaOf prefix clauses) u
   pub ready : Ready prefix scratch
 
+-- The row of the variable `kept` stands there; with 0 for none, any row (02, P4).
+pub record KeptReady (prefix clauses : List ℤ) (kept : ℕ) (scratch : List ℕ) : Type 0 where
+  pub row : 1 ≤ kept → rowIn scratch ≡ rowOf (formulaOf prefix clauses) kept
+  pub ready : Ready prefix scratch
+
+-- The variable whose row stands in the scratch after a right step: a reduction's own, a resolution leaves what stood there.
+abbrev pub keptBy : StepKind → StepRead → ℕ → ℕ
+keptBy Resolution step kept = kept
+keptBy Reduction step kept = variableOf (wordOf (step .pivot))
+
+abbrev pub keptAfter : StepRead → ℕ → ℕ
+keptAfter step kept = keptBy (step .kind) step kept
+
 -- The pivot stands in both clauses, then the result.
 abbrev pub pivotReason : ℤ → Words → Words → Words → Option Reason
 pivotReason e C D L = demand (holds e C && holds (negℤ e) D) WrongPivot (resultReason (resolvent e C D) L)
@@ -73,16 +91,25 @@ pub record Answers (reason : Option Reason) (r : Judgement) (scratch scratch′ 
   pub marks : marksOf scratch′ ≡ clean
   pub kept : drop rowAt scratch′ ≡ drop rowAt scratch
 
--- An answer that leaves the scratch ready; another row may stand there.
-pub record JudgedReady (prefix : List ℤ) (reason : Option Reason) (r : Judgement) (scratch′ : List ℕ) : Type 0 where
+-- After a wrong step no row is kept.
+abbrev pub keptIf : Judgement → ℕ → ℕ
+keptIf Right kept = kept
+keptIf (Wrong r) kept = 0
+
+-- An answer that leaves the scratch ready; if the step is right, the row of `kept` stands there.
+pub record JudgedReady (prefix clauses : List ℤ) (kept : ℕ) (reason : Option Reason) (r : Judgement) (scratch′ : List ℕ) : Type 0 where
   pub answer : r ≡ judgementOf reason
-  pub ready : Ready prefix scratch′
+  pub ready : KeptReady prefix clauses (keptIf r kept) scratch′
 
--- The step's answer: where the next step begins.
-abbrev pub stepAnswer : ℕ → Judged → StepAnswer
-stepAnswer at (right s) = RightStep (at + sizeOf s)
-stepAnswer at (wrong r) = WrongStep r
+-- The step's answer: where the next step begins, and whose row is kept then; `kept` is the variable of the row before the step.
+abbrev pub stepAnswer : ℕ → ℕ → Judged → StepAnswer
+stepAnswer at kept (right s) = RightStep (at + sizeOf s) (keptAfter (fieldsOf at s) kept)
+stepAnswer at kept (wrong r) = WrongStep r
 
-pub record StepChecked (prefix : List ℤ) (at : ℕ) (j : Judged) (r : StepAnswer) (scratch′ : List ℕ) : Type 0 where
-  pub answer : r ≡ stepAnswer at j
-  pub ready : Ready prefix scratch′
+abbrev pub keptIn : StepAnswer → ℕ
+keptIn (RightStep next kept) = kept
+keptIn (WrongStep r) = 0
+
+pub record StepChecked (prefix clauses : List ℤ) (at kept : ℕ) (j : Judged) (r : StepAnswer) (scratch′ : List ℕ) : Type 0 where
+  pub answer : r ≡ stepAnswer at kept j
+  pub ready : KeptReady prefix clauses (keptIn r) scratch′

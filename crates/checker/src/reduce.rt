@@ -1,4 +1,5 @@
-// Kind 2: a reduction. Each check costs the row of its variable, and one pass over the prefix, the clause and the statement.
+// Kind 2: a reduction. Each check costs one pass over the prefix, the clause and the statement, and the row of its variable, unless that
+// is the row that stands in the scratch. `kept` is the variable whose row stands there, 0 for none.
 use crate::blocked::find_blocker;
 use crate::blocked::row_touches;
 use crate::clause::has_word;
@@ -32,11 +33,12 @@ ghost use Rattle.formula.specs.Tables.{Admitted};
 ghost use Rattle.qbf.specs.Formula.{universal};
 ghost use Rattle.formula.specs.Prefix.{prefixOf, quantifies, Entries};
 ghost use Rattle.formula.specs.Decode.{clauseAt};
+ghost use Rattle.formula.specs.Word.{wordOf, variableOf};
 ghost use Rattle.checker.specs.Steps.{antecedent, judgeReduction};
 ghost use Rattle.checker.specs.Words.{AllWords, InRange, AllInRange};
 ghost use Rattle.checker.specs.Verdict.{scopeOf};
 ghost use Rattle.checker.specs.Numbered.{stored};
-ghost use Rattle.checker.specs.Step.{Ready, RowReady, freeReason, JudgedReady};
+ghost use Rattle.checker.specs.Step.{KeptReady, RowReady, freeReason, JudgedReady};
 
 // The variable of a word that is a literal of a universal.
 fn universal_of(prefix: &[i32], word: i32) -> VariableFit
@@ -54,11 +56,15 @@ fn universal_of(prefix: &[i32], word: i32) -> VariableFit
     }
 }
 
-// Makes the row of a universal, and fills in the existentials, which making it cleared.
-fn row_for(prefix: &[i32], clauses: &[i32], variable: Variable, scratch: &mut [u8])
-    requires { ⌜ Ready (now prefix) (now scratch) ⌝ ∗ ⌜ Admitted (now prefix) (now clauses) ⌝ ∗ ⌜ quantifies universal (prefixOf (now prefix)) (variable .0) ≡ true ⌝ }
+// The row of a universal stands in the scratch: it is there if it was made last, and else it is made, and the existentials, which
+// making it cleared, are filled in.
+fn row_for(prefix: &[i32], clauses: &[i32], variable: Variable, kept: usize, scratch: &mut [u8])
+    requires { ⌜ KeptReady (now prefix) (now clauses) kept (now scratch) ⌝ ∗ ⌜ Admitted (now prefix) (now clauses) ⌝ ∗ ⌜ quantifies universal (prefixOf (now prefix)) (variable .0) ≡ true ⌝ }
     ensures { λ r. ⌜ RowReady (now (prefix .entry)) (now (clauses .entry)) (variable .0) (now (scratch .exit)) ⌝ }
 {
+    if kept == variable.0 {
+        return;
+    }
     make_row(prefix, clauses, variable, scratch);
     fill_existentials(prefix, &mut scratch[LATER..EXISTENTIALS_END]);
 }
@@ -73,12 +79,13 @@ fn reduce_on(
     literal: Literal,
     steps: &[i32],
     statement: usize,
+    kept: usize,
     scratch: &mut [u8],
 ) -> Judgement
-    requires { ⌜ Ready (now prefix) (now scratch) ⌝ ∗ ⌜ Admitted (now prefix) (now clauses) ⌝ ∗ ⌜ quantifies universal (prefixOf (now prefix)) (variable .0) ≡ true ⌝ ∗ ⌜ AllInRange (clauseAt (now words) from) ⌝ }
-    ensures { λ r. ⌜ JudgedReady (now (prefix .entry)) (freeReason (scopeOf (now (prefix .entry)) (now (clauses .entry))) (variable .0) (literal .0) (clauseAt (now (words .entry)) from) (clauseAt (now (steps .entry)) statement)) r (now (scratch .exit)) ⌝ }
+    requires { ⌜ KeptReady (now prefix) (now clauses) kept (now scratch) ⌝ ∗ ⌜ Admitted (now prefix) (now clauses) ⌝ ∗ ⌜ quantifies universal (prefixOf (now prefix)) (variable .0) ≡ true ⌝ ∗ ⌜ AllInRange (clauseAt (now words) from) ⌝ }
+    ensures { λ r. ⌜ JudgedReady (now (prefix .entry)) (now (clauses .entry)) (variable .0) (freeReason (scopeOf (now (prefix .entry)) (now (clauses .entry))) (variable .0) (literal .0) (clauseAt (now (words .entry)) from) (clauseAt (now (steps .entry)) statement)) r (now (scratch .exit)) ⌝ }
 {
-    row_for(prefix, clauses, variable, scratch);
+    row_for(prefix, clauses, variable, kept, scratch);
     if row_touches(words, from, scratch) {
         let blocker = find_blocker(prefix, words, from, scratch);
         return Judgement::Wrong(Reason::Blocked(blocker));
@@ -95,10 +102,11 @@ fn reduce_literal(
     literal: Literal,
     steps: &[i32],
     statement: usize,
+    kept: usize,
     scratch: &mut [u8],
 ) -> Judgement
-    requires { ⌜ Ready (now prefix) (now scratch) ⌝ ∗ ⌜ Admitted (now prefix) (now clauses) ⌝ ∗ ⌜ AllInRange (clauseAt (now words) from) ⌝ }
-    ensures { λ r. ⌜ JudgedReady (now (prefix .entry)) (judgeReduction (scopeOf (now (prefix .entry)) (now (clauses .entry))) (literal .0) (clauseAt (now (steps .entry)) statement) (some (clauseAt (now (words .entry)) from))) r (now (scratch .exit)) ⌝ }
+    requires { ⌜ KeptReady (now prefix) (now clauses) kept (now scratch) ⌝ ∗ ⌜ Admitted (now prefix) (now clauses) ⌝ ∗ ⌜ AllInRange (clauseAt (now words) from) ⌝ }
+    ensures { λ r. ⌜ JudgedReady (now (prefix .entry)) (now (clauses .entry)) (natAbs (literal .0)) (judgeReduction (scopeOf (now (prefix .entry)) (now (clauses .entry))) (literal .0) (clauseAt (now (steps .entry)) statement) (some (clauseAt (now (words .entry)) from))) r (now (scratch .exit)) ⌝ }
 {
     let a = literal.0;
     match universal_of(prefix, a) {
@@ -114,6 +122,7 @@ fn reduce_literal(
                     literal,
                     steps,
                     statement,
+                    kept,
                     scratch,
                 );
             }
@@ -130,10 +139,11 @@ fn reduce_fields(
     from: usize,
     steps: &[i32],
     step: StepRead,
+    kept: usize,
     scratch: &mut [u8],
 ) -> Judgement
-    requires { ⌜ Ready (now prefix) (now scratch) ⌝ ∗ ⌜ Admitted (now prefix) (now clauses) ⌝ ∗ ⌜ AllInRange (clauseAt (now words) from) ⌝ }
-    ensures { λ r. ⌜ JudgedReady (now (prefix .entry)) (judgeReduction (scopeOf (now (prefix .entry)) (now (clauses .entry))) (step .pivot) (clauseAt (now (steps .entry)) (step .statement)) (some (clauseAt (now (words .entry)) from))) r (now (scratch .exit)) ⌝ }
+    requires { ⌜ KeptReady (now prefix) (now clauses) kept (now scratch) ⌝ ∗ ⌜ Admitted (now prefix) (now clauses) ⌝ ∗ ⌜ AllInRange (clauseAt (now words) from) ⌝ }
+    ensures { λ r. ⌜ JudgedReady (now (prefix .entry)) (now (clauses .entry)) (variableOf (wordOf (step .pivot))) (judgeReduction (scopeOf (now (prefix .entry)) (now (clauses .entry))) (step .pivot) (clauseAt (now (steps .entry)) (step .statement)) (some (clauseAt (now (words .entry)) from))) r (now (scratch .exit)) ⌝ }
 {
     match Literal::new(step.pivot) {
         LiteralFit::Outside => Judgement::Wrong(Reason::WrongPivot),
@@ -146,6 +156,7 @@ fn reduce_fields(
                 literal,
                 steps,
                 step.statement,
+                kept,
                 scratch,
             )
         }
@@ -161,18 +172,19 @@ pub fn check_reduction<'a>(
     inputs: usize,
     numbered: usize,
     step: StepRead,
+    kept: usize,
     scratch: &mut [u8],
 ) -> Judgement
-    requires { ⌜ Ready (now prefix) (now scratch) ⌝ ∗ ⌜ Admitted (now prefix) (now clauses) ⌝ }
+    requires { ⌜ KeptReady (now prefix) (now clauses) kept (now scratch) ⌝ ∗ ⌜ Admitted (now prefix) (now clauses) ⌝ }
     requires { ⌜ numbered ≤ length (now offsets) ⌝ ∗ ⌜ AllWords InRange (stored inputs (now clauses) (now steps) (now offsets) numbered) ⌝ }
-    ensures { λ r. ⌜ JudgedReady (now (prefix .entry)) (judgeReduction (scopeOf (now (prefix .entry)) (now (clauses .entry))) (step .pivot) (clauseAt (now (steps .entry)) (step .statement)) (antecedent (stored inputs (now (clauses .entry)) (now (steps .entry)) (now (offsets .entry)) numbered) (step .first))) r (now (scratch .exit)) ⌝ }
+    ensures { λ r. ⌜ JudgedReady (now (prefix .entry)) (now (clauses .entry)) (variableOf (wordOf (step .pivot))) (judgeReduction (scopeOf (now (prefix .entry)) (now (clauses .entry))) (step .pivot) (clauseAt (now (steps .entry)) (step .statement)) (antecedent (stored inputs (now (clauses .entry)) (now (steps .entry)) (now (offsets .entry)) numbered) (step .first))) r (now (scratch .exit)) ⌝ }
 {
     match antecedent_of(step.first, numbered) {
         NumberFit::Outside => Judgement::Wrong(Reason::NotEarlier),
         NumberFit::Within(number) => {
             let words = table_of(clauses, steps, inputs, number);
             let from = place_of(steps, offsets, inputs, number);
-            reduce_fields(prefix, clauses, words, from, steps, step, scratch)
+            reduce_fields(prefix, clauses, words, from, steps, step, kept, scratch)
         }
     }
 }

@@ -1,4 +1,5 @@
-// The run over all steps, and the first empty clause after it. The run costs no more than its words, and a row a reduction.
+// The run over all steps, and the first empty clause after it. The run costs no more than its words, and a row where
+// the reduced variable changes.
 use crate::numbered::place_of;
 use crate::numbered::table_of;
 use crate::step::StepAnswer;
@@ -23,7 +24,8 @@ pub enum Run {
 }
 
 // Every step in turn. The offsets are left filled: the input clauses' as they came, and that of each right step. The scratch
-// is left ready for another run. Costs no more than the words and the antecedents of the steps, and a row a reduction.
+// is left ready for another run. `kept` is the variable whose row stands in it, 0 for none: a row is made only where a reduction is on
+// another variable than the one before. Costs no more than those rows, and the words and the antecedents of the steps.
 pub fn run_steps<'a>(
     prefix: &[i32],
     clauses: &'a [i32],
@@ -38,6 +40,7 @@ pub fn run_steps<'a>(
 {
     let mut numbered = inputs;
     let mut at = 0;
+    let mut kept = 0;
     while at < steps.len() {
         match check_step(
             prefix,
@@ -47,15 +50,17 @@ pub fn run_steps<'a>(
             inputs,
             numbered,
             at,
+            kept,
             scratch,
         ) {
             StepAnswer::Wrong(reason) => {
                 return Run::Refused(Refusal::new(reason, numbered + 1));
             }
-            StepAnswer::Right(next) => {
+            StepAnswer::Right { next, kept: row } => {
                 offsets[numbered] = at as u32;
                 numbered += 1;
                 at = next;
+                kept = row;
             }
         }
     }

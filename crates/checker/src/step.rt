@@ -7,6 +7,8 @@ use crate::reduce::check_reduction;
 use crate::resolve::check_resolution;
 use crate::result::Judgement;
 use formula::refusal::Reason;
+use formula::word::Word;
+ghost use mathlib.Core.Path.{_≡_};
 ghost use Prim.Native.Nat.{_≤_, _<_};
 ghost use lib.ListN.{length, drop};
 ghost use Rattle.formula.specs.Decode.{clauseAt};
@@ -17,7 +19,7 @@ ghost use Rattle.checker.specs.Words.{AllWords, InRange};
 ghost use Rattle.checker.specs.Verdict.{scopeOf};
 ghost use Rattle.checker.specs.Numbered.{stored};
 ghost use Rattle.checker.specs.Read.{stepOf};
-ghost use Rattle.checker.specs.Step.{Ready, JudgedReady, StepChecked};
+ghost use Rattle.checker.specs.Step.{KeptReady, keptAfter, JudgedReady, StepChecked};
 
 // A step that was read, by its kind.
 fn judge_step<'a>(
@@ -28,11 +30,12 @@ fn judge_step<'a>(
     inputs: usize,
     numbered: usize,
     step: StepRead,
+    kept: usize,
     scratch: &mut [u8],
 ) -> Judgement
-    requires { ⌜ Ready (now prefix) (now scratch) ⌝ ∗ ⌜ Admitted (now prefix) (now clauses) ⌝ }
+    requires { ⌜ KeptReady (now prefix) (now clauses) kept (now scratch) ⌝ ∗ ⌜ Admitted (now prefix) (now clauses) ⌝ }
     requires { ⌜ numbered ≤ length (now offsets) ⌝ ∗ ⌜ AllWords InRange (stored inputs (now clauses) (now steps) (now offsets) numbered) ⌝ }
-    ensures { λ r. ⌜ JudgedReady (now (prefix .entry)) (judge (scopeOf (now (prefix .entry)) (now (clauses .entry))) (stored inputs (now (clauses .entry)) (now (steps .entry)) (now (offsets .entry)) numbered) (stepOf step (clauseAt (now (steps .entry)) (step .statement)))) r (now (scratch .exit)) ⌝ }
+    ensures { λ r. ⌜ JudgedReady (now (prefix .entry)) (now (clauses .entry)) (keptAfter step kept) (judge (scopeOf (now (prefix .entry)) (now (clauses .entry))) (stored inputs (now (clauses .entry)) (now (steps .entry)) (now (offsets .entry)) numbered) (stepOf step (clauseAt (now (steps .entry)) (step .statement)))) r (now (scratch .exit)) ⌝ }
 {
     let kind = step.kind;
     match kind {
@@ -48,16 +51,28 @@ fn judge_step<'a>(
                 inputs,
                 numbered,
                 step,
+                kept,
                 scratch,
             )
         }
     }
 }
 
-// Right: where the next step begins.
+// Right: where the next step begins, and the variable whose row stands in the scratch, 0 for none.
 pub enum StepAnswer {
-    Right(usize),
+    Right { next: usize, kept: usize },
     Wrong(Reason),
+}
+
+// The variable whose row stands in the scratch after a right step: that of the reduced literal, or the one before a resolution.
+fn kept_after(step: StepRead, kept: usize) -> usize
+    ensures { λ r. ⌜ r ≡ keptAfter step kept ⌝ }
+{
+    let kind = step.kind;
+    match kind {
+        StepKind::Resolution => kept,
+        StepKind::Reduction => Word::variable(step.pivot),
+    }
 }
 
 // The step whose first word stands at `at`, after `numbered` numbered clauses, the first `inputs` of which are the input's.
@@ -69,11 +84,12 @@ pub fn check_step<'a>(
     inputs: usize,
     numbered: usize,
     at: usize,
+    kept: usize,
     scratch: &mut [u8],
 ) -> StepAnswer
-    requires { ⌜ Ready (now prefix) (now scratch) ⌝ ∗ ⌜ Admitted (now prefix) (now clauses) ⌝ ∗ ⌜ at < length (now steps) ⌝ }
+    requires { ⌜ KeptReady (now prefix) (now clauses) kept (now scratch) ⌝ ∗ ⌜ Admitted (now prefix) (now clauses) ⌝ ∗ ⌜ at < length (now steps) ⌝ }
     requires { ⌜ numbered ≤ length (now offsets) ⌝ ∗ ⌜ AllWords InRange (stored inputs (now clauses) (now steps) (now offsets) numbered) ⌝ }
-    ensures { λ r. ⌜ StepChecked (now (prefix .entry)) at (judgeFirst plainRules (scopeOf (now (prefix .entry)) (now (clauses .entry))) (length (now (offsets .entry))) (stored inputs (now (clauses .entry)) (now (steps .entry)) (now (offsets .entry)) numbered) (drop at (now (steps .entry)))) r (now (scratch .exit)) ⌝ }
+    ensures { λ r. ⌜ StepChecked (now (prefix .entry)) (now (clauses .entry)) at kept (judgeFirst plainRules (scopeOf (now (prefix .entry)) (now (clauses .entry))) (length (now (offsets .entry))) (stored inputs (now (clauses .entry)) (now (steps .entry)) (now (offsets .entry)) numbered) (drop at (now (steps .entry)))) r (now (scratch .exit)) ⌝ }
 {
     match read_step(steps, at) {
         Reading::Broken => StepAnswer::Wrong(Reason::BrokenStep),
@@ -81,7 +97,6 @@ pub fn check_step<'a>(
             if offsets.len() <= numbered {
                 return StepAnswer::Wrong(Reason::NoRoom);
             }
-            let next = step.next;
             match judge_step(
                 prefix,
                 clauses,
@@ -90,9 +105,13 @@ pub fn check_step<'a>(
                 inputs,
                 numbered,
                 step,
+                kept,
                 scratch,
             ) {
-                Judgement::Right => StepAnswer::Right(next),
+                Judgement::Right => StepAnswer::Right {
+                    next: step.next,
+                    kept: kept_after(step, kept),
+                },
                 Judgement::Wrong(reason) => StepAnswer::Wrong(reason),
             }
         }

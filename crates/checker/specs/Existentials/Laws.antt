@@ -66,9 +66,12 @@ module _ (prefix : List ℤ) (entries : Entries prefix) where
       flag-seen (replicate 1024 0) (length-replicate {A = ℕ} 1024 0) (prefixOf prefix) (entries .ranged) k
       ∙ ap (λ (n : ℕ). eqb n 1 || quantifies existential (prefixOf prefix) (suc k)) (getD-replicate {A = ℕ} 1024 k 0 0 h)
 
-  -- A number out of range is not listed.
+  -- A number that is listed is in range, and one out of range is not listed.
+  pub listed-ranged : (q : Quantifier) (n : ℕ) → quantifies q (prefixOf prefix) n ≡ true → (1 ≤ n) × (n ≤ 1024)
+  listed-ranged q n e = entries .ranged (entry n q) (quantifies-sound q (prefixOf prefix) n e)
+
   pub not-listed : (q : Quantifier) (n : ℕ) → (1 ≤ n → n ≤ 1024 → ⊥) → quantifies q (prefixOf prefix) n ≡ false
-  not-listed q n h = not-true-false (quantifies q (prefixOf prefix) n) (λ e. let r = entries .ranged (entry n q) (quantifies-sound q (prefixOf prefix) n e) in h (r .0) (r .1))
+  not-listed q n h = not-true-false (quantifies q (prefixOf prefix) n) (λ e. let r = listed-ranged q n e in h (r .0) (r .1))
 
 -- A word out of range is no universal literal; its variable is its magnitude, where it is one.
 pub universal-outside : (prefix : List ℤ) → Entries prefix → (w : ℤ) → inRange (natAbs w) 1024 ≡ false → quantifies universal (prefixOf prefix) (natAbs w) ≡ false

@@ -30,7 +30,8 @@ use Rattle.checker.specs.Numbered.{storedAt, stored}
 use Rattle.checker.specs.Numbered.Laws.{stored-length, stored-get, stored-at-later, stored-at-step, stored-set-later, stored-step}
 use Rattle.checker.specs.Read.{statementOf}
 use Rattle.checker.specs.Read.Laws.{statement-read}
-use Rattle.checker.specs.Step.{stepAnswer, Ready}
+use Rattle.checker.specs.Step.{Ready, KeptReady, stepAnswer}
+use Rattle.checker.specs.Step.Laws.{none-kept}
 use Rattle.checker.specs.Run.{isEmpty, stepPlace, StepStands, Placed, RunDone}
 use Rattle.checker.specs.declared.run.Run.the-variants.{Ended, Refused}
 
@@ -54,19 +55,19 @@ pub record Taken (S : Scope) (room : ℕ) (known : List Words) (steps : Words) (
   pub after : next ≡ at + sizeOf taken
   pub onward : at < next
 
-module _ (S : Scope) (room : ℕ) (known : List Words) (steps : Words) (at : ℕ) (within : at < length steps) where
-  pub right-taken : (next : ℕ) → RightStep next ≡ stepAnswer at (judgeFirst plainRules S room known (drop at steps)) → Taken S room known steps at next
-  right-taken next h = go (judgeFirst plainRules S room known (drop at steps)) refl h
+module _ (S : Scope) (room : ℕ) (known : List Words) (steps : Words) (at kept : ℕ) (within : at < length steps) where
+  pub right-taken : (next row : ℕ) → RightStep next row ≡ stepAnswer at kept (judgeFirst plainRules S room known (drop at steps)) → Taken S room known steps at next
+  right-taken next row h = go (judgeFirst plainRules S room known (drop at steps)) refl h
     where
       next-of : StepAnswer → ℕ
-      next-of (RightStep a) = a
+      next-of (RightStep a b) = a
       next-of (WrongStep r) = 0
 
       larger : (s : Step) → at < at + sizeOf s
       larger (resolution i j e L) = omega arith
       larger (reduction i a L) = omega arith
 
-      go : (j : Judged) → judgeFirst plainRules S room known (drop at steps) ≡ j → RightStep next ≡ stepAnswer at j → Taken S room known steps at next
+      go : (j : Judged) → judgeFirst plainRules S room known (drop at steps) ≡ j → RightStep next row ≡ stepAnswer at kept j → Taken S room known steps at next
       go (wrong r) e q = let z : _≡_ {A = ℕ} 0 1 = cc in absurd (omega arith)
       go (right s) e q =
           let r = rightly plainRules S room known (drop at steps) s e in
@@ -82,13 +83,13 @@ module _ (S : Scope) (room : ℕ) (known : List Words) (steps : Words) (at : ℕ
             onward = rw n (larger s);
           }
 
-  pub wrong-run : (r : Reason) → WrongStep r ≡ stepAnswer at (judgeFirst plainRules S room known (drop at steps)) → run plainRules S room known zero (drop at steps) ≡ refused (refusal r (suc (length known)))
+  pub wrong-run : (r : Reason) → WrongStep r ≡ stepAnswer at kept (judgeFirst plainRules S room known (drop at steps)) → run plainRules S room known zero (drop at steps) ≡ refused (refusal r (suc (length known)))
   wrong-run r h = go (judgeFirst plainRules S room known (drop at steps)) refl h
     where
       same : (q r : Reason) → WrongStep r ≡ WrongStep q → q ≡ r
       same q r e = cc
 
-      go : (j : Judged) → judgeFirst plainRules S room known (drop at steps) ≡ j → WrongStep r ≡ stepAnswer at j → run plainRules S room known zero (drop at steps) ≡ refused (refusal r (suc (length known)))
+      go : (j : Judged) → judgeFirst plainRules S room known (drop at steps) ≡ j → WrongStep r ≡ stepAnswer at kept j → run plainRules S room known zero (drop at steps) ≡ refused (refusal r (suc (length known)))
       go (right s) e q = let z : _≡_ {A = ℕ} 0 1 = cc in absurd (omega arith)
       go (wrong p) e q = refuse (drop-cons steps at (pos 0) within) (e ∙ ap wrong (same p r q))
         where
@@ -184,11 +185,11 @@ module _ (inputs : ℕ) (clauses steps : Words) (offsets : List ℕ) (numbered k
   empty-none h = rw (drop-of-length-le here {i = k} (rw (stored-length inputs clauses steps offsets numbered) h))
 
 -- The run under way: what is left to run comes to the same as the whole; `room` is the length of the offsets.
-pub record Going (prefix clauses steps : List ℤ) (inputs room : ℕ) (scratch offsets : List ℕ) (numbered at : ℕ) : Type 0 where
+pub record Going (prefix clauses steps : List ℤ) (inputs room : ℕ) (scratch offsets : List ℕ) (numbered at kept : ℕ) : Type 0 where
   pub whole :
       run plainRules (scopeOf prefix clauses) room (clausesOf clauses) zero steps
       ≡ run plainRules (scopeOf prefix clauses) room (stored inputs clauses steps offsets numbered) zero (drop at steps)
-  pub ready : Ready prefix scratch
+  pub ready : KeptReady prefix clauses kept scratch
   pub room-is : length offsets ≡ room
   pub past : inputs ≤ numbered
   pub fits : numbered ≤ room
@@ -200,12 +201,12 @@ module _ (prefix clauses steps : List ℤ) (inputs : ℕ) (scratch offsets : Lis
   pub going-begins :
       Ready prefix scratch → Admitted prefix clauses → inputs ≤ length offsets
       → stored inputs clauses steps offsets inputs ≡ clausesOf clauses
-      → Going prefix clauses steps inputs (length offsets) scratch offsets inputs 0
+      → Going prefix clauses steps inputs (length offsets) scratch offsets inputs 0 0
   unfolding stepPlace
   going-begins r a h e =
       record {
         whole = rw e;
-        ready = r;
+        ready = none-kept prefix clauses scratch r;
         room-is = refl;
         past = omega arith;
         fits = h;
@@ -214,14 +215,14 @@ module _ (prefix clauses steps : List ℤ) (inputs : ℕ) (scratch offsets : Lis
         reached = let n : inputs - inputs ≡ 0 = omega arith in rw n;
       }
 
-module _ (prefix clauses steps : List ℤ) (inputs room : ℕ) (scratch offsets : List ℕ) (numbered at : ℕ) (g : Going prefix clauses steps inputs room scratch offsets numbered at) where
+module _ (prefix clauses steps : List ℤ) (inputs room : ℕ) (scratch offsets : List ℕ) (numbered at kept : ℕ) (g : Going prefix clauses steps inputs room scratch offsets numbered at kept) where
   -- A right step's offset is kept.
   pub going-turns :
-      (next : ℕ) (scratch′ : List ℕ)
+      (next row : ℕ) (scratch′ : List ℕ)
       → Taken (scopeOf prefix clauses) (length offsets) (stored inputs clauses steps offsets numbered) steps at next
-      → Ready prefix scratch′
-      → Going prefix clauses steps inputs room scratch′ (set offsets numbered at) (numbered + 1) next
-  going-turns next scratch′ t r =
+      → KeptReady prefix clauses row scratch′
+      → Going prefix clauses steps inputs room scratch′ (set offsets numbered at) (numbered + 1) next row
+  going-turns next row scratch′ t r =
       let f = t .fits in
       let n = stored-length inputs clauses steps offsets numbered in
       record {
@@ -238,11 +239,11 @@ module _ (prefix clauses steps : List ℤ) (inputs room : ℕ) (scratch offsets 
   -- A wrong one ends the run.
   pub going-refused :
       (r : Reason) (scratch′ : List ℕ) → at < length steps
-      → WrongStep r ≡ stepAnswer at (judgeFirst plainRules (scopeOf prefix clauses) (length offsets) (stored inputs clauses steps offsets numbered) (drop at steps))
+      → WrongStep r ≡ stepAnswer at kept (judgeFirst plainRules (scopeOf prefix clauses) (length offsets) (stored inputs clauses steps offsets numbered) (drop at steps))
       → Ready prefix scratch′
       → RunDone prefix clauses steps inputs (Refused (refusal r (numbered + 1))) scratch′ offsets
   going-refused r scratch′ h e k =
-      let w = wrong-run (scopeOf prefix clauses) (length offsets) (stored inputs clauses steps offsets numbered) steps at h r e in
+      let w = wrong-run (scopeOf prefix clauses) (length offsets) (stored inputs clauses steps offsets numbered) steps at kept h r e in
       let n : suc (length (stored inputs clauses steps offsets numbered)) ≡ numbered + 1 = let l = stored-length inputs clauses steps offsets numbered in omega arith in
       record {
         outcome = rw (g .room-is) (g .whole ∙ rw (← g .room-is) (w ∙ ap (λ (p : ℕ). refused (refusal r p)) n));
@@ -257,4 +258,4 @@ module _ (prefix clauses steps : List ℤ) (inputs room : ℕ) (scratch offsets 
   unfolding run
   going-ends h =
       let nothing : drop at steps ≡ [] = drop-of-length-le steps {i = at} h in
-      record { outcome = rw (g .room-is) (g .whole ∙ rw nothing); counted = let e = g .room-is in let f = g .fits in omega arith; grown = g .past; placed = g .placed; ready = g .ready }
+      record { outcome = rw (g .room-is) (g .whole ∙ rw nothing); counted = let e = g .room-is in let f = g .fits in omega arith; grown = g .past; placed = g .placed; ready = g .ready .ready }

@@ -31,12 +31,13 @@ use Rattle.checker.specs.Lawful.Laws.{found-member}
 use Rattle.checker.specs.Verdict.{scopeOf}
 use Rattle.checker.specs.Numbered.{tableOf, placeOf, storedAt, stored}
 use Rattle.checker.specs.Numbered.Laws.{stored-get}
+use Rattle.checker.specs.Read.{fieldsOf}
 use Rattle.checker.specs.Marks.{marksIn}
 use Rattle.checker.specs.Marks.Laws.{marks-cleared}
 use Rattle.checker.specs.Existentials.{existentialsOf}
 use Rattle.checker.specs.Existentials.Laws.{existential-fit}
 use Rattle.checker.specs.Result.{judgementOf, resultReason, JudgedClean}
-use Rattle.checker.specs.Step.{existentialsIn, Clean, Ready, resolvingReason, resolutionReason, Answers, JudgedReady, stepAnswer}
+use Rattle.checker.specs.Step.{existentialsIn, Clean, Ready, RowReady, KeptReady, keptAfter, keptIf, resolvingReason, resolutionReason, Answers, JudgedReady, stepAnswer}
 
 -- The marks, lent and given back: what is behind them stands as it was.
 module _ (scratch bytes : List ℕ) (size : length bytes ≡ rowAt) where
@@ -62,6 +63,26 @@ module _ (prefix : List ℤ) (scratch : List ℕ) (ready : Ready prefix scratch)
             ap (λ (l : List ℕ). flags (take 128 l)) (sym (drop-drop 128 rowAt scratch′) ∙ ap (drop 128) (h .kept) ∙ drop-drop 128 rowAt scratch)
             ∙ ready .existentials;
       }
+
+-- The row that is kept: none at first, the one that was made last; its variable's own; and the same after an answer, which marks before the
+-- row alone.
+module _ (prefix clauses : List ℤ) (scratch : List ℕ) where
+  pub none-kept : Ready prefix scratch → KeptReady prefix clauses 0 scratch
+  none-kept r = record { row = λ h. absurd (omega arith); ready = r }
+
+  pub row-kept : {kept : ℕ} → RowReady prefix clauses kept scratch → KeptReady prefix clauses kept scratch
+  row-kept r = record { row = λ h. r .row; ready = r .ready }
+
+  pub kept-row : {kept u : ℕ} → KeptReady prefix clauses kept scratch → kept ≡ u → 1 ≤ u → RowReady prefix clauses u scratch
+  kept-row k e h = record { row = rw e at (k .row (rw e h)); ready = k .ready }
+
+  pub kept-again : {kept : ℕ} {reason : Option Reason} {r : Judgement} {scratch′ : List ℕ} → KeptReady prefix clauses kept scratch → Answers reason r scratch scratch′ → KeptReady prefix clauses (keptIf r kept) scratch′
+  unfolding rowIn
+  kept-again {kept = kept} {r = r} {scratch′ = scratch′} k h = go r (ready-again prefix scratch (k .ready) h)
+    where
+      go : (r : Judgement) → Ready prefix scratch′ → KeptReady prefix clauses (keptIf r kept) scratch′
+      go Right ready = record { row = λ l. ap {B = List ℕ} (λ (bytes : List ℕ). 0 ∷ flags (take 128 bytes)) (h .kept) ∙ k .row l; ready = ready }
+      go (Wrong reason) ready = record { row = λ l. absurd (omega arith); ready = ready }
 
 -- The existentials filled in behind the row: the scratch is ready where the marks were 0, and the row stands as it was.
 module _ (prefix : List ℤ) (scratch bytes : List ℕ) (size : length scratch ≡ smallBound) (part : length bytes ≡ length (take 128 (drop later scratch))) where
@@ -133,30 +154,30 @@ module _ (prefix clauses : List ℤ) (a : Admitted prefix clauses) where
 
   -- The answer to a resolution, with the existentials in the scratch.
   pub resolution-answers :
-      (scratch : List ℕ) → Ready prefix scratch → (known : List Words) (r : Judgement) (scratch′ : List ℕ) (i j e : ℤ) (L : Words)
+      (kept : ℕ) (scratch : List ℕ) → KeptReady prefix clauses kept scratch → (known : List Words) (r : Judgement) (scratch′ : List ℕ) (i j e : ℤ) (L : Words)
       → Answers (resolutionReason (existentialsIn scratch) e L (antecedent known i) (antecedent known j)) r scratch scratch′
-      → JudgedReady prefix (judge (scopeOf prefix clauses) known (resolution i j e L)) r scratch′
-  resolution-answers scratch ready known r scratch′ i j e L h =
+      → JudgedReady prefix clauses kept (judge (scopeOf prefix clauses) known (resolution i j e L)) r scratch′
+  resolution-answers kept scratch k known r scratch′ i j e L h =
       record {
-        answer = (rw (ready .existentials) at (h .answer)) ∙ ap judgementOf (resolution-judged e L (antecedent known i) (antecedent known j));
-        ready = ready-again prefix scratch ready h;
+        answer = (rw (k .ready .existentials) at (h .answer)) ∙ ap judgementOf (resolution-judged e L (antecedent known i) (antecedent known j));
+        ready = kept-again prefix clauses scratch k h;
       }
 
 -- The step's answer, by what was read and judged.
-module _ (S : Scope) (room : ℕ) (known : List Words) (ws : Words) (at : ℕ) where
-  pub step-broken : readStep plainRules ws ≡ none → WrongStep BrokenStep ≡ stepAnswer at (judgeFirst plainRules S room known ws)
+module _ (S : Scope) (room : ℕ) (known : List Words) (ws : Words) (at kept : ℕ) where
+  pub step-broken : readStep plainRules ws ≡ none → WrongStep BrokenStep ≡ stepAnswer at kept (judgeFirst plainRules S room known ws)
   unfolding judgeFirst
   step-broken e = rw e
 
-  pub step-no-room : (s : Step) → readStep plainRules ws ≡ some s → room ≤ length known → WrongStep NoRoom ≡ stepAnswer at (judgeFirst plainRules S room known ws)
+  pub step-no-room : (s : Step) → readStep plainRules ws ≡ some s → room ≤ length known → WrongStep NoRoom ≡ stepAnswer at kept (judgeFirst plainRules S room known ws)
   unfolding judgeFirst
   step-no-room s e h = rw (e, le-ltb (length known) room h)
 
-  pub step-right : (s : Step) → readStep plainRules ws ≡ some s → length known < room → judge S known s ≡ none → RightStep (at + sizeOf s) ≡ stepAnswer at (judgeFirst plainRules S room known ws)
+  pub step-right : (s : Step) → readStep plainRules ws ≡ some s → length known < room → judge S known s ≡ none → RightStep (at + sizeOf s) (keptAfter (fieldsOf at s) kept) ≡ stepAnswer at kept (judgeFirst plainRules S room known ws)
   unfolding judgeFirst
   step-right s e h j = rw (e, lt-ltb (length known) room h, j)
 
-  pub step-wrong : (s : Step) (r : Reason) → readStep plainRules ws ≡ some s → length known < room → judge S known s ≡ some r → WrongStep r ≡ stepAnswer at (judgeFirst plainRules S room known ws)
+  pub step-wrong : (s : Step) (r : Reason) → readStep plainRules ws ≡ some s → length known < room → judge S known s ≡ some r → WrongStep r ≡ stepAnswer at kept (judgeFirst plainRules S room known ws)
   unfolding judgeFirst
   step-wrong s r e h j = rw (e, lt-ltb (length known) room h, j)
 

@@ -9,7 +9,7 @@ use Rattle.formula.specs.Decode.{clauseAt}
 use Rattle.checker.specs.Steps.{judgeReduction}
 use Rattle.checker.specs.Numbered.{numberOf, storedAt}
 use Rattle.checker.specs.Numbered.Laws.{number-range, number-antecedent, number-no-antecedent}
-use Rattle.checker.specs.Step.Laws.{stored-in-range, stored-by-number}
+use Rattle.checker.specs.Step.Laws.{none-kept, stored-in-range, stored-by-number}
 use Rattle.checker.proofs.reduce.check_reduction.Statement.{statement}
 use Rattle.checker.proofs.reduce.check_reduction.Tie as tie
 
@@ -53,7 +53,7 @@ unfolding judgeReduction
 returns c =
     let start = c .before .before .before .before .before .before in
     let e = number-no-antecedent (start .args .inputs) (start .args .clauses .now) (start .args .steps .now) (start .args .offsets .now) (start .args .numbered) (start .args .step .first) (sym (c .enum-told .given .1) ∙ first-at (c .before .before)) in
-    rw e (record { answer = refl; ready = start .pre .0 })
+    rw e (record { answer = refl; ready = none-kept (start .args .prefix .now) (start .args .clauses .now) (start .args .scratch .now) (start .pre .0 .ready) })
 
 returns-2 : tie.Need-returns-2
 returns-2 c =

@@ -1,14 +1,19 @@
 -- `reduce_fields` makes the reduced word a literal; a word that is none is no universal one. Assumes nothing.
 use mathlib.Core.Path.{_≡_, refl, sym, _∙_}
 use borrow.Author.Needs.{needs}
+use borrow.Author.Tests.{leb-true}
+use lib.Dec.{leb}
 use lib.IntN.{natAbs}
 use mir.Syntax.{w32}
 use mir.Val.{toZ, ofZ}
+use Rattle.qbf.specs.Connectives.{and-both}
 use Rattle.formula.specs.Bounds.{inRange}
 use Rattle.formula.specs.Bounds.Laws.{literal-made, literal-refused}
 use Rattle.formula.specs.Tables.Laws.{admitted-entries}
+use Rattle.formula.specs.Word.Laws.{variable-magnitude}
 use Rattle.checker.specs.Steps.{judgeReduction}
 use Rattle.checker.specs.Existentials.Laws.{universal-outside}
+use Rattle.checker.specs.Step.Laws.{none-kept}
 use Rattle.checker.proofs.reduce.reduce_fields.Statement.{statement}
 use Rattle.checker.proofs.reduce.reduce_fields.Tie as tie
 
@@ -24,7 +29,7 @@ returns c =
     let word = start .args .step .pivot in
     let e = word-back start in
     let none = literal-refused (inRange (natAbs word) 1024) word (rw e at (sym (c .before .before .new .ensures)) ∙ c .enum-told .given .1) in
-    rw (universal-outside prefix (admitted-entries prefix (start .args .clauses .now) (start .pre .1 .0)) word none) (record { answer = refl; ready = start .pre .0 })
+    rw (universal-outside prefix (admitted-entries prefix (start .args .clauses .now) (start .pre .1 .0)) word none) (record { answer = refl; ready = none-kept prefix (start .args .clauses .now) (start .args .scratch .now) (start .pre .0 .ready) })
 
 returns-2 : tie.Need-returns-2
 returns-2 c =
@@ -32,8 +37,9 @@ returns-2 c =
     let word = start .args .step .pivot in
     let e = word-back start in
     let l = c .before .before .before .before .before .literal .given in
-    let same = literal-made (inRange (natAbs word) 1024) word (l .0 .0) (rw e at (sym (c .before .before .before .before .before .before .before .new .ensures)) ∙ l .1) .1 in
-    rw (← same) at (c .before .before .reduce-literal .ensures)
+    let made = literal-made (inRange (natAbs word) 1024) word (l .0 .0) (rw e at (sym (c .before .before .before .before .before .before .before .new .ensures)) ∙ l .1) in
+    let within = and-both (leb 1 (natAbs word)) (leb (natAbs word) 1024) (made .0) .1 in
+    rw (variable-magnitude word (leb-true (natAbs word) 1024 within)) (rw (← made .1) at (c .before .before .reduce-literal .ensures))
 
 pub reduce-fields-spec : {M : Type 1} → statement M
 reduce-fields-spec =

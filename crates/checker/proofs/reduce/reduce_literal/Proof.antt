@@ -13,6 +13,7 @@ use Rattle.formula.specs.Tables.Laws.{admitted-entries}
 use Rattle.checker.specs.Words.{holds}
 use Rattle.checker.specs.Steps.{judgeReduction}
 use Rattle.checker.specs.Existentials.Laws.{fit-found, fit-missed}
+use Rattle.checker.specs.Step.Laws.{none-kept}
 use Rattle.checker.proofs.reduce.reduce_literal.Statement.{statement}
 use Rattle.checker.proofs.reduce.reduce_literal.Tie as tie
 
@@ -54,13 +55,14 @@ unfolding judgeReduction
 returns-2 c =
     let s = c .before .before .before .before .before .args in
     let none = fit-missed (quantifies universal (prefixOf (s .prefix .now)) (natAbs (s .literal .0))) (natAbs (s .literal .0)) (sym (c .enum-told .given .1) ∙ fit-at (c .before .before)) in
-    rw none (record { answer = refl; ready = c .before .before .before .before .before .pre .0 })
+    rw none (record { answer = refl; ready = none-kept (s .prefix .now) (s .clauses .now) (s .scratch .now) (c .before .before .before .before .before .pre .0 .ready) })
 
 returns-3 : tie.Need-returns-3
 unfolding judgeReduction
 returns-3 c =
     let held = c .before in
-    rw (found-at (held .before) .1, ← held-at held, c .if1 .left) (record { answer = refl; ready = c .before .before .before .before .before .before .before .before .pre .0 })
+    let start = held .before .before .before .before .before .before .before in
+    rw (found-at (held .before) .1, ← held-at held, c .if1 .left) (record { answer = refl; ready = none-kept (start .args .prefix .now) (start .args .clauses .now) (start .args .scratch .now) (start .pre .0 .ready) })
 
 pub reduce-literal-spec : {M : Type 1} → statement M
 reduce-literal-spec =

@@ -12,11 +12,11 @@ use Rattle.checker.proofs.run.run_steps.Statement.{statement}
 use Rattle.checker.proofs.run.run_steps.Tie as tie
 
 abbrev Inv-loop : tie.InvT-loop
-Inv-loop prefix clauses steps inputs scratch₀ offsets₀ numbered₀ at₀ scratch offsets numbered at =
-    Going prefix clauses steps inputs (length offsets₀) scratch offsets numbered at × (length scratch ≡ length scratch₀)
+Inv-loop prefix clauses steps inputs scratch₀ offsets₀ numbered₀ at₀ kept₀ scratch offsets numbered at kept =
+    Going prefix clauses steps inputs (length offsets₀) scratch offsets numbered at kept × (length scratch ≡ length scratch₀)
 
 abbrev μ-loop : tie.MeasureT-loop
-μ-loop prefix clauses steps inputs scratch₀ offsets₀ numbered₀ at₀ scratch offsets numbered at = length steps - at
+μ-loop prefix clauses steps inputs scratch₀ offsets₀ numbered₀ at₀ kept₀ scratch offsets numbered at kept = length steps - at
 
 loop-holds : tie.Need-loop-holds Inv-loop μ-loop
 loop-holds c =
@@ -33,7 +33,7 @@ check-step-requires c κs =
 same-length : tie.Need-same-length Inv-loop μ-loop
 same-length c =
     let called = c .before .before .before .before .before .before in
-    called .check-step .kept .1 .1 .1 .1 .1 .1 .1 .0 ∙ called .before .before .before .before .loop .inv .1
+    called .check-step .kept .1 .1 .1 .1 .1 .1 .1 .1 .0 ∙ called .before .before .before .before .loop .inv .1
 
 same-length-2 : tie.Need-same-length-2 Inv-loop μ-loop
 same-length-2 c = c .before .before .before .before .before .before .before .before .before .before .loop .inv .0 .room-is
@@ -43,7 +43,7 @@ returns c =
     let called = c .before .before .before .before .before .before in
     let at = called .before .before .before .before in
     let start = at .before .before .before in
-    rw (c .new .ensures) (going-refused (start .args .prefix .now) (start .args .clauses .now) (start .args .steps .now) (start .args .inputs) (length (start .args .offsets .now)) (at .loop .scratch) (at .loop .offsets) (at .loop .numbered) (at .loop .at) (at .loop .inv .0) (c .before .before .reason .given .0 .0) (called .check-step .last .1 .1 .1 .1 .1 .1 .1 .0) (called .before .before .before .loop-test .taken) (rw (c .before .before .reason .given .1) at (called .check-step .ensures .answer)) (called .check-step .ensures .ready))
+    rw (c .new .ensures) (going-refused (start .args .prefix .now) (start .args .clauses .now) (start .args .steps .now) (start .args .inputs) (length (start .args .offsets .now)) (at .loop .scratch) (at .loop .offsets) (at .loop .numbered) (at .loop .at) (at .loop .kept) (at .loop .inv .0) (c .before .before .reason .given .0 .0) (called .check-step .last .1 .1 .1 .1 .1 .1 .1 .1 .0) (called .before .before .before .loop-test .taken) (rw (c .before .before .reason .given .1) at (called .check-step .ensures .answer)) (called .check-step .ensures .ready .ready))
 
 -- the step that was taken
 taken-at : (c : tie.After-known-told2 Inv-loop μ-loop) → Taken (scopeOf (c .before .before .before .before .before .before .before .before .before .before .before .before .args .prefix .now) (c .before .before .before .before .before .before .before .before .before .before .before .before .args .clauses .now)) (length (c .before .before .before .before .before .before .before .before .before .loop .offsets)) (stored (c .before .before .before .before .before .before .before .before .before .before .before .before .args .inputs) (c .before .before .before .before .before .before .before .before .before .before .before .before .args .clauses .now) (c .before .before .before .before .before .before .before .before .before .before .before .before .args .steps .now) (c .before .before .before .before .before .before .before .before .before .loop .offsets) (c .before .before .before .before .before .before .before .before .before .loop .numbered)) (c .before .before .before .before .before .before .before .before .before .before .before .before .args .steps .now) (c .before .before .before .before .before .before .before .before .before .loop .at) (c .before .next .given .0 .0)
@@ -51,7 +51,7 @@ taken-at c =
     let called = c .before .before .before .before .before in
     let at = called .before .before .before .before in
     let start = at .before .before .before in
-    right-taken (scopeOf (start .args .prefix .now) (start .args .clauses .now)) (length (at .loop .offsets)) (stored (start .args .inputs) (start .args .clauses .now) (start .args .steps .now) (at .loop .offsets) (at .loop .numbered)) (start .args .steps .now) (at .loop .at) (called .before .before .before .loop-test .taken) (c .before .next .given .0 .0) (rw (c .before .next .given .1) at (called .check-step .ensures .answer))
+    right-taken (scopeOf (start .args .prefix .now) (start .args .clauses .now)) (length (at .loop .offsets)) (stored (start .args .inputs) (start .args .clauses .now) (start .args .steps .now) (at .loop .offsets) (at .loop .numbered)) (start .args .steps .now) (at .loop .at) (at .loop .kept) (called .before .before .before .loop-test .taken) (c .before .next .given .0 .0) (c .before .next .given .0 .1 .0) (rw (c .before .next .given .1) at (called .check-step .ensures .answer))
 
 room-at : (c : tie.After-known-told2 Inv-loop μ-loop) → c .before .before .before .before .before .before .before .before .before .loop .numbered < length (c .before .before .before .before .before .before .before .before .before .loop .offsets)
 room-at c =
@@ -86,8 +86,8 @@ loop-again c =
     let called = c .before .before .before .before .before in
     let at = called .before .before .before .before in
     let start = at .before .before .before in (
-      going-turns (start .args .prefix .now) (start .args .clauses .now) (start .args .steps .now) (start .args .inputs) (length (start .args .offsets .now)) (at .loop .scratch) (at .loop .offsets) (at .loop .numbered) (at .loop .at) (at .loop .inv .0) (c .before .next .given .0 .0) (called .check-step .last .1 .1 .1 .1 .1 .1 .1 .0) (taken-at c) (called .check-step .ensures .ready),
-      called .check-step .kept .1 .1 .1 .1 .1 .1 .1 .0 ∙ at .loop .inv .1,
+      going-turns (start .args .prefix .now) (start .args .clauses .now) (start .args .steps .now) (start .args .inputs) (length (start .args .offsets .now)) (at .loop .scratch) (at .loop .offsets) (at .loop .numbered) (at .loop .at) (at .loop .kept) (at .loop .inv .0) (c .before .next .given .0 .0) (c .before .next .given .0 .1 .0) (called .check-step .last .1 .1 .1 .1 .1 .1 .1 .1 .0) (taken-at c) (rw (c .before .next .given .1) at (called .check-step .ensures .ready)),
+      called .check-step .kept .1 .1 .1 .1 .1 .1 .1 .1 .0 ∙ at .loop .inv .1,
     )
 
 same-length-3 : tie.Need-same-length-3 Inv-loop μ-loop
@@ -100,7 +100,7 @@ returns-2 : tie.Need-returns-2 Inv-loop μ-loop
 returns-2 c =
     let at = c .before in
     let start = at .before .before .before in
-    going-ends (start .args .prefix .now) (start .args .clauses .now) (start .args .steps .now) (start .args .inputs) (length (start .args .offsets .now)) (at .loop .scratch) (at .loop .offsets) (at .loop .numbered) (at .loop .at) (at .loop .inv .0) (c .loop-test .left)
+    going-ends (start .args .prefix .now) (start .args .clauses .now) (start .args .steps .now) (start .args .inputs) (length (start .args .offsets .now)) (at .loop .scratch) (at .loop .offsets) (at .loop .numbered) (at .loop .at) (at .loop .kept) (at .loop .inv .0) (c .loop-test .left)
 
 pub run-steps-spec : {M : Type 1} → statement M
 run-steps-spec =

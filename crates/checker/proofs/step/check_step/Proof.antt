@@ -1,5 +1,5 @@
 -- `check_step` reads the step, asks for room and judges it. Assumes nothing.
-use mathlib.Core.Path.{_≡_, ap, sym, _∙_}
+use mathlib.Core.Path.{_≡_, ap, ap₂, sym, _∙_}
 use mathlib.Core.List.{List}
 use mathlib.Core.Option.{some}
 use native.Mathlib.Omega.{arith}
@@ -16,7 +16,8 @@ use Rattle.checker.specs.Numbered.Laws.{stored-length}
 use Rattle.checker.specs.Read.{fieldsOf}
 use Rattle.checker.specs.Read.Laws.{reading-broken, reading-step, fields-next, step-whole}
 use Rattle.checker.specs.Result.{judgementOf}
-use Rattle.checker.specs.Step.Laws.{step-broken, step-no-room, step-right, step-wrong, judgement-right, judgement-wrong}
+use Rattle.checker.specs.Step.{keptAfter}
+use Rattle.checker.specs.Step.Laws.{none-kept, step-broken, step-no-room, step-right, step-wrong, judgement-right, judgement-wrong}
 use Rattle.checker.proofs.step.check_step.Statement.{statement}
 use Rattle.checker.proofs.step.check_step.Tie as tie
 
@@ -47,24 +48,24 @@ returns : tie.Need-returns
 returns c =
     let start = c .before .before .before .before .before .before .before in
     let t = step-at (c .before) in
-    record { answer = step-no-room (scope-at start) (length (start .args .offsets .now)) (known-at start) (drop (start .args .at) (start .args .steps .now)) (start .args .at) (t .0) (t .1) (omega (arith, count-at start, c .if1 .taken)); ready = start .pre .0 }
+    record { answer = step-no-room (scope-at start) (length (start .args .offsets .now)) (known-at start) (drop (start .args .at) (start .args .steps .now)) (start .args .at) (start .args .kept) (t .0) (t .1) (omega (arith, count-at start, c .if1 .taken)); ready = none-kept (start .args .prefix .now) (start .args .clauses .now) (start .args .scratch .now) (start .pre .0 .ready) }
 
 returns-2 : tie.Need-returns-2
 returns-2 c =
     let start = c .before .before .before .before .before in
-    record { answer = step-broken (scope-at start) (length (start .args .offsets .now)) (known-at start) (drop (start .args .at) (start .args .steps .now)) (start .args .at) (reading-broken (start .args .at) _ (sym (c .enum-told .given .1) ∙ c .before .before .read-step .ensures)); ready = start .pre .0 }
+    record { answer = step-broken (scope-at start) (length (start .args .offsets .now)) (known-at start) (drop (start .args .at) (start .args .steps .now)) (start .args .at) (start .args .kept) (reading-broken (start .args .at) _ (sym (c .enum-told .given .1) ∙ c .before .before .read-step .ensures)); ready = none-kept (start .args .prefix .now) (start .args .clauses .now) (start .args .scratch .now) (start .pre .0 .ready) }
 
 returns-3 : tie.Need-returns-3
 returns-3 c =
-    let called = c .before .before .before .before in
+    let called = c .before .before .before .before .before in
     let start = called .before .before .before .before .before .before .before .before .before in
     let t = step-at (called .before .before .before) in
-    let right = judgement-right _ (sym (c .enum-told2 .given .1) ∙ judged-at called) in
+    let right = judgement-right _ (sym (c .before .enum-told2 .given .1) ∙ judged-at called) in
     record {
       answer =
-          ap RightStep (ap (λ (r : StepRead). r .next) (t .2) ∙ fields-next (start .args .at) (t .0))
-          ∙ step-right (scope-at start) (length (start .args .offsets .now)) (known-at start) (drop (start .args .at) (start .args .steps .now)) (start .args .at) (t .0) (t .1) (omega (arith, count-at start, called .before .before .if1 .left)) right;
-      ready = called .judge-step .ensures .ready;
+          ap₂ RightStep (ap (λ (r : StepRead). r .next) (t .2) ∙ fields-next (start .args .at) (t .0)) (c .kept-after .ensures ∙ ap (λ (r : StepRead). keptAfter r (start .args .kept)) (t .2))
+          ∙ step-right (scope-at start) (length (start .args .offsets .now)) (known-at start) (drop (start .args .at) (start .args .steps .now)) (start .args .at) (start .args .kept) (t .0) (t .1) (omega (arith, count-at start, called .before .before .if1 .left)) right;
+      ready = rw (c .kept-after .ensures) (rw (c .before .enum-told2 .given .1) at (called .judge-step .ensures .ready));
     }
 
 returns-4 : tie.Need-returns-4
@@ -74,8 +75,8 @@ returns-4 c =
     let t = step-at (called .before .before .before) in
     let wrong = judgement-wrong _ (c .before .reason .given .0 .0) (sym (c .before .reason .given .1) ∙ judged-at called) in
     record {
-      answer = step-wrong (scope-at start) (length (start .args .offsets .now)) (known-at start) (drop (start .args .at) (start .args .steps .now)) (start .args .at) (t .0) (c .before .reason .given .0 .0) (t .1) (omega (arith, count-at start, called .before .before .if1 .left)) wrong;
-      ready = called .judge-step .ensures .ready;
+      answer = step-wrong (scope-at start) (length (start .args .offsets .now)) (known-at start) (drop (start .args .at) (start .args .steps .now)) (start .args .at) (start .args .kept) (t .0) (c .before .reason .given .0 .0) (t .1) (omega (arith, count-at start, called .before .before .if1 .left)) wrong;
+      ready = rw (c .before .reason .given .1) at (called .judge-step .ensures .ready);
     }
 
 pub check-step-spec : {M : Type 1} → statement M
@@ -88,6 +89,7 @@ check-step-spec =
     returns
     (λ c κs. search needs)
     (λ c. search needs)
+    (λ c κs. search needs)
     (λ c. search needs)
     returns-2
     (λ c. search needs)
