@@ -1,4 +1,5 @@
 // What a proof is refused for before its steps, and the starts that steps find: tables, scratch, starts, and the order of these.
+use crate::judge::Check;
 use crate::judge::example_lent;
 use crate::judge::judged;
 use crate::judge::lent;
@@ -109,6 +110,7 @@ fn long_proofs<'a>(clauses: &'a [i32], steps: &'a [i32]) {
     let mut scratch = [7u8; 8199];
     let mut starts = [7u32; 1];
     judged(
+        Check::Large,
         b"1,048,577 step words, variable 0",
         &[0, 1, 1],
         clauses,
@@ -117,6 +119,7 @@ fn long_proofs<'a>(clauses: &'a [i32], steps: &'a [i32]) {
         &mut starts,
     );
     judged(
+        Check::Large,
         b"1,048,577 step words, scratch 8,199",
         &[],
         clauses,
@@ -125,6 +128,7 @@ fn long_proofs<'a>(clauses: &'a [i32], steps: &'a [i32]) {
         &mut starts,
     );
     judged(
+        Check::Large,
         b"1,048,576 step words, scratch 8,199",
         &[],
         clauses,
