@@ -1,12 +1,13 @@
 //! A second implementation of every entry beside the proved one. `compare` sets the two against each other,
-//! `inputs` tells what the same inputs draw from the reference alone, `time` and `hostile` measure both,
-//! `long` writes a long refutation, and `reference` and `full` print the two programs' lines by the reference.
+//! `inputs` tells what the same inputs draw from the reference alone, `time`, `hostile` and
+//! `reductions` measure both, `long` writes a long refutation, and `reference` and `full` print the two programs' lines by the reference.
 
 mod compare;
 #[cfg(proved)]
 mod ffi;
 mod generate;
 mod hostile;
+mod reductions;
 mod reference;
 mod time;
 
@@ -25,6 +26,7 @@ bench compare [seed] [inputs]
 bench inputs [seed] [inputs]
 bench time
 bench hostile
+bench reductions
 bench long WORDS FOLDER [--damaged]
 bench reference check FORMULA PROOF
 bench reference deps FORMULA
@@ -55,6 +57,13 @@ fn main() -> ExitCode {
             hostile::hostile();
             ExitCode::SUCCESS
         }
+        ["reductions"] => match reductions::reductions() {
+            Ok(()) => ExitCode::SUCCESS,
+            Err(trouble) => {
+                println!("{trouble}");
+                ExitCode::FAILURE
+            }
+        },
         ["long", words, folder] => long(words, folder, false),
         ["long", words, folder, "--damaged"] => long(words, folder, true),
         ["reference", "check", formula, proof] => check(Room::PROGRAMS, formula, proof),

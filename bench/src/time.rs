@@ -22,9 +22,9 @@ use crate::reference::{
 
 /// The best and the median of some runs, in milliseconds.
 #[derive(Clone, Copy)]
-struct Times {
-    best: f64,
-    median: f64,
+pub struct Times {
+    pub best: f64,
+    pub median: f64,
 }
 
 impl Times {
@@ -61,14 +61,14 @@ const RUNS: Runs = Runs {
 /// A reference's name and its work.
 pub type Reference<'a> = (&'a str, &'a mut dyn FnMut());
 
-/// Prints a line for each reference, and the proved times on the first. All take turns, so that a busy spell
-/// of the machine falls on each.
+/// Prints a line for each reference, and the proved times on the first; hands back the proved times, if there is
+/// a library, and those of each reference. All take turns, so that a busy spell of the machine falls on each.
 pub fn report(
     name: &str,
     runs: Runs,
     mut proved: Option<impl FnMut()>,
     references: &mut [Reference],
-) {
+) -> (Option<Times>, Vec<Times>) {
     let mut proved_runs = Vec::new();
     let mut reference_runs = vec![Vec::new(); references.len()];
     let begun = Instant::now();
@@ -94,8 +94,8 @@ pub fn report(
         Some(times) => print!("{:>10.3} {:>10.3}", times.best, times.median),
         None => print!("{:>21}", ""),
     }
-    for (turn, ((label, _), runs)) in references.iter().zip(reference_runs).enumerate() {
-        let times = Times::of(runs);
+    let reference_times: Vec<Times> = reference_runs.into_iter().map(Times::of).collect();
+    for (turn, ((label, _), times)) in references.iter().zip(&reference_times).enumerate() {
         if turn > 0 {
             print!("{:75}", "");
         }
@@ -109,6 +109,7 @@ pub fn report(
         }
         println!("  {label}");
     }
+    (proved, reference_times)
 }
 
 fn ratio(ratio: f64) {
@@ -161,7 +162,7 @@ pub fn time() {
 }
 
 /// 512 universals among 1,024 variables and 8,192 clauses of seven literals: 65,536 clause words.
-fn full_tables(random: &mut Random) -> Tables {
+pub fn full_tables(random: &mut Random) -> Tables {
     let shape = Shape {
         variables: MAX_VARIABLE,
         largest: MAX_VARIABLE,
@@ -315,10 +316,11 @@ fn time_checks(random: &mut Random, full: &Tables) {
     time_both_checks(name, &tables, &steps, &[Rows::Kept]);
     let steps = long_derivation(random, &tables, MAX_STEP_WORDS, 14, 2);
     let name = "the same with reductions";
-    time_both_checks(name, &tables, &steps, &[Rows::Kept, Rows::Anew]);
+    let every = [Rows::Kept, Rows::Last, Rows::Anew];
+    time_both_checks(name, &tables, &steps, &every);
     let steps = long_derivation(random, full, MAX_STEP_WORDS, 20, 200);
     let name = "few reductions, 65,536 clause words";
-    time_both_checks(name, full, &steps, &[Rows::Kept, Rows::Anew]);
+    time_both_checks(name, full, &steps, &every);
 }
 
 /// A proof by each size, on lines of its own.
@@ -329,7 +331,8 @@ fn time_both_checks(name: &str, tables: &Tables, steps: &[i32], kinds: &[Rows]) 
     }
 }
 
-/// A proof, with the scratch that this size asks for, against references that make their rows in these ways.
+/// A proof, with the scratch that this size asks for, against references that keep their rows in these ways. The
+/// proved times, if there is a library, and those of each reference.
 pub fn time_check(
     name: &str,
     runs: Runs,
@@ -337,7 +340,7 @@ pub fn time_check(
     steps: &[i32],
     size: Size,
     kinds: &[Rows],
-) {
+) -> (Option<Times>, Vec<Times>) {
     let Tables { prefix, clauses } = tables;
     let (asked, room) = (size.scratch(), Room::FULL.starts);
     #[cfg(proved)]
@@ -359,6 +362,7 @@ pub fn time_check(
     for (work, rows) in work.iter_mut().zip(kinds) {
         let label = match rows {
             Rows::Kept => "rows kept",
+            Rows::Last => "the last row kept",
             Rows::Anew => "a row for each reduction",
         };
         references.push((label, work));
@@ -375,7 +379,7 @@ pub fn time_check(
             &mut [0; 5]
         )),
         &mut references,
-    );
+    )
 }
 
 fn time_games(random: &mut Random) {

@@ -13,11 +13,44 @@ pub struct Verdict {
     pub steps: usize,
 }
 
-/// Whether a row once made is kept for later reductions, or made anew for each.
+/// Which rows are kept for later reductions: all that were made, the one of the last reduction, or none.
 #[derive(Clone, Copy, Debug, PartialEq, Eq)]
 pub enum Rows {
     Kept,
+    Last,
     Anew,
+}
+
+/// The rows that are kept.
+struct Shelf {
+    rows: Rows,
+    kept: Vec<Option<Box<Row>>>,
+    /// The variable of the last reduction, 0 ahead of the first.
+    last: usize,
+}
+
+impl Shelf {
+    fn new(rows: Rows) -> Shelf {
+        Shelf {
+            rows,
+            kept: vec![None; ROW_BYTES],
+            last: 0,
+        }
+    }
+
+    /// The row of this variable, made if it is not kept.
+    fn row(&mut self, variable: usize, make: impl FnOnce() -> Row) -> &Row {
+        let drops = match self.rows {
+            Rows::Kept => false,
+            Rows::Last => self.last != variable,
+            Rows::Anew => true,
+        };
+        if drops {
+            self.kept[self.last] = None;
+        }
+        self.last = variable;
+        self.kept[variable].get_or_insert_with(|| Box::new(make()))
+    }
 }
 
 /// The verdict on a proof, for a scratch of so many bytes, where so many are asked for, and so many starts.
@@ -99,6 +132,19 @@ impl From<Reason> for Fault {
 }
 
 impl Fault {
+    /// Names the first entry from the left whose variable is in the clause and in the row.
+    fn blocked(entries: &[Entry], clause: &[i32], row: &Row) -> Fault {
+        let blocks = |entry: &&Entry| {
+            let held = clause.contains(&entry.variable) || clause.contains(&-entry.variable);
+            held && row[entry.variable as usize] == 1
+        };
+        let leftmost = entries.iter().find(blocks);
+        Fault {
+            reason: Reason::Blocked,
+            blocker: leftmost.map_or([0, 0], |e| [e.variable, e.block].map(|n| n as usize)),
+        }
+    }
+
     fn at(self, place: usize) -> Refusal {
         Refusal {
             blocker: self.blocker,
@@ -111,8 +157,7 @@ struct Run<'a> {
     entries: Vec<Entry>,
     bindings: [Option<Quantifier>; ROW_BYTES],
     occurrences: Occurrences<'a>,
-    rows: Rows,
-    kept: Vec<Option<Box<Row>>>,
+    shelf: Shelf,
     /// The numbered clauses so far, clause n at n - 1.
     known: Vec<&'a [i32]>,
     marks: Box<[u32; LITERALS]>,
@@ -134,8 +179,7 @@ impl<'a> Run<'a> {
             bindings: bindings(&entries),
             entries,
             occurrences: Occurrences::of(clauses, counts),
-            rows,
-            kept: vec![None; ROW_BYTES],
+            shelf: Shelf::new(rows),
             known,
             marks: Box::new([0; LITERALS]),
             mark: 0,
@@ -213,16 +257,11 @@ impl<'a> Run<'a> {
             return Err(Reason::WrongPivot.into());
         }
         let variable = reduced.unsigned_abs() as usize;
-        let row = match self.kept[variable].take() {
-            Some(row) => row,
-            None => Box::new(self.occurrences.row(&self.entries, variable as i32)),
-        };
+        let make = || self.occurrences.row(&self.entries, variable as i32);
+        let row = self.shelf.row(variable, make);
         let depends = |literal: &i32| row[literal.unsigned_abs() as usize] == 1;
         if clause.iter().any(depends) {
-            return Err(self.blocked(clause, &row));
-        }
-        if self.rows == Rows::Kept {
-            self.kept[variable] = Some(row);
+            return Err(Fault::blocked(&self.entries, clause, row));
         }
         for &literal in clause {
             if literal != reduced {
@@ -230,19 +269,6 @@ impl<'a> Run<'a> {
             }
         }
         Ok(clause.len() - 1)
-    }
-
-    /// Names the first entry from the left whose variable is in the clause and in the row.
-    fn blocked(&self, clause: &[i32], row: &Row) -> Fault {
-        let blocks = |entry: &&Entry| {
-            let held = clause.contains(&entry.variable) || clause.contains(&-entry.variable);
-            held && row[entry.variable as usize] == 1
-        };
-        let leftmost = self.entries.iter().find(blocks);
-        Fault {
-            reason: Reason::Blocked,
-            blocker: leftmost.map_or([0, 0], |e| [e.variable, e.block].map(|n| n as usize)),
-        }
     }
 
     /// Whether these are the marked literals, each once. A literal ticked gets the mark's successor.
@@ -370,6 +396,57 @@ mod tests {
         }
     }
 
+    /// Which of some rows asked for one after the other are made, and that each is the one asked for.
+    #[test]
+    fn rows_made() {
+        let asked = [5, 5, 5, 3, 3, 5, 1024, 1024, 3, 5];
+        let made = |rows| {
+            let mut shelf = Shelf::new(rows);
+            let mut made = Vec::new();
+            for (turn, &variable) in asked.iter().enumerate() {
+                let row = shelf.row(variable, || {
+                    made.push(turn);
+                    let mut row = [0; ROW_BYTES];
+                    row[variable] = 1;
+                    row
+                });
+                assert_eq!(row.iter().position(|&byte| byte == 1), Some(variable));
+                let kept = shelf.kept.iter().flatten().count();
+                assert!(rows == Rows::Kept || kept == 1, "{kept}");
+            }
+            made
+        };
+        assert_eq!(made(Rows::Kept), [0, 3, 6]);
+        assert_eq!(made(Rows::Last), [0, 3, 5, 6, 8, 9]);
+        assert_eq!(made(Rows::Anew), [0, 1, 2, 3, 4, 5, 6, 7, 8, 9]);
+    }
+
+    /// Existential 3 depends on 1 and not on 2, 4 on 2 and not on 1: a row kept too long would let a blocked reduction pass
+    /// or block a right one.
+    #[test]
+    fn the_last_row_is_of_the_variable_reduced() {
+        let short = [-1, -2, 3, 4];
+        let clauses = [1, 3, 0, -1, -3, 0, 2, 4, 0, -2, -4, 0, 1, 4, 0, 2, 3, 0];
+        let answer = |steps: &[i32], rows| {
+            let answer = check(&records(&short), &clauses, steps, 640, 640, 100, rows);
+            answer.map_err(|r| (r.reason.number(), r.place, r.blocker))
+        };
+        let [first, second] = [[2, 5, 1, 4, 0], [2, 6, 2, 3, 0]];
+        let by_turns = [first, second, second, first, first, second].concat();
+        for rows in [Rows::Kept, Rows::Last, Rows::Anew] {
+            assert_eq!(answer(&by_turns, rows), Err((19, 12, [0, 0])));
+            for (before, blocked, by) in [
+                (first, [2, 3, 2, 4, 0], 4),
+                (second, [2, 3, 2, 4, 0], 4),
+                (second, [2, 1, 1, 3, 0], 3),
+                (first, [2, 1, 1, 3, 0], 3),
+            ] {
+                let steps = [&before[..], &blocked].concat();
+                assert_eq!(answer(&steps, rows), Err((17, 8, [by, 2])));
+            }
+        }
+    }
+
     #[test]
     fn random_derivations_are_right_and_refute_false_formulas_alone() {
         let mut random = Random::new(11);
@@ -379,8 +456,10 @@ mod tests {
             let (prefix, clauses) = (&tables.prefix, &tables.clauses);
             let steps = derivation(&mut random, &tables, 40, 12);
             let answer = check(prefix, clauses, &steps, 8200, 8200, 9000, Rows::Kept);
-            let anew = check(prefix, clauses, &steps, 8200, 8200, 9000, Rows::Anew);
-            assert_eq!(answer, anew);
+            for rows in [Rows::Last, Rows::Anew] {
+                let other = check(prefix, clauses, &steps, 8200, 8200, 9000, rows);
+                assert_eq!(answer, other, "{rows:?}");
+            }
             let small = check(prefix, clauses, &steps, 640, 640, 9000, Rows::Kept);
             assert_eq!(answer, small);
             match answer {

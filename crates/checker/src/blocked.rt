@@ -7,7 +7,6 @@ use formula::prefix::entry_count;
 use formula::refusal::Blocker;
 use formula::word::Word;
 ghost use mathlib.Core.Path.{_≡_};
-ghost use mathlib.Core.Bool.{_&&_};
 ghost use Prim.Native.Nat.{_≤_};
 ghost use lib.ListN.{length, getD};
 ghost use lib.Dec.{eqb};
