@@ -140,7 +140,7 @@ fn time_run(name: &str, run: &Run) -> Result<Vec<String>, String> {
         }
         let timed = |kind: &str, steps: &[i32]| {
             let name = format!("{entry}, {name}, {kind}");
-            time_check(&name, RUNS, &run.tables, steps, size, &[Rows::Last])
+            time_check(&name, RUNS, &run.tables, steps, size, &[Rows::LastByPasses])
         };
         let (one, reference_one) = timed("one variable", &runs[0]);
         let (two, reference_two) = timed("two by turns", &runs[1]);
@@ -230,7 +230,7 @@ mod tests {
             assert!(dependents.iter().all(|&n| n > 250), "{dependents:?}");
             for literals in [1, 2] {
                 let steps = run.steps(literals, 20);
-                for rows in [Rows::Kept, Rows::Last, Rows::Anew] {
+                for rows in [Rows::Kept, Rows::Last, Rows::LastByPasses, Rows::Anew] {
                     let answer = check(prefix, clauses, &steps, 640, 640, 9000, rows);
                     assert_eq!(answer, Err(Reason::NoConclusion.at(8192 + 20)));
                 }

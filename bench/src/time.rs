@@ -316,7 +316,7 @@ fn time_checks(random: &mut Random, full: &Tables) {
     time_both_checks(name, &tables, &steps, &[Rows::Kept]);
     let steps = long_derivation(random, &tables, MAX_STEP_WORDS, 14, 2);
     let name = "the same with reductions";
-    let every = [Rows::Kept, Rows::Last, Rows::Anew];
+    let every = [Rows::Kept, Rows::Last, Rows::LastByPasses, Rows::Anew];
     time_both_checks(name, &tables, &steps, &every);
     let steps = long_derivation(random, full, MAX_STEP_WORDS, 20, 200);
     let name = "few reductions, 65,536 clause words";
@@ -363,6 +363,7 @@ pub fn time_check(
         let label = match rows {
             Rows::Kept => "rows kept",
             Rows::Last => "the last row kept",
+            Rows::LastByPasses => "the last row kept, by passes",
             Rows::Anew => "a row for each reduction",
         };
         references.push((label, work));

@@ -40,11 +40,17 @@ fn with_universal(prefix: &[i32], variable: i32) -> Result<Vec<Entry>, Refusal> 
 /// of clauses in no order can cost it a pass for every few links.
 pub fn row_by_passes(prefix: &[i32], clauses: &[i32], variable: i32) -> Result<Row, Refusal> {
     check_tables(prefix, clauses)?;
-    let scope = Scope::of(&with_universal(prefix, variable)?, variable);
-    Ok(scope.row(variable, |start| {
+    let entries = with_universal(prefix, variable)?;
+    Ok(made_by_passes(&entries, clauses, variable))
+}
+
+/// The row of a universal of these entries, by passes over clauses that were checked.
+pub fn made_by_passes(entries: &[Entry], clauses: &[i32], variable: i32) -> Row {
+    let scope = Scope::of(entries, variable);
+    scope.row(variable, |start| {
         let (reached, _) = reached_by_passes(clauses, start, &scope);
         reached
-    }))
+    })
 }
 
 /// How many passes the longer of the two searches takes, the last of which changes nothing.

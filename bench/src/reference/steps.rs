@@ -2,7 +2,7 @@
 //! literal, and ticked off against what the step states; no mark is ever wiped, each step has its own.
 
 use super::prefix::{bindings, entries, Entry, Quantifier};
-use super::row::{Occurrences, Row};
+use super::row::{made_by_passes, Occurrences, Row};
 use super::tables::{check_tables, Counts};
 use super::{literal_index, Reason, Refusal, LITERALS, MAX_STEP_WORDS, MAX_VARIABLE, ROW_BYTES};
 
@@ -13,11 +13,13 @@ pub struct Verdict {
     pub steps: usize,
 }
 
-/// Which rows are kept for later reductions: all that were made, the one of the last reduction, or none.
+/// Which rows are kept for later reductions: all that were made, the one of the last reduction, or none. The last one is made by
+/// a worklist over an index of the clauses, as all others are, or by passes over the clause words, which need no index.
 #[derive(Clone, Copy, Debug, PartialEq, Eq)]
 pub enum Rows {
     Kept,
     Last,
+    LastByPasses,
     Anew,
 }
 
@@ -42,7 +44,7 @@ impl Shelf {
     fn row(&mut self, variable: usize, make: impl FnOnce() -> Row) -> &Row {
         let drops = match self.rows {
             Rows::Kept => false,
-            Rows::Last => self.last != variable,
+            Rows::Last | Rows::LastByPasses => self.last != variable,
             Rows::Anew => true,
         };
         if drops {
@@ -156,6 +158,7 @@ impl Fault {
 struct Run<'a> {
     entries: Vec<Entry>,
     bindings: [Option<Quantifier>; ROW_BYTES],
+    clauses: &'a [i32],
     occurrences: Occurrences<'a>,
     shelf: Shelf,
     /// The numbered clauses so far, clause n at n - 1.
@@ -178,6 +181,7 @@ impl<'a> Run<'a> {
         Run {
             bindings: bindings(&entries),
             entries,
+            clauses,
             occurrences: Occurrences::of(clauses, counts),
             shelf: Shelf::new(rows),
             known,
@@ -257,7 +261,11 @@ impl<'a> Run<'a> {
             return Err(Reason::WrongPivot.into());
         }
         let variable = reduced.unsigned_abs() as usize;
-        let make = || self.occurrences.row(&self.entries, variable as i32);
+        let rows = self.shelf.rows;
+        let make = || match rows {
+            Rows::LastByPasses => made_by_passes(&self.entries, self.clauses, variable as i32),
+            _ => self.occurrences.row(&self.entries, variable as i32),
+        };
         let row = self.shelf.row(variable, make);
         let depends = |literal: &i32| row[literal.unsigned_abs() as usize] == 1;
         if clause.iter().any(depends) {
@@ -456,7 +464,7 @@ mod tests {
             let (prefix, clauses) = (&tables.prefix, &tables.clauses);
             let steps = derivation(&mut random, &tables, 40, 12);
             let answer = check(prefix, clauses, &steps, 8200, 8200, 9000, Rows::Kept);
-            for rows in [Rows::Last, Rows::Anew] {
+            for rows in [Rows::Last, Rows::LastByPasses, Rows::Anew] {
                 let other = check(prefix, clauses, &steps, 8200, 8200, 9000, rows);
                 assert_eq!(answer, other, "{rows:?}");
             }
