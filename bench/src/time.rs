@@ -151,9 +151,17 @@ pub fn time() {
     let mut random = Random::new(3);
     let tables = full_tables(&mut random);
     time_tables(&tables);
-    for (size, entry) in [(Size::Large, "row"), (Size::Small, "row_small")] {
-        let name = format!("{entry}, each of 512 universals, 65,536 clause words");
-        time_rows(&name, RUNS, &tables, size, true);
+    let shorter = half_universal(&mut Random::new(5), MAX_CLAUSES, 3);
+    let fewer = half_universal(&mut Random::new(5), 1_200, 3);
+    for (tables, over) in [
+        (&tables, "65,536 clause words"),
+        (&shorter, "32,768 clause words"),
+        (&fewer, "1,200 clauses of 3"),
+    ] {
+        for (size, entry) in [(Size::Large, "row"), (Size::Small, "row_small")] {
+            let name = format!("{entry}, each of 512 universals, {over}");
+            time_rows(&name, RUNS, tables, size, true);
+        }
     }
     time_proof_file(&mut random);
     time_checks(&mut random, &tables);
@@ -163,13 +171,18 @@ pub fn time() {
 
 /// 512 universals among 1,024 variables and 8,192 clauses of seven literals: 65,536 clause words.
 pub fn full_tables(random: &mut Random) -> Tables {
+    half_universal(random, MAX_CLAUSES, 7)
+}
+
+/// 512 universals among 1,024 variables and so many clauses of so many literals.
+fn half_universal(random: &mut Random, clauses: usize, literals: usize) -> Tables {
     let shape = Shape {
         variables: MAX_VARIABLE,
         largest: MAX_VARIABLE,
         universal: 0,
-        clauses: MAX_CLAUSES,
-        shortest: 7,
-        longest: 7,
+        clauses,
+        shortest: literals,
+        longest: literals,
     };
     let mut tables = shape.tables(random);
     let mut universal: Vec<bool> = (0..MAX_VARIABLE).map(|place| place % 2 == 0).collect();

@@ -1,4 +1,4 @@
--- The marks of a step, as the code makes them: one flag a literal, and what storing the marks of a list of words and ticking one do to the
+-- The marks of a step, as the code makes them: one flag a literal, and what marking a list of words, ticking one off and wiping do to the
 -- marks and tell. That this judges a statement is in Marks/Judging.antt.
 pub mod Laws
 pub mod Judging
@@ -9,7 +9,7 @@ use mathlib.Core.List.{List, [], _∷_}
 use lib.ListN.{getD, set, replicate}
 use lib.Dec.{eqb}
 use lib.IntN.{ℤ, negℤ}
-use Rattle.bits.specs.Flags.{flags, flag}
+use Rattle.bits.specs.Flags.{flags}
 use Rattle.formula.specs.Word.{wordOf, slotOf}
 use Rattle.checker.specs.Words.{Words}
 
@@ -29,19 +29,14 @@ marksIn bytes = 0 ∷ 0 ∷ flags bytes
 abbrev pub clean : List ℕ
 clean = replicate 2050 0
 
--- The slot that is looked at before a word's mark is stored: the opposite's where words are marked, its own where they are wiped.
-unfoldable pub lookedAt : Bool → ℤ → ℕ
-lookedAt true x = slotAt (negℤ x)
-lookedAt false x = slotAt x
+-- Each word is marked; one met the mark of its opposite.
+unfoldable pub markAll : List ℕ → Words → List ℕ
+markAll marks [] = marks
+markAll marks (x ∷ C) = markAll (set marks (slotAt x) 1) C
 
--- Each word's mark is stored; a mark was found where it was looked for: a word met its opposite, or was still marked.
-unfoldable pub putAll : Bool → List ℕ → Words → List ℕ
-putAll on marks [] = marks
-putAll on marks (x ∷ C) = putAll on (set marks (slotAt x) (flag on)) C
-
-unfoldable pub finds : Bool → List ℕ → Words → Bool
-finds on marks [] = false
-finds on marks (x ∷ C) = eqb (getD marks (lookedAt on x) 0) 1 || finds on (set marks (slotAt x) (flag on)) C
+unfoldable pub meets : List ℕ → Words → Bool
+meets marks [] = false
+meets marks (x ∷ C) = eqb (getD marks (slotAt (negℤ x)) 0) 1 || meets (set marks (slotAt x) 1) C
 
 -- Words are ticked off, their marks cleared, up to the first that is not marked; there is none.
 abbrev pub tickIf : Bool → List ℕ → List ℕ → List ℕ
@@ -56,10 +51,19 @@ unfoldable pub ticks : List ℕ → Words → Bool
 ticks marks [] = true
 ticks marks (x ∷ L) = eqb (getD marks (slotAt x) 0) 1 && ticks (set marks (slotAt x) 0) L
 
-pub record Put (on : Bool) (marks : List ℕ) (C : Words) (found : Bool) (exit : List ℕ) : Type 0 where
-  pub told : found ≡ finds on marks C
-  pub left : exit ≡ putAll on marks C
+-- A mark is left.
+unfoldable pub anyMarked : List ℕ → Bool
+anyMarked [] = false
+anyMarked (m ∷ marks) = eqb m 1 || anyMarked marks
+
+pub record Marked (marks : List ℕ) (C : Words) (met : Bool) (exit : List ℕ) : Type 0 where
+  pub told : met ≡ meets marks C
+  pub left : exit ≡ markAll marks C
 
 pub record Ticked (marks : List ℕ) (L : Words) (all : Bool) (exit : List ℕ) : Type 0 where
   pub told : all ≡ ticks marks L
   pub left : exit ≡ tickAll marks L
+
+pub record Wiped (marks : List ℕ) (found : Bool) (exit : List ℕ) : Type 0 where
+  pub told : found ≡ anyMarked marks
+  pub left : exit ≡ clean

@@ -1,47 +1,34 @@
 // A step's marks, one flag a literal: 1 for one that is in the result and not stated yet. The result is marked, its statement ticked off, then
-// the result wiped, which tells whether a literal was left unstated. The literal of slot s has the flag s - 2.
+// all marks are wiped, which tells whether a literal was left unstated. The literal of slot s has the flag s - 2.
 use crate::words::same;
 use bits::is_set;
 use bits::put;
+use formula::clear::clear_bytes;
 use formula::word::Word;
 ghost use mathlib.Core.Path.{_≡_};
 ghost use lib.ListN.{length};
+ghost use Rattle.bits.specs.Flags.{flags};
 ghost use Rattle.formula.specs.Decode.{clauseAt};
 ghost use Rattle.checker.specs.Words.{without, InRange, AllInRange};
-ghost use Rattle.checker.specs.Marks.{marksIn, lookedAt, Put, Ticked, alone};
+ghost use Rattle.checker.specs.Marks.{marksIn, anyMarked, Marked, Ticked, Wiped, alone};
 
-// The slot that is looked at before a word's mark is stored: the opposite's where words are marked, its own where they are wiped.
-fn looked_at(word: i32, on: bool) -> usize
-    ensures { λ r. ⌜ r ≡ lookedAt on word ⌝ }
-{
-    if on {
-        return Word::opposite_slot(word);
-    }
-    Word::slot(word)
-}
-
-// Stores a word's mark, unless it is the one left out; tells, when on, whether its opposite is marked, and when off, whether it was. Where a mark is
-// wiped that is not there, as in every right step, nothing is stored.
-fn put_word(word: i32, except: i32, on: bool, marks: &mut [u8]) -> bool
+// Marks a word, unless it is the one left out; tells whether its opposite is marked.
+fn mark_word(word: i32, except: i32, marks: &mut [u8]) -> bool
     requires { ⌜ length (now marks) ≡ 256 ⌝ ∗ ⌜ InRange word ⌝ }
-    ensures { λ r. ⌜ Put on (marksIn (now (marks .entry))) (without except (alone word)) r (marksIn (now (marks .exit))) ⌝ }
+    ensures { λ r. ⌜ Marked (marksIn (now (marks .entry))) (without except (alone word)) r (marksIn (now (marks .exit))) ⌝ }
 {
     if same(except, word) {
         return false;
     }
-    let found = is_set(marks, looked_at(word, on) - 2);
-    if on | found {
-        put(marks, Word::slot(word) - 2, on);
-        return found;
-    }
-    found
+    let met = is_set(marks, Word::opposite_slot(word) - 2);
+    put(marks, Word::slot(word) - 2, true);
+    met
 }
 
-// Marks the clause but for one literal, or wipes its marks; tells, when on, whether a literal met its opposite, and when off, whether one was
-// still marked. One pass over the clause.
-pub fn put_clause(words: &[i32], from: usize, except: i32, on: bool, marks: &mut [u8]) -> bool
+// Marks the clause but for one literal; tells whether a literal met its opposite. One pass over the clause.
+pub fn mark_clause(words: &[i32], from: usize, except: i32, marks: &mut [u8]) -> bool
     requires { ⌜ length (now marks) ≡ 256 ⌝ ∗ ⌜ AllInRange (clauseAt (now words) from) ⌝ }
-    ensures { λ r. ⌜ Put on (marksIn (now (marks .entry))) (without except (clauseAt (now (words .entry)) from)) r (marksIn (now (marks .exit))) ⌝ }
+    ensures { λ r. ⌜ Marked (marksIn (now (marks .entry))) (without except (clauseAt (now (words .entry)) from)) r (marksIn (now (marks .exit))) ⌝ }
 {
     let mut told = false;
     let mut i = from;
@@ -50,8 +37,8 @@ pub fn put_clause(words: &[i32], from: usize, except: i32, on: bool, marks: &mut
         if Word::is_zero(word) {
             return told;
         }
-        let found = put_word(word, except, on, marks);
-        told = told | found;
+        let met = mark_word(word, except, marks);
+        told = told | met;
         i += 1;
     }
     told
@@ -91,4 +78,27 @@ pub fn tick(words: &[i32], from: usize, marks: &mut [u8]) -> bool
         }
     }
     true
+}
+
+// Whether a flag of the bytes is 1. It goes by whole bytes and leaves none out, which compiles to a few wide reads.
+fn any_marked(bytes: &[u8]) -> bool
+    ensures { λ r. ⌜ r ≡ anyMarked (flags (now (bytes .entry))) ⌝ }
+{
+    let mut found = false;
+    let mut i = 0;
+    while i < bytes.len() {
+        found = found | (bytes[i] != 0);
+        i += 1;
+    }
+    found
+}
+
+// Wipes all marks; tells whether there was one. One pass over the 256 bytes, whatever was marked: less than the clauses once more.
+pub fn wipe(marks: &mut [u8]) -> bool
+    requires { ⌜ length (now marks) ≡ 256 ⌝ }
+    ensures { λ r. ⌜ Wiped (marksIn (now (marks .entry))) r (marksIn (now (marks .exit))) ⌝ }
+{
+    let found = any_marked(marks);
+    clear_bytes(marks, 0);
+    found
 }

@@ -1,4 +1,4 @@
-// Kind 2: a reduction. Each check costs one pass over the prefix, the clause and the statement, and the row of its variable, unless that
+// Kind 2: a reduction. Each check costs a few passes over the prefix, the clause and the statement, and the row of its variable, unless that
 // is the row that stands in the scratch. `kept` is the variable whose row stands there, 0 for none.
 use crate::blocked::find_blocker;
 use crate::blocked::row_touches;

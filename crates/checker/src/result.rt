@@ -1,7 +1,8 @@
 // The result of a step and its statement: marks of the result, ticks of what is stated, and the judgement. A step costs time
 // linear in its clauses and its statement.
-use crate::marks::put_clause;
+use crate::marks::mark_clause;
 use crate::marks::tick;
+use crate::marks::wipe;
 use formula::literal::Literal;
 use formula::literal::Variable;
 use formula::refusal::Reason;
@@ -11,7 +12,7 @@ ghost use lib.ListN.{length};
 ghost use lib.IntN.{pos};
 ghost use Rattle.checker.specs.Steps.{resolvent};
 ghost use Rattle.formula.specs.Decode.{clauseAt};
-ghost use Rattle.checker.specs.Marks.{marksIn, clean, Put};
+ghost use Rattle.checker.specs.Marks.{marksIn, clean, Marked};
 ghost use Rattle.checker.specs.Words.{AllInRange};
 ghost use Rattle.checker.specs.Result.{decided, JudgedClean, resultReason, statementReason};
 
@@ -38,25 +39,24 @@ fn decide(opposed: bool, ticked: bool, unstated: bool) -> Judgement
     }
 }
 
-// Marks both clauses but for the pivot's literals, or wipes their marks; tells what putting each tells.
-fn put_both(
+// Marks both clauses but for the pivot's literals; tells whether a literal met its opposite.
+fn mark_both(
     left: &[i32],
     from: usize,
     right: &[i32],
     start: usize,
     pivot: Variable,
-    on: bool,
     marks: &mut [u8],
 ) -> bool
     requires { ⌜ length (now marks) ≡ 256 ⌝ ∗ ⌜ pivot .0 ≤ 1024 ⌝ ∗ ⌜ AllInRange (clauseAt (now left) from) ⌝ ∗ ⌜ AllInRange (clauseAt (now right) start) ⌝ }
-    ensures { λ r. ⌜ Put on (marksIn (now (marks .entry))) (resolvent (pos (pivot .0)) (clauseAt (now (left .entry)) from) (clauseAt (now (right .entry)) start)) r (marksIn (now (marks .exit))) ⌝ }
+    ensures { λ r. ⌜ Marked (marksIn (now (marks .entry))) (resolvent (pos (pivot .0)) (clauseAt (now (left .entry)) from) (clauseAt (now (right .entry)) start)) r (marksIn (now (marks .exit))) ⌝ }
 {
     let literal = pivot.literal();
     let e = literal.0;
     let opposite = literal.negated();
     let f = opposite.0;
-    let first = put_clause(left, from, e, on, marks);
-    let second = put_clause(right, start, f, on, marks);
+    let first = mark_clause(left, from, e, marks);
+    let second = mark_clause(right, start, f, marks);
     first | second
 }
 
@@ -74,9 +74,9 @@ pub fn judge_resolvent(
     requires { ⌜ length (now marks) ≡ 256 ⌝ ∗ ⌜ marksIn (now marks) ≡ clean ⌝ ∗ ⌜ pivot .0 ≤ 1024 ⌝ ∗ ⌜ AllInRange (clauseAt (now left) from) ⌝ ∗ ⌜ AllInRange (clauseAt (now right) start) ⌝ }
     ensures { λ r. ⌜ JudgedClean (resultReason (resolvent (pos (pivot .0)) (clauseAt (now (left .entry)) from) (clauseAt (now (right .entry)) start)) (clauseAt (now (steps .entry)) statement)) r (marksIn (now (marks .exit))) ⌝ }
 {
-    let opposed = put_both(left, from, right, start, pivot, true, marks);
+    let opposed = mark_both(left, from, right, start, pivot, marks);
     let ticked = tick(steps, statement, marks);
-    let unstated = put_both(left, from, right, start, pivot, false, marks);
+    let unstated = wipe(marks);
     decide(opposed, ticked, unstated)
 }
 
@@ -93,8 +93,8 @@ pub fn judge_reduct(
     ensures { λ r. ⌜ JudgedClean (statementReason (literal .0) (clauseAt (now (words .entry)) from) (clauseAt (now (steps .entry)) statement)) r (marksIn (now (marks .exit))) ⌝ }
 {
     let a = literal.0;
-    put_clause(words, from, a, true, marks);
+    mark_clause(words, from, a, marks);
     let ticked = tick(steps, statement, marks);
-    let unstated = put_clause(words, from, a, false, marks);
+    let unstated = wipe(marks);
     decide(false, ticked, unstated)
 }

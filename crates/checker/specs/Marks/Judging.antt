@@ -1,25 +1,24 @@
--- Marking a result, ticking its statement and wiping it judges both: opposite signs are met exactly when the result holds
--- them, the statement is ticked and nothing is left exactly when it states the result, and the marks end as they began.
+-- Marking a result and ticking its statement judges both: opposite signs are met exactly when the result holds them, the statement is
+-- ticked and no mark is left exactly when it states the result.
 -- Assumes nothing.
-use Prim.Native.Nat.{ℕ, zero, suc, _+_, _*_}
+use Prim.Native.Nat.{ℕ, zero, suc, _+_, _*_, _/_, _%_, _<_}
 use mathlib.Core.Path.{_≡_, refl, ap, sym, _∙_}
-use mathlib.Core.Logic.{_⊎_, inl, inr, _≢_}
+use mathlib.Core.Logic.{_⊎_, inl, inr, _≢_, dite}
 use mathlib.Core.Bool.{Bool, true, false, not, _&&_, _||_, false≢true}
-use mathlib.Core.List.{List, [], _∷_, List·Memᴰ, List·Memᴰ·head, List·Memᴰ·tail, List·Memᴰ·not-nil, List·Memᴰ·cases-cons}
+use mathlib.Core.List.{List, [], _∷_, List·Memᴰ, List·Memᴰ·head, List·Memᴰ·tail}
 use native.Mathlib.Omega.{arith}
 use native.Mathlib.Decide.{ℕ-discrete}
-use borrow.Author.Tests.{eqb-true, eqb-false, ne-eqb}
 use lib.Dec.{leb, eqb}
 use lib.ListN.{length, getD, set, replicate, length-replicate, length-set}
-use lib.Seq.{getD-set-same, getD-set-other, set-getD, set-set, set-comm}
+use lib.Seq.{getD-set-same, getD-set-other}
 use lib.IntN.{ℤ, pos, negsuc, negℤ}
 use Rattle.formula.specs.Word.{wordOf, slotOf, positive, negative}
 use Rattle.checker.specs.Words.{Words, sameWord, holds, InRange, AllInRange}
-use Rattle.checker.specs.Words.Laws.{same-sound, same-apart, apart-same, holds-sound, holds-complete}
+use Rattle.checker.specs.Words.Laws.{same-sound, same-apart, holds-sound, holds-complete}
 use Rattle.checker.specs.Steps.{opposed, lists, covers, states}
 use Rattle.checker.specs.Steps.Tests.{covers-sound}
-use Rattle.checker.specs.Marks.{slotAt, clean, lookedAt, putAll, finds, tickIf, tickAll, ticks}
-use Rattle.checker.specs.Marks.Laws.{slot-positive, slot-negative, slot-at-bound, tail-in-range, length-put, length-tick}
+use Rattle.checker.specs.Marks.{slotAt, clean, markAll, meets, tickIf, tickAll, ticks, anyMarked}
+use Rattle.checker.specs.Marks.Laws.{slot-positive, slot-negative, slot-at-bound, tail-in-range, length-mark, length-tick, none-marked, one-marked}
 
 -- The slot of any word.
 slot-parity : (x : ℤ) → (slotAt x ≡ 0) ⊎ ((n : ℕ) × (x ≡ pos (suc n)) × (slotAt x ≡ 2 * suc n)) ⊎ ((n : ℕ) × (x ≡ negsuc n) × (slotAt x ≡ 2 * suc n + 1))
@@ -82,8 +81,8 @@ holds-cons y x C = refl
 pub meets-opposed :
     (m : List ℕ) → length m ≡ 2050 → (seen R : Words) → AllInRange R
     → ((y : ℤ) → eqb (getD m (slotAt y) 0) 1 ≡ holds y seen)
-    → finds true m R ≡ opposed seen R
-unfolding finds lookedAt opposed
+    → meets m R ≡ opposed seen R
+unfolding meets opposed
 meets-opposed m size seen [] r h = refl
 meets-opposed m size seen (x ∷ R) r h =
     rw (h (negℤ x))
@@ -98,8 +97,8 @@ meets-opposed m size seen (x ∷ R) r h =
     marked y = rw (store-seen m size x (r x (List·Memᴰ·head refl)) 1 y, holds-cons y x seen) (seen-at y (sameWord y x) refl)
 
 -- What the marks show after marking, and after ticking.
-pub mark-shows : (m : List ℕ) → length m ≡ 2050 → (C : Words) → AllInRange C → (y : ℤ) → getD (putAll true m C) (slotAt y) 0 ≡ pick (holds y C) 1 (getD m (slotAt y) 0)
-unfolding putAll holds
+pub mark-shows : (m : List ℕ) → length m ≡ 2050 → (C : Words) → AllInRange C → (y : ℤ) → getD (markAll m C) (slotAt y) 0 ≡ pick (holds y C) 1 (getD m (slotAt y) 0)
+unfolding markAll holds
 mark-shows m size [] r y = refl
 mark-shows m size (x ∷ C) r y =
     mark-shows (set m (slotAt x) 1) (store-size m size x (r x (List·Memᴰ·head refl)) 1) C (tail-in-range x C (x ∷ C) refl r) y
@@ -172,38 +171,15 @@ module _ (R : Words) (range : AllInRange R) where
       go true e later = later (in-range e) (rw e at t) ∙ rw (store-seen m size x (in-range e) 0 y) (joined (holds y L) (sameWord y x))
       go false e later = absurd (false≢true (rw e at t))
 
--- What wiping tells: no word left at 1, or one that was.
-none-left : (m : List ℕ) → length m ≡ 2050 → (C : Words) → AllInRange C → ((y : ℤ) → List·Memᴰ y C → getD m (slotAt y) 0 ≢ 1) → finds false m C ≡ false
-unfolding finds lookedAt
-none-left m size [] r h = refl
-none-left m size (x ∷ C) r h =
-    rw (ne-eqb (getD m (slotAt x) 0) 1 (h x (List·Memᴰ·head refl)))
-    (none-left (set m (slotAt x) 0) (store-size m size x (r x (List·Memᴰ·head refl)) 0) C (tail-in-range x C (x ∷ C) refl r) later)
-  where
-    later : (y : ℤ) → List·Memᴰ y C → getD (set m (slotAt x) 0) (slotAt y) 0 ≢ 1
-    later y k e = go (sameWord y x) (sym (store-seen m size x (r x (List·Memᴰ·head refl)) 0 y) ∙ e)
-      where
-        go : (b : Bool) → pick b 0 (getD m (slotAt y) 0) ≡ 1 → ⊥
-        go true q = let z : _≡_ {A = ℕ} 0 1 = q in omega arith
-        go false q = h y (List·Memᴰ·tail k) q
-
-one-left : (m : List ℕ) → length m ≡ 2050 → (C : Words) → AllInRange C → (y : ℤ) → List·Memᴰ y C → getD m (slotAt y) 0 ≡ 1 → finds false m C ≡ true
-unfolding finds lookedAt
-one-left m size [] r y k e = absurd (List·Memᴰ·not-nil k)
-one-left m size (x ∷ C) r y k e =
-    go (eqb (getD m (slotAt x) 0) 1) refl (List·Memᴰ·cases-cons k) (λ i q. one-left (set m (slotAt x) 0) (store-size m size x (r x (List·Memᴰ·head refl)) 0) C (tail-in-range x C (x ∷ C) refl r) y i q)
-  where
-    later : eqb (getD m (slotAt x) 0) 1 ≡ false → sameWord y x ≡ false
-    later q = apart-same y x (λ s. eqb-false (getD m (slotAt x) 0) 1 q (ap (λ (w : ℤ). getD m (slotAt w) 0) (sym s) ∙ e))
-
-    go :
-        (b : Bool) → eqb (getD m (slotAt x) 0) 1 ≡ b
-        → (y ≡ x) ⊎ List·Memᴰ y C
-        → (List·Memᴰ y C → getD (set m (slotAt x) 0) (slotAt y) 0 ≡ 1 → finds false (set m (slotAt x) 0) C ≡ true)
-        → (b || finds false (set m (slotAt x) 0) C) ≡ true
-    go true q i ih = refl
-    go false q (inl s) ih = absurd (same-apart y x (later q) s)
-    go false q (inr i) ih = ih i (store-seen m size x (r x (List·Memᴰ·head refl)) 0 y ∙ rw (later q) e)
+-- Every place but 1 is the slot of a word.
+slot-of : (i : ℕ) → i < 2050 → i ≢ 1 → (x : ℤ) × (slotAt x ≡ i)
+unfolding slotAt wordOf
+slot-of zero h n = (pos zero, refl)
+slot-of (suc zero) h n = absurd (n refl)
+slot-of (suc (suc i)) h n =
+    dite (ℕ-discrete (i % 2) 0)
+    (λ e. (pos (suc (i / 2)), slot-positive (i / 2) (omega arith) ∙ omega arith))
+    (λ e. (negsuc (i / 2), slot-negative (i / 2) (omega arith) ∙ omega arith))
 
 uncovered : (L R : Words) → covers L R ≡ false → (y : ℤ) × List·Memᴰ y R × (holds y L ≡ false)
 unfolding covers
@@ -214,124 +190,75 @@ uncovered L (x ∷ R) h = go (holds x L) refl (uncovered L R)
     go true e ih = let t = ih (rw e at h) in (t .0, List·Memᴰ·tail (t .1), t .2)
     go false e ih = (x, List·Memᴰ·head refl, e)
 
--- Wiping forgets what was stored at the slot of a word of the list.
-wipe-store : (m : List ℕ) (C : Words) (x : ℤ) (v : ℕ) → List·Memᴰ x C → putAll false (set m (slotAt x) v) C ≡ putAll false m C
-unfolding putAll
-wipe-store m [] x v k = absurd (List·Memᴰ·not-nil k)
-wipe-store m (y ∷ C) x v k = go (ℕ-discrete (slotAt x) (slotAt y)) (List·Memᴰ·cases-cons k) (λ i. wipe-store (set m (slotAt y) 0) C x v i)
-  where
-    go :
-        Dec (slotAt x ≡ slotAt y) → (x ≡ y) ⊎ List·Memᴰ x C
-        → (List·Memᴰ x C → putAll false (set (set m (slotAt y) 0) (slotAt x) v) C ≡ putAll false (set m (slotAt y) 0) C)
-        → putAll false (set (set m (slotAt x) v) (slotAt y) 0) C ≡ putAll false (set m (slotAt y) 0) C
-    go (yes e) i ih = ap (λ (n : List ℕ). putAll false n C) (rw e (set-set m (slotAt y) v 0))
-    go (no n) (inl e) ih = absurd (n (ap slotAt e))
-    go (no n) (inr i) ih = ap (λ (l : List ℕ). putAll false l C) (set-comm m (slotAt x) (slotAt y) v 0 n) ∙ ih i
-
-wipe-marked : (m : List ℕ) (C D : Words) → ((x : ℤ) → List·Memᴰ x D → List·Memᴰ x C) → putAll false (putAll true m D) C ≡ putAll false m C
-unfolding putAll
-wipe-marked m C [] h = refl
-wipe-marked m C (x ∷ D) h = wipe-marked (set m (slotAt x) 1) C D (λ y k. h y (List·Memᴰ·tail k)) ∙ wipe-store m C x 1 (h x (List·Memᴰ·head refl))
-
-wipe-ticked : (m : List ℕ) → length m ≡ 2050 → (C L : Words) → AllInRange C → ((y : ℤ) → getD m (slotAt y) 0 ≡ 1 → List·Memᴰ y C) → putAll false (tickAll m L) C ≡ putAll false m C
-unfolding tickAll
-wipe-ticked m size C [] r h = refl
-wipe-ticked m size C (x ∷ L) r h = go (eqb (getD m (slotAt x) 0) 1) refl (λ i k. wipe-ticked (set m (slotAt x) 0) (store-size m size x i 0) C L r k)
-  where
-    later : InRange x → (y : ℤ) → getD (set m (slotAt x) 0) (slotAt y) 0 ≡ 1 → List·Memᴰ y C
-    later i y e = side (sameWord y x) (sym (store-seen m size x i 0 y) ∙ e)
-      where
-        side : (b : Bool) → pick b 0 (getD m (slotAt y) 0) ≡ 1 → List·Memᴰ y C
-        side true q = let z : _≡_ {A = ℕ} 0 1 = q in absurd (omega arith)
-        side false q = h y q
-
-    go :
-        (b : Bool) → eqb (getD m (slotAt x) 0) 1 ≡ b
-        → (InRange x → ((y : ℤ) → getD (set m (slotAt x) 0) (slotAt y) 0 ≡ 1 → List·Memᴰ y C) → putAll false (tickAll (set m (slotAt x) 0) L) C ≡ putAll false (set m (slotAt x) 0) C)
-        → putAll false (tickIf b m (tickAll (set m (slotAt x) 0) L)) C ≡ putAll false m C
-    go true e ih =
-        let k = h x (eqb-true (getD m (slotAt x) 0) 1 e) in
-        ih (r x k) (later (r x k)) ∙ wipe-store m C x 0 k
-    go false e ih = refl
-
 zeros-at : (n i : ℕ) → _≡_ {A = ℕ} (getD (replicate {A = ℕ} n 0) i 0) 0
 zeros-at zero i = refl
 zeros-at (suc n) zero = refl
 zeros-at (suc n) (suc i) = zeros-at n i
-
-wipe-zeros : (n : ℕ) (C : Words) → putAll false (replicate n 0) C ≡ replicate n 0
-unfolding putAll
-wipe-zeros n [] = refl
-wipe-zeros n (x ∷ C) =
-    let z : List ℕ = replicate n 0 in
-    let e : set z (slotAt x) 0 ≡ z = ap (set z (slotAt x)) (sym (zeros-at n (slotAt x))) ∙ set-getD z (slotAt x) 0 in
-    ap (λ (l : List ℕ). putAll false l C) e ∙ wipe-zeros n C
 
 -- The whole of it, from clean marks.
 module _ (R L : Words) (range : AllInRange R) where
   clean-size : length clean ≡ 2050
   clean-size = length-replicate {A = ℕ} 2050 0
 
-  marked-size : length (putAll true clean R) ≡ 2050
-  marked-size = length-put true clean R ∙ clean-size
+  marked-size : length (markAll clean R) ≡ 2050
+  marked-size = length-mark clean R ∙ clean-size
 
-  marked-shows : (y : ℤ) → getD (putAll true clean R) (slotAt y) 0 ≡ pick (holds y R) 1 0
+  marked-shows : (y : ℤ) → getD (markAll clean R) (slotAt y) 0 ≡ pick (holds y R) 1 0
   marked-shows y = mark-shows clean clean-size R range y ∙ ap (pick (holds y R) 1) (zeros-at 2050 (slotAt y))
 
-  marked-in : (y : ℤ) → getD (putAll true clean R) (slotAt y) 0 ≡ 1 → List·Memᴰ y R
-  marked-in y e = go (holds y R) refl (sym (marked-shows y) ∙ e)
-    where
-      go : (b : Bool) → holds y R ≡ b → pick b 1 0 ≡ 1 → List·Memᴰ y R
-      go true q k = holds-sound y R q
-      go false q k = let z : _≡_ {A = ℕ} 0 1 = k in absurd (omega arith)
-
-  nothing-seen : Shows (putAll true clean R) R []
+  nothing-seen : Shows (markAll clean R) R []
   unfolding holds
   nothing-seen y = marked-shows y
 
   -- Marking tells whether the result holds both signs of a variable.
-  pub clean-meets : finds true clean R ≡ opposed [] R
+  pub clean-meets : meets clean R ≡ opposed [] R
   unfolding holds
   clean-meets = meets-opposed clean clean-size [] R range (λ y. ap (λ (n : ℕ). eqb n 1) (zeros-at 2050 (slotAt y)))
 
-  left-shows : ticks (putAll true clean R) L ≡ true → (y : ℤ) → getD (tickAll (putAll true clean R) L) (slotAt y) 0 ≡ pick (holds y L) 0 (pick (holds y R) 1 0)
-  left-shows t y = tick-shows R range (putAll true clean R) marked-size [] L nothing-seen t y ∙ ap (pick (holds y L) 0) (marked-shows y)
+  left-shows : ticks (markAll clean R) L ≡ true → (y : ℤ) → getD (tickAll (markAll clean R) L) (slotAt y) 0 ≡ pick (holds y L) 0 (pick (holds y R) 1 0)
+  left-shows t y = tick-shows R range (markAll clean R) marked-size [] L nothing-seen t y ∙ ap (pick (holds y L) 0) (marked-shows y)
 
-  left-size : length (tickAll (putAll true clean R) L) ≡ 2050
-  left-size = length-tick (putAll true clean R) L ∙ marked-size
+  left-size : length (tickAll (markAll clean R) L) ≡ 2050
+  left-size = length-tick (markAll clean R) L ∙ marked-size
 
-  -- Wiping tells whether a word of the result is unstated.
-  left-covers : ticks (putAll true clean R) L ≡ true → finds false (tickAll (putAll true clean R) L) R ≡ not (covers L R)
-  left-covers t = go (covers L R) refl
+  -- A mark is left exactly when a word of the result is unstated. No word has the slot 1.
+  left-covers : ticks (markAll clean R) L ≡ true → getD (tickAll (markAll clean R) L) 1 0 ≡ 0 → anyMarked (tickAll (markAll clean R) L) ≡ not (covers L R)
+  left-covers t one = go (covers L R) refl
     where
-      stated : covers L R ≡ true → (y : ℤ) → List·Memᴰ y R → getD (tickAll (putAll true clean R) L) (slotAt y) 0 ≢ 1
-      stated e y k q =
-          let h : holds y L ≡ true = holds-complete y L (covers-sound L R e y k) in
-          let z : _≡_ {A = ℕ} 0 1 = sym (left-shows t y ∙ rw h) ∙ q in
-          omega arith
+      left-in : (y : ℤ) (a b : Bool) → holds y L ≡ a → holds y R ≡ b → pick a 0 (pick b 1 0) ≡ 1 → List·Memᴰ y R × (holds y L ≡ false)
+      left-in y true b k l q = let z : _≡_ {A = ℕ} 0 1 = q in absurd (omega arith)
+      left-in y false true k l q = (holds-sound y R l, k)
+      left-in y false false k l q = let z : _≡_ {A = ℕ} 0 1 = q in absurd (omega arith)
 
-      go : (b : Bool) → covers L R ≡ b → finds false (tickAll (putAll true clean R) L) R ≡ not b
-      go true e = none-left (tickAll (putAll true clean R) L) left-size R range (stated e)
+      stated : covers L R ≡ true → (y : ℤ) → getD (tickAll (markAll clean R) L) (slotAt y) 0 ≢ 1
+      stated e y q =
+          let i = left-in y (holds y L) (holds y R) refl refl (sym (left-shows t y) ∙ q) in
+          false≢true (sym (i .1) ∙ holds-complete y L (covers-sound L R e y (i .0)))
+
+      nowhere : covers L R ≡ true → (i : ℕ) → i < length (tickAll (markAll clean R) L) → getD (tickAll (markAll clean R) L) i 0 ≢ 1
+      nowhere e i h q =
+          dite (ℕ-discrete i 1)
+          (λ s. let z : _≡_ {A = ℕ} 0 1 = sym one ∙ ap (λ (k : ℕ). getD (tickAll (markAll clean R) L) k 0) (sym s) ∙ q in omega arith)
+          (λ n. let size = left-size in let x = slot-of i (omega arith) n in stated e (x .0) (ap (λ (k : ℕ). getD (tickAll (markAll clean R) L) k 0) (x .1) ∙ q))
+
+      go : (b : Bool) → covers L R ≡ b → anyMarked (tickAll (markAll clean R) L) ≡ not b
+      go true e = none-marked (tickAll (markAll clean R) L) (nowhere e)
       go false e =
           let u = uncovered L R e in
-          one-left (tickAll (putAll true clean R) L) left-size R range (u .0) (u .1) (left-shows t (u .0) ∙ rw (u .2, holds-complete (u .0) R (u .1)))
+          one-marked (tickAll (markAll clean R) L) (slotAt (u .0)) (left-shows t (u .0) ∙ rw (u .2, holds-complete (u .0) R (u .1)))
 
-  -- Ticking and wiping tell whether L states the result.
-  pub clean-states : (ticks (putAll true clean R) L && not (finds false (tickAll (putAll true clean R) L) R)) ≡ states R L
+  -- Whether all is ticked off and no mark is left tells whether L states the result.
+  pub clean-states : getD (tickAll (markAll clean R) L) 1 0 ≡ 0 → (ticks (markAll clean R) L && not (anyMarked (tickAll (markAll clean R) L))) ≡ states R L
   unfolding states
-  clean-states = go (ticks (putAll true clean R) L) refl
+  clean-states one = go (ticks (markAll clean R) L) refl
     where
       not-not : (b : Bool) → not (not b) ≡ b
       not-not true = refl
       not-not false = refl
 
-      listed : ticks (putAll true clean R) L ≡ lists R [] L
-      listed = ticks-lists R range (putAll true clean R) marked-size [] L nothing-seen
+      listed : ticks (markAll clean R) L ≡ lists R [] L
+      listed = ticks-lists R range (markAll clean R) marked-size [] L nothing-seen
 
-      go : (b : Bool) → ticks (putAll true clean R) L ≡ b → (ticks (putAll true clean R) L && not (finds false (tickAll (putAll true clean R) L) R)) ≡ (lists R [] L && covers L R)
-      go true e = rw (← listed, e, left-covers e, not-not (covers L R))
+      go : (b : Bool) → ticks (markAll clean R) L ≡ b → (ticks (markAll clean R) L && not (anyMarked (tickAll (markAll clean R) L))) ≡ (lists R [] L && covers L R)
+      go true e = rw (← listed, e, left-covers e one, not-not (covers L R))
       go false e = rw (← listed, e)
-
-  -- The marks end clean.
-  pub clean-wiped : putAll false (tickAll (putAll true clean R) L) R ≡ clean
-  clean-wiped = wipe-ticked (putAll true clean R) marked-size R L range marked-in ∙ wipe-marked clean R R (λ x k. k) ∙ wipe-zeros 2050 R

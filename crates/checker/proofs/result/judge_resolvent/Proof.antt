@@ -1,4 +1,4 @@
--- `judge_resolvent`: both clauses without the pivot are marked, the statement ticked, both wiped. Assumes nothing.
+-- `judge_resolvent`: both clauses without the pivot are marked, the statement ticked, the marks wiped. Assumes nothing.
 use mathlib.Core.Path.{_∙_}
 use borrow.Author.Needs.{needs}
 use lib.IntN.{pos}
@@ -9,17 +9,17 @@ use Rattle.checker.specs.Result.Laws.{resolvent-in-range, judged-result}
 use Rattle.checker.proofs.result.judge_resolvent.Statement.{statement}
 use Rattle.checker.proofs.result.judge_resolvent.Tie as tie
 
-put-both-requires : tie.Need-put-both-requires
-put-both-requires c κs = let p = c .before .before .pre in (p .0, p .1 .1)
+mark-both-requires : tie.Need-mark-both-requires
+mark-both-requires c κs = let p = c .before .before .pre in (p .0, p .1 .1)
 
 tick-requires : tie.Need-tick-requires
-tick-requires c κs = let marked = c .before .before .before in marked .put-both .kept .1 .1 .1 .1 .1 .1 .0 ∙ marked .before .before .before .pre .0
+tick-requires c κs = let marked = c .before .before .before in marked .mark-both .kept .1 .1 .1 .1 .1 .0 ∙ marked .before .before .before .pre .0
 
-put-both-requires-2 : tie.Need-put-both-requires-2
-put-both-requires-2 c κs =
+wipe-requires : tie.Need-wipe-requires
+wipe-requires c κs =
     let ticked = c .before .before .before in
     let marked = ticked .before .before .before .before in
-    (ticked .tick .kept .1 .1 .0 ∙ marked .put-both .kept .1 .1 .1 .1 .1 .1 .0 ∙ marked .before .before .before .pre .0, c .before .before .before .before .before .before .before .before .before .before .pre .1 .1)
+    ticked .tick .kept .1 .1 .0 ∙ marked .mark-both .kept .1 .1 .1 .1 .1 .0 ∙ marked .before .before .before .pre .0
 
 returns : tie.Need-returns
 returns c =
@@ -30,7 +30,7 @@ returns c =
     let e = pos (start .args .pivot .0) in
     let C = clauseAt (start .args .left .now) (start .args .from) in
     let D = clauseAt (start .args .right .now) (start .args .start) in
-    judged-result (resolvent e C D) (clauseAt (start .args .steps .now) (start .args .statement)) (resolvent-in-range e C D (start .pre .1 .1 .1 .0) (start .pre .1 .1 .1 .1)) (marked .put-both .result) (ticked .tick .result) (wiped .put-both2 .result) (marksIn (start .args .marks .now)) _ _ _ (start .pre .1 .0) (marked .put-both .ensures) (ticked .tick .ensures) (wiped .put-both2 .ensures) (c .decide .result) (c .decide .ensures)
+    judged-result (resolvent e C D) (clauseAt (start .args .steps .now) (start .args .statement)) (resolvent-in-range e C D (start .pre .1 .1 .1 .0) (start .pre .1 .1 .1 .1)) (marked .mark-both .result) (ticked .tick .result) (wiped .wipe .result) (marksIn (start .args .marks .now)) _ _ _ (start .pre .1 .0) (marked .mark-both .ensures) (ticked .tick .ensures) (wiped .wipe .ensures) (c .decide .result) (c .decide .ensures)
 
 pub judge-resolvent-spec : {M : Type 1} → statement M
-judge-resolvent-spec = tie.close (tie.spec put-both-requires tick-requires put-both-requires-2 (λ c κs. search needs) (λ c. search needs) returns)
+judge-resolvent-spec = tie.close (tie.spec mark-both-requires tick-requires wipe-requires (λ c κs. search needs) (λ c. search needs) returns)
