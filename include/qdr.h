@@ -82,7 +82,8 @@ enum qdr_refusal {
                                these existentials the one that stands leftmost in the prefix, variable and block */
     QDR_MISSTATED = 18,     /* the literals stated are not the result's: its clause number */
     QDR_NO_CONCLUSION = 19, /* no clause is empty: the last clause number, or 0 */
-    QDR_NOT_UNIVERSAL = 20  /* a row asked for what is no universal of the prefix: 0 */
+    QDR_NOT_UNIVERSAL = 20, /* a row asked for what is no universal of the prefix: 0 */
+    QDR_AFTERWORD = 23      /* a step behind an empty clause, whatever its words: its clause number */
 };
 
 /* Checks the tables of a formula.
@@ -146,8 +147,9 @@ uint32_t qdr_read_proof(const uint8_t *file, size_t file_length,
 /* Checks a refutation: `1 i j e L.. 0` resolves clauses i and j on e, `2 i a L.. 0` takes the universal literal a out of
  * clause i, and L states the result. 0 says that the formula is false.
  * Returns 0, or a refusal: those of qdr_check_tables, then 2 for too many step words, 3 for scratch under
- * QDR_SCRATCH_LENGTH bytes or for starts, which needs a word for each clause and each step, one of 13 to 18 for a step, or 19.
- * out: the number of the first empty clause, the number of steps.
+ * QDR_SCRATCH_LENGTH bytes or for starts, which needs a word for each clause and each step; for each step 23 behind an empty
+ * clause, 13, 3 where it has no start, one of 14 to 18; 19.
+ * out: the number of the empty clause, which is the last clause, or without steps the first empty one; the number of steps.
  * Scratch and starts end as zeros always. */
 uint32_t qdr_check(const int32_t *prefix, size_t prefix_length,
                    const int32_t *clauses, size_t clauses_length,

@@ -3,6 +3,7 @@
 //! scratch. Counts what was seen for each entry, and stops at the first difference.
 
 mod drawn;
+mod ends;
 mod expected;
 #[cfg(proved)]
 mod proved;
@@ -344,6 +345,41 @@ mod tests {
             answer
         };
         compare(faulty, 1, 20_000).is_err()
+    }
+
+    /// A library that takes words behind an empty clause for a step like any other, or looks for them too early, is found
+    /// out, and so is one that names another number or prints another word.
+    #[test]
+    fn faults_at_the_end_are_found() {
+        let [right, wrong, broken, lone, input, no_start, without] = ends::ENDS;
+        let others = [
+            (right, 0),
+            (wrong, 15),
+            (broken, 13),
+            (lone, 13),
+            (input, 0),
+            (no_start, 3),
+            (without, 19),
+        ];
+        let early = ends::AHEAD.map(|kind| (kind, 23));
+        for (kind, returned) in others.into_iter().chain(early) {
+            assert!(is_found(|case, answer| {
+                let drawn = || drawn::drawn(case, answer.returned as usize);
+                if is_check(case) && drawn().contains(&kind) {
+                    answer.returned = returned;
+                }
+            }));
+        }
+        assert!(is_found(|_, answer| {
+            answer.out[0] -= u64::from(answer.returned == 23);
+        }));
+        assert!(is_found(|case, answer| {
+            if let (9, Some(Buffer::Bytes(line))) = (entry(case), answer.buffers.last_mut()) {
+                if line.starts_with(b"refused 23 afterword") {
+                    line[11] = b'A';
+                }
+            }
+        }));
     }
 
     /// A library with a fault in one size alone, or at one length of the scratch, is found out.

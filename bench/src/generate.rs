@@ -5,6 +5,7 @@ mod blocked;
 pub mod chains;
 pub mod derive;
 mod edges;
+pub mod ends;
 mod files;
 mod lines;
 pub mod long;
@@ -390,7 +391,7 @@ impl fmt::Display for Tables {
 
 /// Some inputs of one kind, drawn together where they share a formula.
 pub fn batch(random: &mut Random) -> Vec<Case> {
-    match random.below(22) {
+    match random.below(24) {
         0 | 1 => tables::tables_batch(random),
         2 => texts::cut_texts(random),
         3..=6 => texts::text_batch(random),
@@ -399,7 +400,8 @@ pub fn batch(random: &mut Random) -> Vec<Case> {
         10 => files::file_batch(random),
         11..=15 => proofs::proof_batch(random),
         16 => blocked::blocked_batch(random),
-        17..=20 => lines::line_batch(random),
+        17 | 18 => ends::ends_batch(random),
+        19..=22 => lines::line_batch(random),
         _ => tables::game_batch(random),
     }
 }

@@ -11,13 +11,13 @@ use crate::reference::file::{read_proof, write_proof};
 use crate::reference::play::{evaluate, evaluate_by_words};
 use crate::reference::program::{check_line, dependency_lines, Room};
 use crate::reference::row::{row, row_by_passes};
-use crate::reference::steps::{check, Rows};
+use crate::reference::steps::{check, Rows, Verdict};
 use crate::reference::tables::check_tables;
 use crate::reference::text::read;
 use crate::reference::write::write;
 use crate::reference::{
-    MAX_CLAUSES, MAX_CLAUSE_WORDS, MAX_PREFIX_WORDS, MAX_STEP_WORDS, MAX_TEXT, MAX_VARIABLE,
-    ROW_BYTES,
+    Reason, Refusal, MAX_CLAUSES, MAX_CLAUSE_WORDS, MAX_PREFIX_WORDS, MAX_STEP_WORDS, MAX_TEXT,
+    MAX_VARIABLE, ROW_BYTES,
 };
 
 /// The best and the median of some runs, in milliseconds.
@@ -315,6 +315,18 @@ fn time_proof_file(random: &mut Random) {
 }
 
 fn time_checks(random: &mut Random, full: &Tables) {
+    for (name, tables, steps, kinds) in timed_proofs(random, full, MAX_STEP_WORDS) {
+        time_both_checks(name, &tables, &steps, kinds);
+    }
+}
+
+/// A proof under its name, with the references that it is timed against.
+type TimedProof = (&'static str, Tables, Vec<i32>, &'static [Rows]);
+
+/// Derivations that fill so many step words but for a few.
+fn timed_proofs(random: &mut Random, full: &Tables, words: usize) -> [TimedProof; 3] {
+    // One reduction in so many draws is none.
+    const NEVER: usize = u32::MAX as usize;
     let shape = Shape {
         variables: 60,
         largest: 60,
@@ -324,16 +336,21 @@ fn time_checks(random: &mut Random, full: &Tables) {
         longest: 6,
     };
     let tables = shape.tables(random);
-    let steps = long_derivation(random, &tables, MAX_STEP_WORDS, 14, usize::MAX);
+    let resolutions = long_derivation(random, &tables, words, 14, NEVER);
+    let mixed = long_derivation(random, &tables, words, 14, 2);
+    let few = long_derivation(random, full, words, 20, 200);
     let name = "resolutions, 1,048,576 step words";
-    time_both_checks(name, &tables, &steps, &[Rows::Kept]);
-    let steps = long_derivation(random, &tables, MAX_STEP_WORDS, 14, 2);
-    let name = "the same with reductions";
-    let every = [Rows::Kept, Rows::Last, Rows::LastByPasses, Rows::Anew];
-    time_both_checks(name, &tables, &steps, &every);
-    let steps = long_derivation(random, full, MAX_STEP_WORDS, 20, 200);
-    let name = "few reductions, 65,536 clause words";
-    time_both_checks(name, full, &steps, &every);
+    let every = &[Rows::Kept, Rows::Last, Rows::LastByPasses, Rows::Anew];
+    [
+        (name, tables.clone(), resolutions, &[Rows::Kept]),
+        ("the same with reductions", tables, mixed, every),
+        (
+            "few reductions, 65,536 clause words",
+            full.clone(),
+            few,
+            every,
+        ),
+    ]
 }
 
 /// A proof by each size, on lines of its own.
@@ -345,7 +362,7 @@ fn time_both_checks(name: &str, tables: &Tables, steps: &[i32], kinds: &[Rows]) 
 }
 
 /// A proof, with the scratch that this size asks for, against references that keep their rows in these ways. The
-/// proved times, if there is a library, and those of each reference.
+/// proved times, if there is a library, and those of each reference. A proof refused at one of its steps is not timed.
 pub fn time_check(
     name: &str,
     runs: Runs,
@@ -356,6 +373,8 @@ pub fn time_check(
 ) -> (Option<Times>, Vec<Times>) {
     let Tables { prefix, clauses } = tables;
     let (asked, room) = (size.scratch(), Room::FULL.starts);
+    let answer = check(prefix, clauses, steps, asked, asked, room, Rows::Kept);
+    assert!(every_step_is_right(&answer), "{name}: {answer:?}");
     #[cfg(proved)]
     let (mut scratch, mut starts) = (vec![0; asked], vec![0; room]);
     #[cfg(proved)]
@@ -394,6 +413,11 @@ pub fn time_check(
         )),
         &mut references,
     )
+}
+
+/// Whether a proof was judged to its last step.
+fn every_step_is_right(answer: &Result<Verdict, Refusal>) -> bool {
+    answer.map_or_else(|refusal| refusal.reason == Reason::NoConclusion, |_| true)
 }
 
 fn time_games(random: &mut Random) {
@@ -484,4 +508,37 @@ fn time_lines(full: &Tables) {
         )),
         &mut [("by worklist", reference!(dependency_lines(room, &formula)))],
     );
+}
+
+#[cfg(test)]
+mod tests {
+    use super::*;
+    use crate::generate::proofs::step_places;
+
+    /// None of the derivations is cut short, by an empty clause or otherwise, and each has the words asked for but for a few.
+    #[test]
+    fn timed_proofs_are_right_to_the_end() {
+        let random = &mut Random::new(3);
+        let full = full_tables(random);
+        for (name, tables, steps, _) in timed_proofs(random, &full, 200_000) {
+            let Tables { prefix, clauses } = &tables;
+            let answer = check(prefix, clauses, &steps, 640, 640, 60_000, Rows::Kept);
+            let last = tables.count() + step_places(&steps).len();
+            assert_eq!(answer, Err(Reason::NoConclusion.at(last)), "{name}");
+            assert!(steps.len() + 25 > 200_000, "{name}");
+        }
+    }
+
+    #[test]
+    fn proofs_cut_short_are_not_timed() {
+        let tables = Tables::new(&[1, -2], vec![1, 0, -1, 0, 2, 0]);
+        let right = |steps: &[i32]| {
+            let Tables { prefix, clauses } = &tables;
+            every_step_is_right(&check(prefix, clauses, steps, 640, 640, 9, Rows::Kept))
+        };
+        assert!(right(&[]));
+        assert!(right(&[1, 1, 2, 1, 0]));
+        assert!(!right(&[1, 1, 2, 1, 0, 2, 3, 2, 0]));
+        assert!(!right(&[1, 1, 2, 2, 0]));
+    }
 }

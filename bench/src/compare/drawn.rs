@@ -1,6 +1,7 @@
 //! What inputs draw beyond the numbers of refusals, and must: the word of an entry that is at fault, the words that a
-//! set's variable found left, and which of several dependents blocks a reduction.
+//! set's variable found left, which of several dependents blocks a reduction, and what `ends` knows of.
 
+use super::ends::{Proof, AHEAD, ENDS};
 use crate::generate::proofs::{numbered, step_places};
 use crate::generate::{Case, Tables};
 use crate::reference::file::read_proof;
@@ -45,8 +46,8 @@ const BLOCKED: [&str; 6] = [
 pub fn due(case: &Case) -> Vec<&'static str> {
     match case {
         Case::Read { .. } | Case::DependencyLines { .. } => ROOM.to_vec(),
-        Case::CheckLine { .. } => [&ROOM[..], &BLOCKED].concat(),
-        Case::Check { .. } => [&TABLES[..], &BLOCKED].concat(),
+        Case::CheckLine { .. } => [&ROOM[..], &BLOCKED, &ENDS, &AHEAD[..2]].concat(),
+        Case::Check { .. } => [&TABLES[..], &BLOCKED, &ENDS, &AHEAD].concat(),
         Case::ReadProof { .. } => vec![],
         _ => TABLES.to_vec(),
     }
@@ -59,16 +60,27 @@ pub fn drawn(case: &Case, number: usize) -> Vec<&'static str> {
         | Case::Write { tables, .. }
         | Case::Row { tables, .. }
         | Case::Evaluate { tables } => of_tables(tables, number),
-        Case::Check { tables, steps, .. } if number == 17 => of_blocked(tables, steps),
-        Case::Check { tables, .. } => of_tables(tables, number),
+        Case::Check {
+            size,
+            tables,
+            steps,
+            scratch_room,
+            starts_room,
+        } => {
+            let proof = Proof {
+                tables,
+                steps,
+                short_scratch: *scratch_room < size.scratch(),
+                starts: *starts_room,
+            };
+            [of_tables(tables, number), of_proof(&proof, number)].concat()
+        }
         Case::Read {
             text,
             prefix_room,
             clause_room,
         } => of_room(text, *prefix_room, *clause_room),
-        Case::CheckLine { formula, room, .. } | Case::DependencyLines { formula, room, .. }
-            if number == 3 =>
-        {
+        Case::DependencyLines { formula, room, .. } if number == 3 => {
             of_room(formula, room.prefix, room.clauses)
         }
         Case::CheckLine {
@@ -76,11 +88,33 @@ pub fn drawn(case: &Case, number: usize) -> Vec<&'static str> {
             proof,
             room,
             ..
-        } if number == 17 => {
-            let read = formula_and_steps(formula, proof, room);
-            read.map_or(vec![], |(tables, steps)| of_blocked(&tables, &steps))
-        }
+        } => of_line(formula, proof, room, number),
         _ => vec![],
+    }
+}
+
+/// What a proof file draws, or where it or the formula is not read, the formula.
+fn of_line(formula: &[u8], proof: &[u8], room: &Room, number: usize) -> Vec<&'static str> {
+    match formula_and_steps(formula, proof, room) {
+        Some((tables, steps)) => {
+            let proof = Proof {
+                tables: &tables,
+                steps: &steps,
+                short_scratch: room.scratch < SCRATCH_BYTES,
+                starts: room.starts,
+            };
+            of_proof(&proof, number)
+        }
+        None if number == 3 => of_room(formula, room.prefix, room.clauses),
+        None => vec![],
+    }
+}
+
+/// How the dependents of a blocked reduction lie, or what stands at the proof's end.
+fn of_proof(proof: &Proof, number: usize) -> Vec<&'static str> {
+    match number {
+        17 => of_blocked(proof.tables, proof.steps),
+        _ => proof.drawn(number),
     }
 }
 

@@ -7,8 +7,8 @@ use super::drawn;
 use crate::generate::scratch::SHORT;
 use crate::generate::{empty, Case, Size};
 
-/// Counts with the refusals where a line does not fit its buffer.
-pub const UNFIT: usize = 21;
+/// Counts with the refusals where a line does not fit its buffer: a number that is no reason's.
+pub const UNFIT: usize = 25;
 
 /// The entries in the order of the counts, and the refusals each can give.
 pub const ENTRIES: [(&str, &[usize]); 11] = [
@@ -24,14 +24,14 @@ pub const ENTRIES: [(&str, &[usize]); 11] = [
     (
         "check_line",
         &[
-            1, 2, 3, 4, 5, 6, 8, 9, 10, 11, 12, 13, 14, 15, 16, 17, 18, 19, UNFIT,
+            1, 2, 3, 4, 5, 6, 8, 9, 10, 11, 12, 13, 14, 15, 16, 17, 18, 19, 23, UNFIT,
         ],
     ),
     ("dependency_lines", &[1, 2, 3, 4, 5, 6, 8, 9, 10, UNFIT]),
 ];
 
 const ROW: [usize; 8] = [2, 3, 5, 6, 7, 8, 9, 20];
-const CHECK: [usize; 14] = [2, 3, 5, 6, 7, 8, 9, 13, 14, 15, 16, 17, 18, 19];
+const CHECK: [usize; 15] = [2, 3, 5, 6, 7, 8, 9, 13, 14, 15, 16, 17, 18, 19, 23];
 
 pub fn entry(case: &Case) -> usize {
     match case {
@@ -127,7 +127,7 @@ impl fmt::Display for Seen {
     fn fmt(&self, f: &mut fmt::Formatter) -> fmt::Result {
         writeln!(
             f,
-            "{:<17}{:>8} {:>9}  refused, number: inputs (21: a line that does not fit)",
+            "{:<17}{:>8} {:>9}  refused, number: inputs ({UNFIT}: a line that does not fit)",
             "entry", "inputs", "accepted"
         )?;
         for (counts, (name, _)) in self.numbers.iter().zip(ENTRIES) {
@@ -202,6 +202,24 @@ mod tests {
                 }
             }
             assert_eq!(due(&seen), (3 - turn) * 4 * 5);
+        }
+    }
+
+    /// 23 and what stands about it are due of the entries that check proofs, and of no other.
+    #[test]
+    fn ends_of_proofs() {
+        let missing = Seen::new().missing();
+        for kind in [
+            "23",
+            "23, a right step",
+            "23, a lone word",
+            "23, an empty input clause",
+            "accepted, no steps",
+            "3 ahead of 23, scratch",
+        ] {
+            let is_due = |name: &&str| missing.contains(&format!("{name} {kind}"));
+            let due = ENTRIES.iter().map(|entry| entry.0).filter(is_due);
+            assert!(due.eq(["check", "check_small", "check_line"]), "{kind}");
         }
     }
 

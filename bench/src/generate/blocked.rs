@@ -3,7 +3,7 @@
 //! on it.
 
 use super::derive::derivation;
-use super::proofs::{check_case, numbered};
+use super::proofs::{check_case, numbered, step_places};
 use super::{scratch, Case, Random, Tables};
 use crate::reference::{MAX_VARIABLE, ROW_BYTES};
 
@@ -38,6 +38,10 @@ pub fn blocked(random: &mut Random) -> (Tables, Vec<i32>) {
 fn blocked_steps(random: &mut Random, tables: &Tables) -> Vec<i32> {
     let count = random.pick(&[0, 1, 3, 8]);
     let mut steps = derivation(random, tables, count, 30);
+    if let (Some([]), Some(&last)) = (numbered(tables, &steps).last(), step_places(&steps).last()) {
+        // Behind an empty clause the reduction would not be looked at.
+        steps.truncate(last);
+    }
     let clauses = numbered(tables, &steps);
     let universals = tables.universals();
     let choices = [0; 3].map(|_| random.below(clauses.len()));
@@ -128,4 +132,26 @@ fn short_prefix(random: &mut Random, outside: usize, inside: usize) -> Vec<i32> 
         }
     }
     short
+}
+
+#[cfg(test)]
+mod tests {
+    use super::*;
+    use crate::reference::steps::{check, Rows};
+
+    /// Most reductions are blocked, and none stands behind an empty clause.
+    #[test]
+    fn reductions_are_looked_at() {
+        let random = &mut Random::new(4);
+        let mut numbers = [0; 24];
+        for _ in 0..2000 {
+            let (tables, steps) = blocked(random);
+            let Tables { prefix, clauses } = &tables;
+            let answer = check(prefix, clauses, &steps, 640, 640, 1000, Rows::Kept);
+            let number = answer.map_or_else(|refusal| refusal.reason.number(), |_| 0);
+            numbers[number as usize] += 1;
+        }
+        assert!(numbers[17] > 1000, "{numbers:?}");
+        assert_eq!(numbers[23], 0);
+    }
 }

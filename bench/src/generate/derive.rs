@@ -1,5 +1,6 @@
 //! Lawful derivations, drawn by resolving and reducing the clauses known so far.
 
+use super::proofs::numbered;
 use super::{Random, Tables};
 use crate::reference::row::{row, Row};
 use crate::reference::tables::check_tables;
@@ -14,29 +15,37 @@ struct Derivation {
 }
 
 /// A lawful derivation of so many steps at most, no clause longer than `longest`. It prefers short
-/// antecedents, and ends soon after the empty clause.
+/// antecedents, and ends with the empty clause; where an input clause is empty it has no steps.
 pub fn derivation(random: &mut Random, tables: &Tables, count: usize, longest: usize) -> Vec<i32> {
     let mut derivation = Derivation::new(tables);
+    let mut ended = derivation.known.iter().any(Vec::is_empty);
     let mut tries = 6 * count;
     let mut left = count;
-    while left > 0 && tries > 0 {
+    while left > 0 && tries > 0 && !ended {
         tries -= 1;
         if derivation.try_step(random, longest) {
             left -= 1;
-            if derivation
-                .known
-                .last()
-                .is_some_and(|clause| clause.is_empty())
-            {
-                left = left.min(2);
-            }
+            ended = derivation.known.last().is_some_and(Vec::is_empty);
         }
     }
     derivation.steps
 }
 
-/// A lawful derivation that fills so many step words but for a few, resolutions and reductions mixed.
-/// `one_reduction_in` thins the reductions out.
+/// A lawful step behind these, whether or not they have ended; nothing where none was found.
+pub fn next_step(random: &mut Random, tables: &Tables, steps: &[i32], longest: usize) -> Vec<i32> {
+    let mut derivation = Derivation::new(tables);
+    let known = numbered(tables, steps).into_iter();
+    derivation.known = known.map(<[i32]>::to_vec).collect();
+    let mut tries = 30;
+    while derivation.steps.is_empty() && tries > 0 {
+        tries -= 1;
+        derivation.try_step(random, longest);
+    }
+    derivation.steps
+}
+
+/// A lawful derivation that fills so many step words but for a few, resolutions and reductions mixed, without
+/// the empty clause, behind which no step is checked. `one_reduction_in` thins the reductions out.
 pub fn long_derivation(
     random: &mut Random,
     tables: &Tables,
@@ -47,6 +56,10 @@ pub fn long_derivation(
     let mut derivation = Derivation::new(tables);
     while derivation.steps.len() + longest + 5 <= words {
         let at = random.below(derivation.known.len());
+        if derivation.known[at].len() < 2 {
+            // A longer clause keeps a literal whatever it is resolved with.
+            continue;
+        }
         if random.one_in(one_reduction_in) {
             derivation.try_reduction(random, at);
         } else {

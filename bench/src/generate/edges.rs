@@ -2,8 +2,10 @@
 
 use super::chains::{chain, reductions, Order};
 use super::derive::long_derivation;
-use super::lines::edge_lines;
+use super::ends::{edge_ends, filled};
+use super::lines::{edge_end_lines, edge_lines};
 use super::prefixes::{edge_prefixes, edge_sets, every_room, full_prefix, small_prefixes};
+use super::proofs::numbered;
 use super::scratch::{self, edge_scratch};
 use super::texts::{spell, tokens};
 use super::{push_clause, Case, Random, Shape, Size, Tables};
@@ -38,7 +40,9 @@ pub fn edges(random: &mut Random) -> Vec<Case> {
     cases.extend(edge_proofs(random));
     cases.extend(edge_chains(random));
     cases.extend(edge_scratch());
+    cases.extend(edge_ends());
     cases.extend(edge_lines(random));
+    cases.extend(edge_end_lines(random));
     cases
 }
 
@@ -241,17 +245,19 @@ fn edge_proofs(random: &mut Random) -> Vec<Case> {
             });
         }
     }
-    // The shortest steps, as many as fit, on clauses that give the empty clause at once.
-    let tables = Tables::new(&[1, -2], vec![1, 0, -1, 0, 2, 0]);
-    let step = [2, 3, 2, 0];
-    for words in [MAX_STEP_WORDS, MAX_STEP_WORDS + 1] {
-        let steps: Vec<i32> = step.iter().copied().cycle().take(words).collect();
+    // The shortest steps, as many as fit: all right, with a word over, and with the last one wrong.
+    let (tables, right) = filled(MAX_STEP_WORDS);
+    let over = [&right[..], &[0]].concat();
+    let mut wrong = right.clone();
+    wrong[MAX_STEP_WORDS - 2] = -2;
+    let count = numbered(&tables, &right).len();
+    for steps in [right, over, wrong] {
         let check = |scratch, starts| scratch::check_case(&tables, &steps, scratch, starts);
-        for starts_room in [MAX_STEP_WORDS, 3 + words / 4, 2 + words / 4, 2] {
+        for starts_room in [MAX_STEP_WORDS, count, count - 1, 2] {
             cases.push(check(SCRATCH_BYTES, starts_room));
         }
         for scratch_room in [0, SMALL_SCRATCH_BYTES - 1, SMALL_SCRATCH_BYTES] {
-            cases.push(check(scratch_room, 3 + words / 4));
+            cases.push(check(scratch_room, count));
         }
     }
     let mut shape = Shape::large(random);

@@ -2,6 +2,7 @@
 //! about what they need, for the line too.
 
 use super::blocked::blocked;
+use super::ends::{ended, filled, gone_on, short_ends, with_each_tail};
 use super::files::{damage_file, note};
 use super::prefixes::prefix_room;
 use super::proofs::{damage_steps, lawful, step_places};
@@ -10,20 +11,22 @@ use super::texts::{damage_bytes, damage_tokens, spell, tokens};
 use super::{Case, Random, Tables};
 use crate::reference::file::write_proof;
 use crate::reference::program::{check_line, dependency_lines, printed, Room, LINES_BYTES};
+use crate::reference::write::write;
 use crate::reference::{MAX_STEP_WORDS, MAX_TEXT, SCRATCH_BYTES, SMALL_SCRATCH_BYTES};
 
 pub fn line_batch(random: &mut Random) -> Vec<Case> {
-    let (tables, steps) = if random.one_in(3) {
-        blocked(random)
-    } else {
-        lawful(random)
+    let (tables, steps) = match random.below(6) {
+        0 | 1 => blocked(random),
+        2 => ended(random),
+        _ => lawful(random),
     };
     let mut cases = Vec::new();
-    for turn in 0..8 {
+    for turn in 0..10 {
         let (mut tables, mut steps) = (tables.clone(), steps.clone());
         match turn {
             1 | 2 => damage_steps(random, &tables, &mut steps),
             3 => tables = damaged_tables(random, &tables),
+            7 | 8 => steps = gone_on(random, &tables, &steps),
             _ => {}
         }
         let mut proof = write_proof(&note(random), &steps, tables.count() as u32);
@@ -55,6 +58,7 @@ fn drawn_room(
     formula: usize,
     proof: usize,
 ) -> Room {
+    let numbered = tables.count() + step_places(steps).len();
     let mut more = |needed: usize| needed + random.pick(&[0, 0, 1, 30]);
     let mut lent = Room {
         file: more(formula.max(proof)),
@@ -62,7 +66,7 @@ fn drawn_room(
         clauses: more(tables.clauses.len()),
         steps: more(steps.len()),
         scratch: more(SCRATCH_BYTES),
-        starts: more(tables.count() + step_places(steps).len()),
+        starts: more(numbered),
     };
     match random.below(30) {
         0 => lent.file = random.pick(&[formula, proof]).saturating_sub(1),
@@ -72,7 +76,8 @@ fn drawn_room(
         5 => lent.steps = room(random, steps.len()),
         6 => lent.scratch = random.pick(&[0, SMALL_SCRATCH_BYTES, SCRATCH_BYTES - 1]),
         7 => lent.starts = random.below(lent.starts + 1),
-        8..=13 => lent.file = 65_536,
+        8 => lent.starts = numbered.saturating_sub(1),
+        9..=14 => lent.file = 65_536,
         _ => lent.file = usize::MAX,
     }
     lent
@@ -110,22 +115,26 @@ pub fn dependency_case(random: &mut Random, formula: &[u8], room: Room) -> Case 
 
 /// Files at each bound and one past it, with the programs' room and with all the room there can be.
 pub fn edge_lines(random: &mut Random) -> Vec<Case> {
-    let formula = b"p cnf 2 3\ne 1 0\na 2 0\n1 0\n-1 0\n2 0\n";
+    const FORMULA: &[u8] = b"p cnf 2 3\ne 1 0\na 2 0\n1 0\n-1 0\n2 0\n";
     let refutation = [1, 1, 2, 1, 0];
-    let shortest = [2, 3, 2, 0];
     let mut pairs = Vec::new();
     for length in [65_536, 65_537, MAX_TEXT, MAX_TEXT + 1] {
-        let mut text = formula.to_vec();
+        let mut text = FORMULA.to_vec();
         text.resize(length, b' ');
         pairs.push((text, write_proof(b"", &refutation, 3)));
         let note = vec![b'n'; length - 12 - 4 * refutation.len()];
-        pairs.push((formula.to_vec(), write_proof(&note, &refutation, 3)));
+        pairs.push((FORMULA.to_vec(), write_proof(&note, &refutation, 3)));
     }
     for words in [16_384, 16_388, MAX_STEP_WORDS, MAX_STEP_WORDS + 4] {
-        let mut steps = shortest.repeat(words / 4);
-        pairs.push((formula.to_vec(), write_proof(b"", &steps, 3)));
+        let (tables, mut steps) = filled(words);
+        let formula = write(&tables.prefix, &tables.clauses, MAX_TEXT).unwrap_or_default();
+        pairs.push((formula.clone(), write_proof(b"", &steps, 3)));
         steps[words - 2] = -2;
-        pairs.push((formula.to_vec(), write_proof(b"", &steps, 3)));
+        pairs.push((formula, write_proof(b"", &steps, 3)));
+        // Ended at once, and words up to the bound behind it.
+        let steps = refutation.into_iter().cycle().take(words);
+        let proof = write_proof(b"", &steps.collect::<Vec<i32>>(), 3);
+        pairs.push((FORMULA.to_vec(), proof));
     }
     let mut cases = Vec::new();
     for (formula, proof) in pairs {
@@ -143,6 +152,38 @@ pub fn edge_lines(random: &mut Random) -> Vec<Case> {
             text_room,
         }),
     );
+    cases
+}
+
+/// Short proofs that have ended, with words of each kind behind them: with all the room they need, without a start for the
+/// last input clause or for a step behind the empty clause, and with little scratch.
+pub fn edge_end_lines(random: &mut Random) -> Vec<Case> {
+    let mut cases = Vec::new();
+    for (tables, steps) in short_ends() {
+        let Tables { prefix, clauses } = &tables;
+        let formula = write(prefix, clauses, MAX_TEXT).unwrap_or_default();
+        let inputs = tables.count();
+        let last = inputs + step_places(&steps).len();
+        for words in with_each_tail(&steps) {
+            let proof = write_proof(b"", &words, inputs as u32);
+            for (scratch, starts) in [
+                (SCRATCH_BYTES, last + 1),
+                (SCRATCH_BYTES, last),
+                (SCRATCH_BYTES, inputs - 1),
+                (SCRATCH_BYTES - 1, last + 1),
+            ] {
+                let room = Room {
+                    file: usize::MAX,
+                    prefix: prefix.len(),
+                    clauses: clauses.len(),
+                    steps: words.len(),
+                    scratch,
+                    starts,
+                };
+                cases.push(check_case(random, &formula, &proof, room));
+            }
+        }
+    }
     cases
 }
 

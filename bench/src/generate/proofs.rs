@@ -143,7 +143,7 @@ pub fn damage_steps(random: &mut Random, tables: &Tables, steps: &mut Vec<i32>) 
 
 /// A step on input clauses with its result stated, lawful or not: wrong pivots, blocked reductions and
 /// tautologies come from here.
-fn wild_step(random: &mut Random, tables: &Tables, derived: usize) -> Vec<i32> {
+pub fn wild_step(random: &mut Random, tables: &Tables, derived: usize) -> Vec<i32> {
     let clauses: Vec<&[i32]> = tables.clauses.split(|&word| word == 0).collect();
     let count = clauses.len() - 1;
     let choose = |random: &mut Random| {

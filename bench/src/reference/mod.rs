@@ -1,5 +1,5 @@
 //! The reference: every entry once more in ordinary Rust, written from the specification and
-//! sharing nothing with the proved crates. Here: the bounds, the twenty reasons, refusals, and the
+//! sharing nothing with the proved crates. Here: the bounds, the reasons, refusals, and the
 //! numbering of literals; each entry has a file of its own.
 
 pub mod file;
@@ -51,6 +51,7 @@ pub enum Reason {
     Misstated,
     NoConclusion,
     NotUniversal,
+    Afterword = 23,
 }
 
 impl Reason {
@@ -80,6 +81,7 @@ impl Reason {
             Reason::Misstated => "misstated",
             Reason::NoConclusion => "no conclusion",
             Reason::NotUniversal => "not universal",
+            Reason::Afterword => "afterword",
         }
     }
 

@@ -172,6 +172,20 @@ fn programs_refuse() {
     assert_eq!(dependency_lines(formula), "1: 3\n2: 3\n");
 }
 
+#[test]
+fn programs_refuse_steps_behind_an_empty_clause() {
+    let formula = b"p cnf 1 2\na 1 0\n1 0\n0\n";
+    let line = |steps: &[i32]| check_line(formula, || write_proof(b"note", steps, 2));
+    assert_eq!(line(&[]), "accepted 1 2 0 2\n");
+    assert_eq!(line(&[2, 1, 1, 0]), "refused 23 afterword 3 0 0\n");
+    assert_eq!(line(&[9]), "refused 23 afterword 3 0 0\n");
+    let formula = b"p cnf 1 1\na 1 0\n1 0\n";
+    let line = |steps: &[i32]| check_line(formula, || write_proof(b"", steps, 1));
+    assert_eq!(line(&[2, 1, 1, 0]), "accepted 1 1 1 2\n");
+    let twice = [2, 1, 1, 0, 2, 1, 1, 0];
+    assert_eq!(line(&twice), "refused 23 afterword 3 0 0\n");
+}
+
 /// Each folder has a formula and a proof; `expected.txt` has a line `folder: line` for each.
 #[test]
 fn outside_proofs() {

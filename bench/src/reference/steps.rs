@@ -8,7 +8,7 @@ use super::{literal_index, Reason, Refusal, LITERALS, MAX_STEP_WORDS, MAX_VARIAB
 
 #[derive(Clone, Copy, Debug, PartialEq, Eq)]
 pub struct Verdict {
-    /// The number of the first empty clause.
+    /// The number of the empty clause: the last one, or with no steps the lowest of the input clauses that are empty.
     pub empty: usize,
     pub steps: usize,
 }
@@ -55,7 +55,8 @@ impl Shelf {
     }
 }
 
-/// The verdict on a proof, for a scratch of so many bytes, where so many are asked for, and so many starts.
+/// The verdict on a proof, for a scratch of so many bytes, where so many are asked for, and so many starts. Behind an empty
+/// clause no step may stand, whatever its words.
 pub fn check(
     prefix: &[i32],
     clauses: &[i32],
@@ -79,21 +80,39 @@ pub fn check(
     let mut at = 0;
     while at < steps.len() {
         let number = run.known.len() + 1;
+        if run.empty.is_some() {
+            return Err(Reason::Afterword.at(number));
+        }
         let (step, next) = Step::parse(steps, at).ok_or(Reason::BrokenStep.at(number))?;
         if starts_room < number {
             return Err(Reason::NoRoom.at(number));
         }
         run.judge(&step).map_err(|fault| fault.at(number))?;
-        run.known.push(step.stated);
+        run.number(step.stated);
         at = next;
     }
-    match run.known.iter().position(|clause| clause.is_empty()) {
-        Some(place) => Ok(Verdict {
-            empty: place + 1,
+    match run.empty {
+        Some(empty) => Ok(Verdict {
+            empty,
             steps: run.known.len() - counts.clauses,
         }),
         None => Err(Reason::NoConclusion.at(run.known.len())),
     }
+}
+
+/// Whether the first step of these words is right behind these numbered clauses of admitted tables, be one of them empty or
+/// not; none where the step is broken. Tells apart what stands behind an empty clause.
+pub fn is_right<'a>(
+    prefix: &[i32],
+    clauses: &'a [i32],
+    known: Vec<&'a [i32]>,
+    words: &'a [i32],
+) -> Option<bool> {
+    let (step, _) = Step::parse(words, 0)?;
+    let counts = check_tables(prefix, clauses).ok()?;
+    let mut run = Run::new(prefix, clauses, words, counts, Rows::Kept);
+    run.known = known;
+    Some(run.judge(&step).is_ok())
 }
 
 enum Rule {
@@ -163,6 +182,8 @@ struct Run<'a> {
     shelf: Shelf,
     /// The numbered clauses so far, clause n at n - 1.
     known: Vec<&'a [i32]>,
+    /// The lowest number of an empty one among them.
+    empty: Option<usize>,
     marks: Box<[u32; LITERALS]>,
     mark: u32,
 }
@@ -175,18 +196,29 @@ impl<'a> Run<'a> {
         counts: Counts,
         rows: Rows,
     ) -> Run<'a> {
-        let mut known = Vec::with_capacity(counts.clauses + steps.len() / 8);
-        known.extend(clauses.split(|&word| word == 0).take(counts.clauses));
         let entries = entries(prefix);
-        Run {
+        let mut run = Run {
             bindings: bindings(&entries),
             entries,
             clauses,
             occurrences: Occurrences::of(clauses, counts),
             shelf: Shelf::new(rows),
-            known,
+            known: Vec::with_capacity(counts.clauses + steps.len() / 8),
+            empty: None,
             marks: Box::new([0; LITERALS]),
             mark: 0,
+        };
+        for clause in clauses.split(|&word| word == 0).take(counts.clauses) {
+            run.number(clause);
+        }
+        run
+    }
+
+    /// Gives a clause the next number.
+    fn number(&mut self, clause: &'a [i32]) {
+        self.known.push(clause);
+        if clause.is_empty() {
+            self.empty.get_or_insert(self.known.len());
         }
     }
 
@@ -375,7 +407,7 @@ mod tests {
         let long = vec![0; MAX_STEP_WORDS + 1];
         for asked in [8200, 640] {
             let refused = |clauses: &[i32], steps: &[i32], scratch, starts| {
-                let prefix = records(&[-1]);
+                let prefix = records(&[-1, -2]);
                 let answer = check(&prefix, clauses, steps, scratch, asked, starts, Rows::Kept);
                 answer.map_err(|r| (r.reason.number(), r.place))
             };
@@ -384,9 +416,9 @@ mod tests {
                 assert_eq!(refused(&[1, 1], &long, scratch, 0), Err((8, 1)));
             }
             let refused =
-                |steps: &[i32], scratch, starts| refused(&[1, 0, -1, 0], steps, scratch, starts);
-            let right = [2, 1, 1, 0, 2, 2, -1, 0];
-            let verdict = Verdict { empty: 3, steps: 2 };
+                |steps: &[i32], scratch, starts| refused(&[1, 2, 0, -1, 0], steps, scratch, starts);
+            let right = [2, 1, 1, 2, 0, 2, 2, -1, 0];
+            let verdict = Verdict { empty: 4, steps: 2 };
             assert_eq!(refused(&right, asked, 4), Ok(verdict));
             assert_eq!(refused(&right, 8201, 4), Ok(verdict));
             for scratch in [0, 639, asked - 1] {
@@ -402,6 +434,101 @@ mod tests {
             assert_eq!(refused(&long, 0, 0), Err((2, 0)));
             assert_eq!(refused(&long[1..], asked, 2), Err((13, 3)));
         }
+    }
+
+    /// The empty clause and the number of steps, or the refusal's number and place, with a prefix of existential 1 and
+    /// universal 2.
+    fn judged(clauses: &[i32], steps: &[i32]) -> Result<(usize, usize), (u32, usize)> {
+        let prefix = records(&[1, -2]);
+        let answer = check(&prefix, clauses, steps, 640, 640, 100, Rows::Kept);
+        let verdict = answer.map(|verdict| (verdict.empty, verdict.steps));
+        verdict.map_err(|refusal| (refusal.reason.number(), refusal.place))
+    }
+
+    /// Words that answer for themselves ahead of the empty clause are refused as one behind it.
+    #[test]
+    fn words_behind_an_empty_clause() {
+        let clauses = [1, 0, -1, 0, 2, 0];
+        for (words, alone) in [
+            (&[1, 1, 2, 1, 0][..], Ok((4, 1))),
+            (&[2, 3, 2, 0], Ok((4, 1))),
+            (&[0], Err((13, 4))),
+            (&[1], Err((13, 4))),
+            (&[9], Err((13, 4))),
+            (&[i32::MIN], Err((13, 4))),
+            (&[2, 3, 2], Err((13, 4))),
+            (&[3, 3, 2, 0], Err((13, 4))),
+            (&[2, 5, 2, 0], Err((14, 4))),
+            (&[2, 1, 2, 0], Err((15, 4))),
+            (&[2, 3, 2, 1, 0], Err((18, 4))),
+        ] {
+            assert_eq!(judged(&clauses, words), alone);
+            let behind = [&[2, 3, 2, 0], words].concat();
+            assert_eq!(judged(&clauses, &behind), Err((23, 5)), "{words:?}");
+            let further = [&behind[..], &[9]].concat();
+            assert_eq!(judged(&clauses, &further), Err((23, 5)), "{words:?}");
+        }
+        // The second step ends the proof; a step that is refused does not.
+        let clauses = [1, 2, 0, -1, 0];
+        let right = [2, 1, 2, 1, 0, 1, 3, 2, 1, 0];
+        assert_eq!(judged(&clauses, &right), Ok((4, 2)));
+        assert_eq!(judged(&clauses, &[&right[..], &[9]].concat()), Err((23, 5)));
+        assert_eq!(judged(&clauses, &[2, 1, 2, 1, 0, 9]), Err((13, 4)));
+        assert_eq!(judged(&clauses, &[2, 1, 2, 0, 9]), Err((18, 3)));
+    }
+
+    #[test]
+    fn empty_input_clauses() {
+        let clauses = [1, 0, 0, -1, 0, 0];
+        assert_eq!(judged(&clauses, &[]), Ok((2, 0)));
+        for words in [&[1, 1, 3, 1, 0][..], &[2, 1, 2, 0], &[1, 1, 3], &[9]] {
+            assert_eq!(judged(&clauses, words), Err((23, 5)), "{words:?}");
+        }
+        assert_eq!(judged(&[0], &[]), Ok((1, 0)));
+        assert_eq!(judged(&[0], &[9]), Err((23, 2)));
+        assert_eq!(judged(&[2, 0, 0], &[]), Ok((2, 0)));
+        assert_eq!(judged(&[2, 0, 0], &[2, 1, 2, 0]), Err((23, 3)));
+        assert_eq!(judged(&[], &[9]), Err((13, 1)));
+    }
+
+    /// Tables, step words, scratch and the starts of input clauses come ahead of a step behind an empty clause, its own
+    /// start behind it.
+    #[test]
+    fn ahead_of_words_behind_an_empty_clause() {
+        let long = vec![9; MAX_STEP_WORDS + 1];
+        for asked in [8200, 640] {
+            let refused = |clauses: &[i32], steps: &[i32], scratch, starts| {
+                let prefix = records(&[1, -2]);
+                let answer = check(&prefix, clauses, steps, scratch, asked, starts, Rows::Kept);
+                let refusal = answer.unwrap_err();
+                (refusal.reason.number(), refusal.place)
+            };
+            assert_eq!(refused(&[1, 0, 0, 3, 0], &long, 0, 0), (7, 3));
+            assert_eq!(refused(&[1, 0, 0], &long, 0, 0), (2, 0));
+            assert_eq!(refused(&[1, 0, 0], &long[1..], asked - 1, 0), (3, 0));
+            assert_eq!(refused(&[1, 0, 0], &[9], 0, 9), (3, 0));
+            for (starts, due) in [(0, (3, 1)), (1, (3, 2)), (2, (23, 3)), (3, (23, 3))] {
+                assert_eq!(refused(&[1, 0, 0], &[9], asked, starts), due);
+                assert_eq!(refused(&[1, 0, 0], &long[1..], asked, starts), due);
+            }
+            let derived = [2, 3, 2, 0, 2, 3, 2, 0];
+            for (starts, due) in [(2, (3, 3)), (3, (3, 4)), (4, (23, 5)), (5, (23, 5))] {
+                assert_eq!(refused(&[1, 0, -1, 0, 2, 0], &derived, asked, starts), due);
+            }
+        }
+    }
+
+    #[test]
+    fn right_steps_wherever_they_stand() {
+        let (prefix, clauses) = (records(&[1, -2]), [1, 0, -1, 0, 2, 0]);
+        let known = [&[1][..], &[-1], &[2], &[]];
+        let right = |words| is_right(&prefix, &clauses, known.to_vec(), words);
+        assert_eq!(right(&[1, 1, 2, 1, 0]), Some(true));
+        assert_eq!(right(&[2, 3, 2, 0, 9]), Some(true));
+        assert_eq!(right(&[2, 4, 2, 0]), Some(false));
+        assert_eq!(right(&[2, 3, 2, 1, 0]), Some(false));
+        assert_eq!(right(&[2, 3, 2]), None);
+        assert_eq!(right(&[9]), None);
     }
 
     /// Which of some rows asked for one after the other are made, and that each is the one asked for.
@@ -471,8 +598,9 @@ mod tests {
             let small = check(prefix, clauses, &steps, 640, 640, 9000, Rows::Kept);
             assert_eq!(answer, small);
             match answer {
-                Ok(_) => {
+                Ok(verdict) => {
                     accepted += 1;
+                    assert_eq!(verdict.empty, tables.count() + verdict.steps);
                     assert_eq!(play::evaluate(prefix, clauses), Ok(false), "{tables:?}");
                 }
                 Err(refusal) => assert_eq!(refusal.reason, Reason::NoConclusion),

@@ -1,6 +1,6 @@
 -- Lawful steps (01, "Steps"; 000, section 3) on membership and on dependence, with no order of tests: a true statement of a
 -- result, a resolution, a reduction, and where a reduction is blocked; then steps one after the other: their words, the clauses they
--- number, that each is lawful, and that one is blocked.
+-- number, that each is lawful, that none stands after an empty clause, and that one is blocked.
 -- Steps.antt has the tests, Refutation.antt what a refutation is.
 pub mod Laws
 pub mod Judged
@@ -8,6 +8,7 @@ pub mod Steps
 use Prim.Native.Nat.{ℕ, suc, _+_, _*_, _<_}
 use mathlib.Core.Path.{_≡_}
 use mathlib.Core.Logic.{_⊎_, _≢_}
+use mathlib.Core.Bool.{true}
 use mathlib.Core.List.{List, [], _∷_, _++_, map, List·Memᴰ}
 use mathlib.Core.Option.{some}
 use lib.ListN.{length, getD, getElem?}
@@ -16,6 +17,7 @@ use Rattle.qbf.specs.Formula.{Formula, Existential, Universal}
 use Rattle.qbf.specs.Dependency.{Depends}
 use Rattle.formula.specs.Prefix.{withBlocks, entryCount}
 use Rattle.formula.specs.declared.refusal.Blocker.{Blocker}
+use Rattle.checker.specs.Rules.{Rules}
 use Rattle.checker.specs.Words.{Words, AllWords}
 use Rattle.checker.specs.Steps.{Step, resolution, reduction, statedBy}
 
@@ -109,6 +111,15 @@ numberedClauses known steps = known ++ map statedBy steps
 abbrev pub LawfulSteps : Formula → List Words → List Step → Type 0
 LawfulSteps F known [] = Unit {0}
 LawfulSteps F known (s ∷ steps) = Lawful F known s × LawfulSteps F (known ++ (statedBy s ∷ [])) steps
+
+-- No step stands after an empty clause (02, P10).
+abbrev pub Unended : List Words → List Step → Type 0
+Unended known [] = Unit {0}
+Unended known (s ∷ steps) = (List·Memᴰ [] known → ⊥) × Unended (known ++ (statedBy s ∷ [])) steps
+
+-- Each step may stand where it does.
+abbrev pub Allowed : Rules → List Words → List Step → Type 0
+Allowed rules known steps = rules .strict ≡ true → Unended known steps
 
 -- After lawful steps stands a blocked one; `place` is the number its clause would have, b what blocks.
 pub record RunBlocked (F : Formula) (known : List Words) (ws : Words) (place : ℕ) (b : Blocker) : Type 0 where

@@ -13,6 +13,7 @@ use Rattle.formula.specs.Decode.{clausesOf, clauseAt}
 use Rattle.formula.specs.declared.literal.NumberFit.{NumberFit}
 use Rattle.formula.specs.declared.literal.NumberFit.the-variants.{Outside}
 use Rattle.checker.specs.Words.{Words}
+use Rattle.checker.specs.Empty.{firstEmpty, emptyNumber}
 use Rattle.checker.specs.Read.{statementOf}
 
 -- The number that a word is, from 1 to the last.
@@ -38,6 +39,7 @@ unfoldable pub stored : ℕ → Words → Words → List ℕ → ℕ → List Wo
 stored inputs clauses steps offsets zero = []
 stored inputs clauses steps offsets (suc n) = stored inputs clauses steps offsets n ++ (storedAt inputs clauses steps offsets n ∷ [])
 
--- The offsets hold the places of the input clauses, whatever the step words are.
-pub record OffsetsFilled (clauses : Words) (offsets : List ℕ) : Type 0 where
+-- The offsets hold the places of the input clauses, whatever the step words are; `empty` is the first empty one, 0 for none.
+pub record OffsetsFilled (clauses : Words) (empty : ℕ) (offsets : List ℕ) : Type 0 where
   pub input-clauses : (steps : Words) → stored (length (clausesOf clauses)) clauses steps offsets (length (clausesOf clauses)) ≡ clausesOf clauses
+  pub first-empty : empty ≡ emptyNumber (firstEmpty 1 (clausesOf clauses))

@@ -1,12 +1,13 @@
 -- What a refutation is (wish 2; 01, "Steps"), and 01's bounds and room for one. Nothing here speaks of tests or of their order: that
 -- the checker accepts exactly the refutations is in Verdict/Exact.antt. Lawful steps are in Lawful.antt.
 pub mod FirstEmptyClause
+pub mod Ending
 pub mod Laws
 pub mod Examples
 use Prim.Native.Nat.{ℕ, suc, _≤_, _<_}
 use mathlib.Core.Path.{_≡_}
 use mathlib.Core.Option.{some}
-use mathlib.Core.List.{List, [], List·Memᴰ}
+use mathlib.Core.List.{List, [], _∷_, List·Memᴰ}
 use lib.ListN.{length, getElem?}
 use lib.IntN.{ℤ}
 use Rattle.formula.specs.Bounds.{proofBound}
@@ -15,16 +16,27 @@ use Rattle.formula.specs.Tables.{Admitted}
 use Rattle.dependency.specs.Scratch.{scratchBound}
 use Rattle.checker.specs.Rules.{Rules}
 use Rattle.checker.specs.Words.{Words}
-use Rattle.checker.specs.Steps.{Step}
-use Rattle.checker.specs.Lawful.{stepWords, numberedClauses, LawfulSteps}
+use Rattle.checker.specs.Steps.{Step, statedBy}
+use Rattle.checker.specs.Lawful.{stepWords, numberedClauses, LawfulSteps, Unended, Allowed}
 
--- The words are steps written one after the other, each lawful over the clauses numbered before it, and some numbered clause,
--- input clause or step, is empty. Dependencies are those of the formula that the tables denote.
+-- The last of some steps.
+abbrev pub lastStep : Step → List Step → Step
+lastStep s [] = s
+lastStep s (t ∷ steps) = lastStep t steps
+
+-- The last clause is empty, or without steps some input clause.
+abbrev pub EndsEmpty : List Words → List Step → Type 0
+EndsEmpty known [] = List·Memᴰ [] known
+EndsEmpty known (s ∷ steps) = statedBy (lastStep s steps) ≡ []
+
+-- The words are steps written one after the other, each lawful over the clauses numbered before it, none of which is empty; and the last clause, or
+-- without steps some input clause, is empty (02, P10). Dependencies are those of the formula that the tables denote.
 pub record Refutation (prefix clauses words : List ℤ) : Type 0 where
   pub steps : List Step
   pub written : words ≡ stepWords steps
   pub lawful : LawfulSteps (formulaOf prefix clauses) (clausesOf clauses) steps
-  pub some-empty : List·Memᴰ [] (numberedClauses (clausesOf clauses) steps)
+  pub unended : Unended (clausesOf clauses) steps
+  pub ends-empty : EndsEmpty (clausesOf clauses) steps
 
 -- The first empty clause stands at this place, from 0 on; its number is one more.
 pub record FirstEmpty (known : List Words) (place : ℕ) : Type 0 where
@@ -39,15 +51,18 @@ pub record Within (clauses words : List ℤ) (scratch offsets : ℕ) : Type 0 wh
   pub scratch-fits : scratchBound ≤ scratch
   pub offsets-fit : (steps : List Step) → words ≡ stepWords steps → length (numberedClauses (clausesOf clauses) steps) ≤ offsets
 
--- What an accepted verdict says: admitted tables, bounds and room, and a refutation; `empty` is the first empty clause's number,
--- `count` the number of steps.
+-- What an accepted verdict says, by whichever rules: admitted tables, bounds and room, lawful steps that may stand where they do, and an empty clause;
+-- `empty` is the first empty clause's number, `count` the number of steps.
 pub record Accepting (rules : Rules) (prefix clauses words : List ℤ) (scratch offsets empty count : ℕ) : Type 0 where
   pub admitted : Admitted prefix clauses
   pub sized : length words ≤ proofBound
   pub scratch-fits : rules .scratch ≤ scratch
-  pub refutation : Refutation prefix clauses words
-  pub offsets-fit : length (numberedClauses (clausesOf clauses) (refutation .steps)) ≤ offsets
+  pub steps : List Step
+  pub written : words ≡ stepWords steps
+  pub lawful : LawfulSteps (formulaOf prefix clauses) (clausesOf clauses) steps
+  pub allowed : Allowed rules (clausesOf clauses) steps
+  pub offsets-fit : length (numberedClauses (clausesOf clauses) steps) ≤ offsets
   pub place : ℕ
   pub place-numbered : empty ≡ suc place
-  pub first-empty : FirstEmpty (numberedClauses (clausesOf clauses) (refutation .steps)) place
-  pub counted : count ≡ length (refutation .steps)
+  pub first-empty : FirstEmpty (numberedClauses (clausesOf clauses) steps) place
+  pub counted : count ≡ length steps

@@ -1,37 +1,41 @@
--- What the run over the steps answers, and the search for the first empty clause.
+-- What the run over the steps answers.
 pub mod Laws
 use Prim.Native.Nat.{ℕ, zero, suc, _+_, _-_, _≤_, _<_}
 use mathlib.Core.Path.{_≡_}
-use mathlib.Core.Bool.{Bool, true, false}
+use mathlib.Core.Bool.{Bool}
 use mathlib.Core.Option.{Option, none, some}
-use mathlib.Core.List.{List, [], _∷_}
+use mathlib.Core.List.{List}
 use lib.ListN.{length, getD, drop}
 use lib.IntN.{ℤ}
 use Rattle.formula.specs.Decode.{clausesOf}
-use Rattle.checker.specs.Rules.{plainRules}
+use Rattle.checker.specs.Rules.{ending, plainRules}
 use Rattle.checker.specs.declared.run.Run.{Run}
 use Rattle.checker.specs.declared.run.Run.the-variants.{Ended, Refused}
-use Rattle.checker.specs.declared.run.Found.{Found}
-use Rattle.checker.specs.declared.run.Found.the-variants.{Clause, Nothing}
 use Rattle.checker.specs.Words.{Words}
 use Rattle.checker.specs.Steps.{Step, statedBy, sizeOf, readStep, Outcome, ended, refused, run}
+use Rattle.checker.specs.Empty.{firstEmpty, emptyNumber}
 use Rattle.checker.specs.Verdict.{scopeOf}
 use Rattle.checker.specs.Numbered.{storedAt, stored}
 use Rattle.checker.specs.Step.{Ready}
 
 -- The run's answer with the offsets it leaves.
 abbrev pub outcomeOf : ℕ → Words → Words → List ℕ → Run → Outcome
-outcomeOf inputs clauses steps offsets (Ended n) = ended (stored inputs clauses steps offsets n)
+outcomeOf inputs clauses steps offsets (Ended n empty) = ended (stored inputs clauses steps offsets n)
 outcomeOf inputs clauses steps offsets (Refused r) = refused r
 
 abbrev pub countOf : Run → ℕ
-countOf (Ended n) = n
+countOf (Ended n empty) = n
 countOf (Refused r) = 0
 
 -- No numbered clause is lost.
 abbrev pub Grown : ℕ → Run → Type 0
-Grown inputs (Ended n) = inputs ≤ n
+Grown inputs (Ended n empty) = inputs ≤ n
 Grown inputs (Refused r) = Unit {0}
+
+-- The first empty clause's number is told, 0 for none.
+abbrev pub EmptyTold : ℕ → Words → Words → List ℕ → Run → Type 0
+EmptyTold inputs clauses steps offsets (Ended n empty) = empty ≡ emptyNumber (firstEmpty 1 (stored inputs clauses steps offsets n))
+EmptyTold inputs clauses steps offsets (Refused r) = Unit {0}
 
 -- How many words the step has that was read, none where there is no step.
 abbrev pub sizeRead : Option Step → ℕ
@@ -56,18 +60,11 @@ pub record Placed (clauses steps : Words) (inputs : ℕ) (offsets : List ℕ) (n
   pub input-clauses : stored inputs clauses steps offsets inputs ≡ clausesOf clauses
   pub derived : (k : ℕ) → inputs ≤ k → k < numbered → StepStands steps (k - inputs) (getD offsets k 0) (storedAt inputs clauses steps offsets k)
 
--- `scratch` and `offsets` are as the run leaves them: the scratch is ready for another run.
-pub record RunDone (prefix clauses steps : List ℤ) (inputs : ℕ) (r : Run) (scratch offsets : List ℕ) : Type 0 where
-  pub outcome : run plainRules (scopeOf prefix clauses) (length offsets) (clausesOf clauses) zero steps ≡ outcomeOf inputs clauses steps offsets r
+-- `scratch` and `offsets` are as the run leaves them: the scratch is ready for another run. A strict run refuses steps after an empty clause.
+pub record RunDone (strict : Bool) (prefix clauses steps : List ℤ) (inputs : ℕ) (r : Run) (scratch offsets : List ℕ) : Type 0 where
+  pub outcome : run (ending strict plainRules) (scopeOf prefix clauses) (length offsets) (clausesOf clauses) zero steps ≡ outcomeOf inputs clauses steps offsets r
   pub counted : countOf r ≤ length offsets
   pub grown : Grown inputs r
+  pub empty-told : EmptyTold inputs clauses steps offsets r
   pub placed : Placed clauses steps inputs offsets (countOf r)
   pub ready : Ready prefix scratch
-
-abbrev pub isEmpty : Words → Bool
-isEmpty [] = true
-isEmpty (x ∷ C) = false
-
-abbrev pub foundOf : Option ℕ → Found
-foundOf none = Nothing
-foundOf (some n) = Clause (record { 0 = n })

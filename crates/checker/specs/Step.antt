@@ -25,7 +25,8 @@ use Rattle.checker.specs.declared.result.Judgement.the-variants.{Right, 
 use Rattle.checker.specs.declared.step.StepAnswer.{StepAnswer}
 use Rattle.checker.specs.declared.step.StepAnswer.the-variants.{Right as RightStep, Wrong as WrongStep}
 use Rattle.checker.specs.Words.{Words, holds}
-use Rattle.checker.specs.Steps.{Scope, sizeOf, resolvent, blocked, blockerOf, demand, Judged, right, wrong}
+use Rattle.checker.specs.Steps.{Scope, statedBy, sizeOf, resolvent, blocked, blockerOf, demand, Judged, right, wrong}
+use Rattle.checker.specs.Empty.{isEmpty}
 use Rattle.checker.specs.Read.{fieldsOf}
 use Rattle.checker.specs.Marks.{marksIn, clean}
 use Rattle.checker.specs.Existentials.{existentialsOf, existentialOf}
@@ -101,13 +102,14 @@ pub record JudgedReady (prefix clauses : List ℤ) (kept : ℕ) (reason : Option
   pub answer : r ≡ judgementOf reason
   pub ready : KeptReady prefix clauses (keptIf r kept) scratch′
 
--- The step's answer: where the next step begins, and whose row is kept then; `kept` is the variable of the row before the step.
+-- The step's answer: where the next step begins, whose row is kept then, and whether the step's clause is empty; `kept` is the variable of the
+-- row before the step.
 abbrev pub stepAnswer : ℕ → ℕ → Judged → StepAnswer
-stepAnswer at kept (right s) = RightStep (at + sizeOf s) (keptAfter (fieldsOf at s) kept)
+stepAnswer at kept (right s) = RightStep (at + sizeOf s) (keptAfter (fieldsOf at s) kept) (isEmpty (statedBy s))
 stepAnswer at kept (wrong r) = WrongStep r
 
 abbrev pub keptIn : StepAnswer → ℕ
-keptIn (RightStep next kept) = kept
+keptIn (RightStep next kept empty) = kept
 keptIn (WrongStep r) = 0
 
 pub record StepChecked (prefix clauses : List ℤ) (at kept : ℕ) (j : Judged) (r : StepAnswer) (scratch′ : List ℕ) : Type 0 where

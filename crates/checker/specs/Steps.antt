@@ -16,10 +16,11 @@ use Rattle.formula.specs.Free.{occurs}
 use Rattle.formula.specs.declared.refusal.Blocker.{Blocker}
 use Rattle.formula.specs.declared.refusal.Reason.{Reason}
 use Rattle.formula.specs.declared.refusal.Refusal.{Refusal}
-use Rattle.formula.specs.declared.refusal.Reason.the-variants.{NoRoom, BrokenStep, NotEarlier, WrongPivot, Tautology, Blocked, Misstated}
+use Rattle.formula.specs.declared.refusal.Reason.the-variants.{NoRoom, BrokenStep, NotEarlier, WrongPivot, Tautology, Blocked, Misstated, Afterword}
 use Rattle.formula.specs.Decode.{firstClause}
 use Rattle.checker.specs.Rules.{Rules}
 use Rattle.checker.specs.Words.{Words, holds, without, closes}
+use Rattle.checker.specs.Empty.{someEmpty}
 
 -- The variables that are existential and universal; which existential depends on which universal: dependent u e; each variable of the
 -- prefix with its block, from the left.
@@ -165,21 +166,10 @@ abbrev pub judgeRead : Scope → ℕ → List Words → Option Step → Judged
 judgeRead S room known none = wrong BrokenStep
 judgeRead S room known (some s) = require (ltb (length known) room) (wrong NoRoom) (judgedAs s (judge S known s))
 
--- Some numbered clause is empty.
-unfoldable pub someEmpty : List Words → Bool
-someEmpty [] = false
-someEmpty ([] ∷ known) = true
-someEmpty ((x ∷ C) ∷ known) = someEmpty known
-
--- A step that comes after an empty clause, where the rules have a reason against it.
-abbrev pub refuseAfter : Option Reason → Bool → Judged → Judged
-refuseAfter none after later = later
-refuseAfter (some r) after later = require (not after) (wrong r) later
-
--- `room` is how many numbered clauses the clause offsets have a word for. Whether a step may stand here comes ahead of all that
--- is wrong with it.
+-- `room` is how many numbered clauses the clause offsets have a word for. Whether a step may stand here, after an empty clause (02, P10), comes ahead of
+-- all that is wrong with it, its reading too.
 unfoldable pub judgeFirst : Rules → Scope → ℕ → List Words → Words → Judged
-judgeFirst rules S room known ws = refuseAfter (rules .afterwards) (someEmpty known) (judgeRead S room known (readStep rules ws))
+judgeFirst rules S room known ws = require (not (rules .strict && someEmpty known)) (wrong Afterword) (judgeRead S room known (readStep rules ws))
 
 -- The run ends with all numbered clauses, or is refused.
 pub data Outcome : Type 0 where

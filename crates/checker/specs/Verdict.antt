@@ -1,18 +1,21 @@
 -- The verdict on a proof (01, "What the checker says no with", order "A proof"): tables, 2 on step words, 3 for scratch and
 -- clause offsets, the steps, 19. `verdictOf plainRules` is what `check_proof` answers, `verdictOf smallRules` what `check_proof_small` does,
--- Checked what each promises. That the two agree where both have room is in Verdict/Sizes.antt.
+-- Checked what each promises. That the two agree where both have room is in Verdict/Sizes.antt, what 02's P10 changed in Verdict/Ending.antt.
 pub mod Examples
 pub mod TableScope
+pub mod Conclusion
 pub mod Accuracy
 pub mod Exact
+pub mod Ending
 pub mod Parts
 pub mod Sizes
 use Prim.Native.Nat.{ℕ, zero, suc, _-_}
 use mathlib.Core.Path.{_≡_}
+use mathlib.Core.Bool.{Bool, true, false, cond}
 use mathlib.Core.Option.{Option, none, some}
-use mathlib.Core.List.{List, [], _∷_}
+use mathlib.Core.List.{List}
 use lib.ListN.{length, replicate}
-use lib.Dec.{leb}
+use lib.Dec.{leb, ltb}
 use lib.IntN.{ℤ}
 use Rattle.qbf.specs.Dependency.{depends}
 use Rattle.qbf.specs.Formula.{Formula, existential, universal}
@@ -29,6 +32,7 @@ use Rattle.checker.specs.declared.verdict.Verdict.{Verdict}
 use Rattle.checker.specs.declared.verdict.Verdict.the-variants.{Accepted, Refused}
 use Rattle.checker.specs.Rules.{Rules}
 use Rattle.checker.specs.Words.{Words}
+use Rattle.checker.specs.Empty.{firstEmpty, lastEmpty}
 use Rattle.checker.specs.Steps.{Scope, Outcome, ended, refused, run}
 
 -- What steps know of a formula: the entries of its prefix, and dependencies, which come from the input formula.
@@ -44,20 +48,20 @@ scopeIn F =
 abbrev pub scopeOf : List ℤ → List ℤ → Scope
 scopeOf prefix clauses = scopeIn (formulaOf prefix clauses)
 
--- The number of the first empty clause, `n` being the number of the first one here.
-unfoldable pub firstEmpty : ℕ → List Words → Option ℕ
-firstEmpty n [] = none
-firstEmpty n ([] ∷ Cs) = some n
-firstEmpty n ((x ∷ C) ∷ Cs) = firstEmpty (suc n) Cs
+-- The number of the empty clause that a run concludes with; `inputs` of the numbered clauses are input clauses. By strict rules (02, P10) it is the last
+-- clause, or without steps the first empty input clause; by others the first empty one of all.
+abbrev pub conclusion : Bool → ℕ → List Words → Option ℕ
+conclusion true inputs known = cond (ltb inputs (length known)) (lastEmpty 1 known) (firstEmpty 1 known)
+conclusion false inputs known = firstEmpty 1 known
 
--- With all numbered clauses, of which `inputs` are input clauses.
-abbrev pub concluded : ℕ → List Words → Option ℕ → Verdict
-concluded inputs known none = Refused (refusal NoConclusion (length known))
-concluded inputs known (some n) = Accepted (record { 0 = n }) (length known - inputs)
+-- With so many numbered clauses, of which `inputs` are input clauses.
+abbrev pub concluded : ℕ → ℕ → Option ℕ → Verdict
+concluded inputs numbered none = Refused (refusal NoConclusion numbered)
+concluded inputs numbered (some n) = Accepted (record { 0 = n }) (numbered - inputs)
 
-abbrev pub conclude : ℕ → Outcome → Verdict
-conclude inputs (ended known) = concluded inputs known (firstEmpty 1 known)
-conclude inputs (refused r) = Refused r
+abbrev pub conclude : Rules → ℕ → Outcome → Verdict
+conclude rules inputs (ended known) = concluded inputs (length known) (conclusion (rules .strict) inputs known)
+conclude rules inputs (refused r) = Refused r
 
 abbrev pub ifAdmitted : Option Refusal → Verdict → Verdict
 ifAdmitted r later = unless Refused r later
@@ -71,7 +75,7 @@ scopeVerdict rules S clauses steps scratch room =
     (Refused (refusal NoRoom 0))
     (require (leb (zeros clauses) room)
     (Refused (refusal NoRoom (suc room)))
-    (conclude (zeros clauses) (run rules S room (clausesOf clauses) zero steps))))
+    (conclude rules (zeros clauses) (run rules S room (clausesOf clauses) zero steps))))
 
 unfoldable pub sizedVerdict : Rules → List ℤ → List ℤ → List ℤ → ℕ → ℕ → Verdict
 sizedVerdict rules prefix clauses steps scratch room = scopeVerdict rules (scopeOf prefix clauses) clauses steps scratch room

@@ -6,8 +6,9 @@ use formula::words::clause_end;
 ghost use mathlib.Core.Path.{_≡_};
 ghost use Prim.Native.Nat.{_+_};
 ghost use lib.ListN.{length, drop};
-ghost use Rattle.formula.specs.Decode.{firstClause};
+ghost use Rattle.formula.specs.Decode.{firstClause, clauseAt};
 ghost use Rattle.checker.specs.Words.{holds};
+ghost use Rattle.checker.specs.Empty.{isEmpty};
 
 // The place of the 0 that closes the clause, or the table's length where none does.
 pub fn end_of(words: &[i32], from: usize) -> usize
@@ -32,4 +33,15 @@ pub fn has_word(words: &[i32], from: usize, sought: i32) -> bool
         i += 1;
     }
     false
+}
+
+// Whether the clause that begins at `from` is empty: a 0 stands there, or no word.
+pub fn is_empty(words: &[i32], from: usize) -> bool
+    ensures { λ r. ⌜ r ≡ isEmpty (clauseAt (now (words .entry)) from) ⌝ }
+{
+    if from < words.len() {
+        let word = words[from];
+        return Word::is_zero(word);
+    }
+    true
 }

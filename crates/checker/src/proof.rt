@@ -2,9 +2,7 @@
 use crate::existentials::EXISTENTIALS_END;
 use crate::existentials::fill_existentials;
 use crate::numbered::fill_offsets;
-use crate::run::Found;
 use crate::run::Run;
-use crate::run::first_empty;
 use crate::run::run_steps;
 use crate::verdict::Verdict;
 use dependency::scratch::LATER;
@@ -14,6 +12,7 @@ use formula::bounds::ProofFit;
 use formula::bounds::ProofLength;
 use formula::clear::clear_bytes;
 use formula::clear::clear_numbers;
+use formula::literal::ClauseNumber;
 use formula::refusal::Reason;
 use formula::refusal::Refusal;
 use formula::tables::TablesAnswer;
@@ -26,8 +25,8 @@ ghost use Rattle.formula.specs.Decode.{clausesOf};
 ghost use Rattle.formula.specs.Tables.{Admitted, zeros};
 ghost use Rattle.checker.specs.Rules.{resized, plainRules, smallRules};
 ghost use Rattle.checker.specs.Steps.{run};
-ghost use Rattle.checker.specs.Numbered.{stored};
-ghost use Rattle.checker.specs.Verdict.{scopeOf, firstEmpty, concluded, conclude, sizedVerdict, verdictOf, Checked};
+ghost use Rattle.checker.specs.Empty.{numberFound};
+ghost use Rattle.checker.specs.Verdict.{scopeOf, concluded, conclude, sizedVerdict, verdictOf, Checked};
 
 // What was lent, wholly 0: before the steps, and as every check leaves it.
 fn clear_lent(scratch: &mut [u8], offsets: &mut [u32])
@@ -37,23 +36,17 @@ fn clear_lent(scratch: &mut [u8], offsets: &mut [u32])
     clear_numbers(offsets, 0);
 }
 
-// All steps are right: the first empty clause decides.
-fn conclude_run<'a>(
-    clauses: &'a [i32],
-    steps: &'a [i32],
-    offsets: &[u32],
-    inputs: usize,
-    numbered: usize,
-) -> Verdict
-    requires { ⌜ numbered ≤ length (now offsets) ⌝ ∗ ⌜ inputs ≤ numbered ⌝ }
-    ensures { λ r. ⌜ r ≡ concluded inputs (stored inputs (now (clauses .entry)) (now (steps .entry)) (now (offsets .entry)) numbered) (firstEmpty 1 (stored inputs (now (clauses .entry)) (now (steps .entry)) (now (offsets .entry)) numbered)) ⌝ }
+// All steps are right: the first empty clause decides, `empty` being its number, 0 for none.
+fn conclude_run(inputs: usize, numbered: usize, empty: usize) -> Verdict
+    requires { ⌜ inputs ≤ numbered ⌝ }
+    ensures { λ r. ⌜ r ≡ concluded inputs numbered (numberFound empty) ⌝ }
 {
-    match first_empty(clauses, steps, offsets, inputs, numbered) {
-        Found::Clause(number) => Verdict::Accepted {
-            empty: number,
-            steps: numbered - inputs,
-        },
-        Found::Nothing => Verdict::Refused(Refusal::new(Reason::NoConclusion, numbered)),
+    if empty < 1 {
+        return Verdict::Refused(Refusal::new(Reason::NoConclusion, numbered));
+    }
+    Verdict::Accepted {
+        empty: ClauseNumber::at(empty - 1),
+        steps: numbered - inputs,
     }
 }
 
@@ -67,14 +60,23 @@ fn judge_steps<'a>(
     offsets: &mut [u32],
 ) -> Verdict
     requires { ⌜ Admitted (now prefix) (now clauses) ⌝ ∗ ⌜ inputs ≡ zeros (now clauses) ⌝ ∗ ⌜ length (now steps) ≤ 1048576 ⌝ ∗ ⌜ length (now scratch) ≡ smallBound ⌝ ∗ ⌜ inputs ≤ length (now offsets) ⌝ }
-    ensures { λ r. ⌜ r ≡ conclude inputs (run plainRules (scopeOf (now (prefix .entry)) (now (clauses .entry))) (length (now (offsets .entry))) (clausesOf (now (clauses .entry))) zero (now (steps .entry))) ⌝ }
+    ensures { λ r. ⌜ r ≡ conclude plainRules inputs (run plainRules (scopeOf (now (prefix .entry)) (now (clauses .entry))) (length (now (offsets .entry))) (clausesOf (now (clauses .entry))) zero (now (steps .entry))) ⌝ }
 {
     clear_lent(scratch, offsets);
     fill_existentials(prefix, &mut scratch[LATER..EXISTENTIALS_END]);
-    fill_offsets(clauses, offsets);
-    match run_steps(prefix, clauses, steps, inputs, scratch, offsets) {
+    let first = fill_offsets(clauses, offsets);
+    match run_steps(
+        prefix,
+        clauses,
+        steps,
+        inputs,
+        first,
+        true,
+        scratch,
+        offsets,
+    ) {
         Run::Refused(refusal) => Verdict::Refused(refusal),
-        Run::Ended(numbered) => conclude_run(clauses, steps, offsets, inputs, numbered),
+        Run::Ended { numbered, empty } => conclude_run(inputs, numbered, empty),
     }
 }
 

@@ -1,4 +1,5 @@
 // The check of one step: it is read, has room, and is judged by its kind.
+use crate::clause::is_empty;
 use crate::read::Reading;
 use crate::read::StepKind;
 use crate::read::StepRead;
@@ -14,7 +15,7 @@ ghost use lib.ListN.{length, drop};
 ghost use Rattle.formula.specs.Decode.{clauseAt};
 ghost use Rattle.formula.specs.Tables.{Admitted};
 ghost use Rattle.checker.specs.Rules.{plainRules};
-ghost use Rattle.checker.specs.Steps.{judge, judgeFirst};
+ghost use Rattle.checker.specs.Steps.{readStep, judge, judgeRead};
 ghost use Rattle.checker.specs.Words.{AllWords, InRange};
 ghost use Rattle.checker.specs.Verdict.{scopeOf};
 ghost use Rattle.checker.specs.Numbered.{stored};
@@ -58,9 +59,13 @@ fn judge_step<'a>(
     }
 }
 
-// Right: where the next step begins, and the variable whose row stands in the scratch, 0 for none.
+// Right: where the next step begins, the variable whose row stands in the scratch, 0 for none, and whether the step's clause is empty.
 pub enum StepAnswer {
-    Right { next: usize, kept: usize },
+    Right {
+        next: usize,
+        kept: usize,
+        empty: bool,
+    },
     Wrong(Reason),
 }
 
@@ -75,7 +80,8 @@ fn kept_after(step: StepRead, kept: usize) -> usize
     }
 }
 
-// The step whose first word stands at `at`, after `numbered` numbered clauses, the first `inputs` of which are the input's.
+// The step whose first word stands at `at`, after `numbered` numbered clauses, the first `inputs` of which are the input's. Whether a step
+// may stand here is for the run to say.
 pub fn check_step<'a>(
     prefix: &[i32],
     clauses: &'a [i32],
@@ -89,7 +95,7 @@ pub fn check_step<'a>(
 ) -> StepAnswer
     requires { ⌜ KeptReady (now prefix) (now clauses) kept (now scratch) ⌝ ∗ ⌜ Admitted (now prefix) (now clauses) ⌝ ∗ ⌜ at < length (now steps) ⌝ }
     requires { ⌜ numbered ≤ length (now offsets) ⌝ ∗ ⌜ AllWords InRange (stored inputs (now clauses) (now steps) (now offsets) numbered) ⌝ }
-    ensures { λ r. ⌜ StepChecked (now (prefix .entry)) (now (clauses .entry)) at kept (judgeFirst plainRules (scopeOf (now (prefix .entry)) (now (clauses .entry))) (length (now (offsets .entry))) (stored inputs (now (clauses .entry)) (now (steps .entry)) (now (offsets .entry)) numbered) (drop at (now (steps .entry)))) r (now (scratch .exit)) ⌝ }
+    ensures { λ r. ⌜ StepChecked (now (prefix .entry)) (now (clauses .entry)) at kept (judgeRead (scopeOf (now (prefix .entry)) (now (clauses .entry))) (length (now (offsets .entry))) (stored inputs (now (clauses .entry)) (now (steps .entry)) (now (offsets .entry)) numbered) (readStep plainRules (drop at (now (steps .entry))))) r (now (scratch .exit)) ⌝ }
 {
     match read_step(steps, at) {
         Reading::Broken => StepAnswer::Wrong(Reason::BrokenStep),
@@ -111,6 +117,7 @@ pub fn check_step<'a>(
                 Judgement::Right => StepAnswer::Right {
                     next: step.next,
                     kept: kept_after(step, kept),
+                    empty: is_empty(steps, step.statement),
                 },
                 Judgement::Wrong(reason) => StepAnswer::Wrong(reason),
             }

@@ -3,17 +3,17 @@
 use Prim.Native.Nat.{ℕ, zero, suc, _+_, _-_, _*_, _≤_, _<_}
 use mathlib.Core.Path.{_≡_, refl, ap, sym, _∙_, subst}
 use mathlib.Core.Logic.{_⊎_, inl, inr}
-use mathlib.Core.Bool.{Bool, true, false, _||_, _&&_, or-false}
+use mathlib.Core.Bool.{Bool, true, false, cond, _||_, _&&_, or-false}
 use mathlib.Core.Option.{Option, none, some}
 use mathlib.Core.List.{List, [], _∷_, List·Memᴰ, List·Memᴰ·not-nil, List·Memᴰ·cases-cons}
 use native.Mathlib.Nat.{not-suc-le-zero, le-of-suc-le-suc}
 use native.Mathlib.Decide.{ℕ-discrete}
 use native.Mathlib.Numerals.{add-one}
 use native.Mathlib.Omega.{arith}
-use borrow.Author.Tests.{leb-true, le-leb, lt-leb, eq-eqb, ne-eqb}
+use borrow.Author.Tests.{ltb-false, leb-true, le-leb, lt-leb, eq-eqb, ne-eqb}
 use lib.ListN.{length, getD, take, drop, set, replicate, length-drop, length-replicate, getD-replicate, drop-of-length-le}
 use lib.Seq.{drop-cons, drop-drop, getD-set-same, getD-set-other, getD-drop, take-nil}
-use lib.Dec.{leb, eqb}
+use lib.Dec.{ltb, leb, eqb}
 use lib.IntN.{ℤ, pos, negℤ, natAbs}
 use Rattle.qbf.specs.Connectives.{and-both, or-left, or-right}
 use Rattle.bits.specs.Flags.{flags}
@@ -25,12 +25,20 @@ use Rattle.formula.specs.Prefix.{prefixOf, entryCount}
 use Rattle.formula.specs.Decode.Laws.{magnitude-same, magnitude-negated}
 use Rattle.formula.specs.Tables.{isIn, zeros, literalWord, clauseWord, clausesEnd, clausesRefusal, listedIn, sized, firstRefusal, wordsRefusal, tablesRefusal, answerTables, tablesAnswer}
 use Rattle.formula.specs.Tables.Laws.{zeros-cons, clause-word-zero, clause-word-large, clause-word-literal}
-use Rattle.formula.specs.Tables.Scan.{AllOrNone, marked, Listing, variablesBefore, further, plainRun, clashFree, ClauseStep, checkOf}
+use Rattle.formula.specs.Tables.Scan.{AllOrNone, marksUsed, marked, Listing, variablesBefore, further, plainRun, clashFree, ClauseStep, checkOf}
 use Rattle.formula.specs.declared.refusal.Refusal.{Refusal}
 use Rattle.formula.specs.declared.tables.TablesAnswer.the-variants.{Admitted as TablesAdmitted, Refused as TablesRefused}
 use Rattle.formula.specs.declared.tables.Check.the-variants.{Passed, Refused}
 use Rattle.formula.specs.declared.tables.ClauseCheck.the-variants.{Closed, Refused as Stopped}
 use Rattle.formula.specs.declared.refusal.Reason.the-variants.{Oversized, OutOfRange, Unbound, Clash, Unfinished}
+
+-- The marks used are lent, and are all or none.
+pub marks-used-fit : (lent : ℕ) → (marksUsed lent ≤ lent) × AllOrNone (marksUsed lent)
+marks-used-fit lent = go (ltb lent 128) refl
+  where
+    go : (b : Bool) → ltb lent 128 ≡ b → (cond b 0 128 ≤ lent) × AllOrNone (cond b 0 128)
+    go true e = (omega arith, λ h. absurd (omega arith))
+    go false e = (ltb-false lent 128 e, λ h. refl)
 
 -- Zeros, by the word at a place.
 module _ (ws : List ℤ) (i : ℕ) (h : i < length ws) where

@@ -36,6 +36,7 @@ use Rattle.formula.specs.declared.refusal.Reason.the-variants.{
   Misstated,
   NoConclusion,
   NotUniversal,
+  Afterword,
 }
 
 -- A reason joined with its place, where that is in no text: line and column are 0.
@@ -52,7 +53,7 @@ abbrev pub unless : {R A : Type 0} → (R → A) → Option R → (done : A) →
 unless refuses (some r) done = refuses r
 unless refuses none done = done
 
--- 01's number of each reason; 17 comes with what blocks.
+-- The number of each reason, 01's and 02's; 17 comes with what blocks.
 abbrev pub numbers : Reason → Numbers
 numbers Headless = Alone 1
 numbers Oversized = Alone 2
@@ -74,6 +75,7 @@ numbers (Blocked b) = Blocking b
 numbers Misstated = Alone 18
 numbers NoConclusion = Alone 19
 numbers NotUniversal = Alone 20
+numbers Afterword = Alone 23
 
 abbrev pub numberOf : Numbers → ℕ
 numberOf (Alone n) = n
@@ -103,7 +105,11 @@ pub record Named : Type 0 where
 abbrev pub named : Reason → List ℕ → Named
 named r bytes = record { reason = r; bytes = bytes }
 
--- 01's table in the order of the numbers.
+-- The row of a number that no reason has, as 21 and 22, which 02 names for requests that are not built.
+abbrev pub unnamed : Named
+unnamed = named Headless []
+
+-- 01's table and 02's afterword in the order of the numbers.
 abbrev pub table : List Named
 table =
     -- headless
@@ -146,11 +152,15 @@ table =
     ∷ named NoConclusion (110 ∷ 111 ∷ 32 ∷ 99 ∷ 111 ∷ 110 ∷ 99 ∷ 108 ∷ 117 ∷ 115 ∷ 105 ∷ 111 ∷ 110 ∷ [])
     -- not universal
     ∷ named NotUniversal (110 ∷ 111 ∷ 116 ∷ 32 ∷ 117 ∷ 110 ∷ 105 ∷ 118 ∷ 101 ∷ 114 ∷ 115 ∷ 97 ∷ 108 ∷ [])
+    ∷ unnamed
+    ∷ unnamed
+    -- afterword
+    ∷ named Afterword (97 ∷ 102 ∷ 116 ∷ 101 ∷ 114 ∷ 119 ∷ 111 ∷ 114 ∷ 100 ∷ [])
     ∷ []
 
 -- The reason and the word of a number; numbers count from 1.
 abbrev pub rowAt : ℕ → Named
-rowAt n = getD table (n - 1) (named Headless [])
+rowAt n = getD table (n - 1) unnamed
 
 abbrev pub reasonAt : ℕ → Reason
 reasonAt n = rowAt n .reason

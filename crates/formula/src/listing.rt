@@ -9,11 +9,11 @@ ghost use lib.ListN.{length, set};
 ghost use Rattle.bits.specs.Flags.{flags};
 ghost use Rattle.formula.specs.Bounds.{variableBound};
 ghost use Rattle.formula.specs.Tables.{listedIn};
-ghost use Rattle.formula.specs.Tables.Scan.{AllOrNone, Listing};
+ghost use Rattle.formula.specs.Tables.Scan.{AllOrNone, Listing, marksUsed};
 
 // How many of the bytes lent are marks: a bit for each variable, or none.
 pub fn marks_used(lent: usize) -> usize
-    ensures { λ r. ⌜ (r ≤ lent) × AllOrNone r ⌝ }
+    ensures { λ r. ⌜ r ≡ marksUsed lent ⌝ }
 {
     if lent < 128 {
         return 0;

@@ -1,4 +1,4 @@
-// Why and where the checker says no: the twenty reasons of 01, each with its number, 17 with what blocks too, and a reason joined
+// Why and where the checker says no: the twenty reasons of 01 and 02's 23, each with its number, 17 with what blocks too, and a reason joined
 // with its place. A reason more is a line in the enum and in `tagged`, in `numbers` and `table` of specs/Refusal.antt, and in the
 // list of words of report/src/word.rt.
 use crate::literal::Variable;
@@ -33,6 +33,7 @@ pub enum Reason {
     Misstated,
     NoConclusion,
     NotUniversal,
+    Afterword,
 }
 
 // Bytes and words count from 0; a clause's place is its number. A place in a text has its line and its column, any other has 0 0.
@@ -72,7 +73,7 @@ impl Refusal {
     }
 }
 
-// The numbers of a reason: 01's; of 17, what blocks.
+// The numbers of a reason: 01's or 02's; of 17, what blocks.
 pub enum Numbers {
     Alone(u32),
     Blocked(Blocker),
@@ -104,6 +105,7 @@ impl Reason {
             Reason::Misstated => Numbers::Alone(18),
             Reason::NoConclusion => Numbers::Alone(19),
             Reason::NotUniversal => Numbers::Alone(20),
+            Reason::Afterword => Numbers::Alone(23),
         }
     }
 
@@ -114,7 +116,7 @@ impl Reason {
         self.tagged()
     }
 
-    // 01's number.
+    // Its number, 01's or 02's.
     pub fn number(self) -> u32
         ensures { λ r. ⌜ (r ≡ number self) × TaggedNumber r ⌝ }
     {

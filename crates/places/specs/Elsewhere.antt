@@ -33,7 +33,7 @@ use Rattle.checker.specs.File.{ProofReading, read, refused, stepCount, clauseCo
 use Rattle.checker.specs.Rules.{Rules}
 use Rattle.checker.specs.Steps.{Scope, Judged, right, wrong, Step, Outcome, ended, judgeFirst, turn, less-one, sizeOf, statedBy, run}
 use Rattle.checker.specs.Steps.{refused as stepRefused}
-use Rattle.checker.specs.Verdict.{scopeOf, firstEmpty, concluded, conclude, sizedVerdict, verdictOf}
+use Rattle.checker.specs.Verdict.{scopeOf, conclusion, concluded, conclude, sizedVerdict, verdictOf}
 use Rattle.checker.specs.Words.{Words}
 use Rattle.checker.specs.declared.verdict.Verdict.{Verdict}
 use Rattle.checker.specs.declared.verdict.Verdict.the-variants.{Accepted, Refused as VerdictRefused}
@@ -172,13 +172,13 @@ module _ (rules : Rules) (S : Scope) (room : ℕ) where
       turn-in known (judgeFirst rules S room known (w ∷ ws)) (λ s. run rules S room (known ++ (statedBy s ∷ [])) (less-one (sizeOf s)) ws)
       (λ s. run-in (known ++ (statedBy s ∷ [])) (less-one (sizeOf s)) ws)
 
-concluded-in : (inputs : ℕ) (known : List Words) (e : Option ℕ) → VerdictIn (concluded inputs known e)
-concluded-in inputs known none = record { no-line = refl; no-column = refl }
-concluded-in inputs known (some n) = tt
+concluded-in : (inputs numbered : ℕ) (e : Option ℕ) → VerdictIn (concluded inputs numbered e)
+concluded-in inputs numbered none = record { no-line = refl; no-column = refl }
+concluded-in inputs numbered (some n) = tt
 
-conclude-in : (inputs : ℕ) (o : Outcome) → OutcomeIn o → VerdictIn (conclude inputs o)
-conclude-in inputs (ended known) h = concluded-in inputs known (firstEmpty 1 known)
-conclude-in inputs (stepRefused r) h = h
+conclude-in : (rules : Rules) (inputs : ℕ) (o : Outcome) → OutcomeIn o → VerdictIn (conclude rules inputs o)
+conclude-in rules inputs (ended known) h = concluded-in inputs (length known) (conclusion (rules .strict) inputs known)
+conclude-in rules inputs (stepRefused r) h = h
 
 module _ (rules : Rules) (prefix words steps : List ℤ) (scratch room : ℕ) where
   sized-in : VerdictIn (sizedVerdict rules prefix words steps scratch room)
@@ -187,7 +187,7 @@ module _ (rules : Rules) (prefix words steps : List ℤ) (scratch room : ℕ) wh
       require-holds VerdictIn (leb (length steps) proofBound) (VerdictRefused (refusal Oversized 0)) _ (unplaced Oversized 0)
       (require-holds VerdictIn (leb (rules .scratch) scratch) (VerdictRefused (refusal NoRoom 0)) _ (unplaced NoRoom 0)
       (require-holds VerdictIn (leb (zeros words) room) (VerdictRefused (refusal NoRoom (suc room))) _ (unplaced NoRoom (suc room))
-      (conclude-in (zeros words) (run rules (scopeOf prefix words) room (clausesOf words) zero steps) (run-in rules (scopeOf prefix words) room (clausesOf words) zero steps))))
+      (conclude-in rules (zeros words) (run rules (scopeOf prefix words) room (clausesOf words) zero steps) (run-in rules (scopeOf prefix words) room (clausesOf words) zero steps))))
 
   pub verdict-unplaced : (r : Refusal) → verdictOf rules prefix words steps scratch room ≡ VerdictRefused r → Unplaced r
   unfolding verdictOf

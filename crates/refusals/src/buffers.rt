@@ -105,6 +105,39 @@ fn step_starts() {
     );
 }
 
+// A step behind an empty clause (02, P10): behind the tables, the scratch and the starts of input clauses, ahead of its own start.
+fn ended() {
+    lent(
+        b"1 2 1",
+        b"0 2 0",
+        8_199,
+        0,
+        b"variable not bound, behind an empty clause|9|",
+    );
+    lent(
+        b"1 2 1",
+        b"0 1 0",
+        8_199,
+        0,
+        b"scratch 8,199, behind an empty clause|9|",
+    );
+    lent(
+        b"1 2 1",
+        b"0 1 0",
+        8_200,
+        1,
+        b"one start for two clauses, behind an empty clause|9|",
+    );
+    lent(
+        b"1 2 1",
+        b"0 1 0",
+        8_200,
+        2,
+        b"two starts, a lone word behind an empty clause|9|\
+          two starts, a right step behind an empty clause|2 2 1 0|",
+    );
+}
+
 // Proofs of one word more than the bound, and of as many words as it allows; there are no clauses.
 fn long_proofs<'a>(clauses: &'a [i32], steps: &'a [i32]) {
     let mut scratch = [7u8; 8199];
@@ -138,10 +171,26 @@ fn long_proofs<'a>(clauses: &'a [i32], steps: &'a [i32]) {
     );
 }
 
-// 2 on step words, behind the tables and ahead of the scratch.
+// The same many words behind an empty clause.
+fn long_ended<'a>(clauses: &'a [i32], steps: &'a [i32]) {
+    let mut scratch = [7u8; 8200];
+    let mut starts = [7u32; 1];
+    judged(
+        Check::Large,
+        b"1,048,577 step words, behind an empty clause",
+        &[],
+        clauses,
+        steps,
+        &mut scratch,
+        &mut starts,
+    );
+}
+
+// 2 on step words, behind the tables and ahead of the scratch and of 23.
 fn oversized() {
     let steps = [0i32; 1_048_577];
     long_proofs(&[], &steps);
+    long_ended(&[0], &steps);
 }
 
 // All of them.
@@ -151,5 +200,6 @@ pub fn run() {
     scratch();
     input_starts();
     step_starts();
+    ended();
     oversized();
 }

@@ -152,6 +152,24 @@ fn proof_orders() {
     own_proofs(640, 0, b"no starts||");
 }
 
+// A step behind an empty clause (02, P10), in 640 bytes.
+fn ended() {
+    proofs(
+        b"1 2 1",
+        b"0 1 0",
+        640,
+        2,
+        b"an empty input clause||a step behind an empty clause|2 2 1 0|",
+    );
+    proofs(
+        b"1 2 1",
+        b"0 1 0",
+        639,
+        2,
+        b"a step behind an empty clause|2 2 1 0|",
+    );
+}
+
 // 17 with what blocks and its block; a row is made anew for another variable.
 fn blocked() {
     own_proofs(
@@ -235,6 +253,7 @@ pub fn run() {
     lengths();
     row_orders();
     proof_orders();
+    ended();
     blocked();
     resolved();
     lettered();

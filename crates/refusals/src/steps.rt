@@ -252,26 +252,30 @@ fn turns() {
     );
 }
 
-// Steps behind an empty clause are checked and counted; the first empty clause is told.
+// 23 for whatever stands behind an empty clause, a step's or an input clause's (02, P10); the last clause, or without steps the first empty one, is told.
 fn empty_clauses() {
     on(
         b"1 2 1",
         b"1 0",
         b"an empty clause|2 1 1 0|\
-          two empty clauses|2 1 1 0 2 1 1 0|\
+          a right step behind an empty clause|2 1 1 0 2 1 1 0|\
+          a lone word behind an empty clause|2 1 1 0 9|\
+          a lone 0 behind an empty clause|2 1 1 0 0|\
           a broken step behind an empty clause|2 1 1 0 2 1|\
           a 14 behind an empty clause|2 1 1 0 2 3 1 0|\
           a 15 behind an empty clause|2 1 1 0 2 2 1 0|\
-          an 18 behind an empty clause|2 1 1 0 2 1 1 1 0|",
+          an 18 behind an empty clause|2 1 1 0 2 1 1 1 0|\
+          an 18 ahead of an empty clause|2 1 1 1 0 2 1 1 0|",
     );
     on(
         b"1 2 1",
-        b"0 1 0",
-        b"an empty input clause||\
-          an empty input clause and a right step|2 2 1 0|\
-          an empty input clause and a wrong step|2 2 -1 0|\
-          an empty input clause and a broken step|2 2|\
-          the empty input clause reduced|2 1 1 0|",
+        b"1 0 0 0",
+        b"two empty input clauses||\
+          an empty input clause and a right step|2 1 1 0|\
+          an empty input clause and a lone word|9|\
+          an empty input clause and a wrong step|2 1 -1 0|\
+          an empty input clause and a broken step|2 1|\
+          the empty input clause reduced|2 2 1 0|",
     );
 }
 

@@ -9,8 +9,8 @@ ghost use Rattle.formula.specs.Refusal.{table, word};
 ghost use Rattle.formula.specs.Store.{Stores};
 ghost use Rattle.report.specs.Word.{filled, wordIn};
 
-// The words in the order of their numbers, filled up with dots, which no word holds.
-const WORDS: [[u8; 14]; 20] = [
+// The words in the order of their numbers, filled up with dots, which no word holds. No reason has 21 or 22.
+const WORDS: [[u8; 14]; 23] = [
     *b"headless......",
     *b"oversized.....",
     *b"no room.......",
@@ -31,10 +31,13 @@ const WORDS: [[u8; 14]; 20] = [
     *b"misstated.....",
     *b"no conclusion.",
     *b"not universal.",
+    *b"..............",
+    *b"..............",
+    *b"afterword.....",
 ];
 
 // The list against the table.
-fn words() -> [[u8; 14]; 20]
+fn words() -> [[u8; 14]; 23]
     ensures { λ r. ⌜ filled r table ≡ true ⌝ }
 {
     WORDS

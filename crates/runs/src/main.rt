@@ -35,7 +35,7 @@ fn refused_proof(proof: &[u8]) {
     run(b"formula/example", proof);
 }
 
-// Proofs that are right: with a note ahead of the steps, without steps, with steps behind the empty clause; dependents in
+// Proofs that are right: with a note ahead of the steps, without steps; one of them again with a step behind its empty clause; dependents in
 // prefix order; the example without a set for its outermost variable, and all 1,024 variables without one.
 fn accepted() {
     run(b"formula/example", b"proof/example");

@@ -1,9 +1,9 @@
 -- The run against the law: it ends exactly when the words are lawful steps one after the other, and it stops as blocked only
 -- after lawful steps at a reduction whose clause holds a dependent existential. Assumes nothing.
-use Prim.Native.Nat.{ℕ, zero, suc, _+_, _≤_}
+use Prim.Native.Nat.{ℕ, zero, _+_, _≤_}
 use mathlib.Core.Path.{_≡_, refl, ap, sym, _∙_}
 use mathlib.Core.Logic.{_≢_}
-use mathlib.Core.Option.{none, some}
+use mathlib.Core.Option.{some}
 use mathlib.Core.List.{List, [], _∷_, _++_, append-assoc, append-nil}
 use native.Mathlib.Omega.{arith}
 use lib.ListN.{length, drop}
@@ -16,17 +16,19 @@ use Rattle.formula.specs.declared.refusal.Reason.the-variants.{Blocked}
 use Rattle.checker.specs.Rules.{Rules, PlainKinds}
 use Rattle.checker.specs.Words.{Words}
 use Rattle.checker.specs.Steps.{Scope, Step, statedBy, sizeOf, readStep, ended, refused, run}
+use Rattle.checker.specs.Empty.Laws.{may-stand}
 use Rattle.checker.specs.Steps.Written.{words-size, read-written, written-read}
-use Rattle.checker.specs.Steps.Run.{rightly, right-first, blocked-first, Passes, passes-run, passes-fits, run-ended, run-stopped}
-use Rattle.checker.specs.Lawful.{wordsOf, stepWords, numberedClauses, LawfulSteps, RunBlocked, NoZeros}
+use Rattle.checker.specs.Steps.Run.{rightly, right-first, blocked-first, Passes, passes-run, passes-fits, passes-unended, run-ended, run-stopped}
+use Rattle.checker.specs.Lawful.{wordsOf, stepWords, numberedClauses, LawfulSteps, Allowed, RunBlocked, NoZeros}
 use Rattle.checker.specs.Lawful.Laws.{lawful-words, lawful-all-words, length-snoc}
 use Rattle.checker.specs.Lawful.Judged.{Decides, judge-lawful, lawful-judge, judge-blocked}
 
--- What the run is to show of words it passes: they are lawful steps, and the clause offsets have room for every clause.
-pub record RunEnds (F : Formula) (room : ℕ) (final known : List Words) (ws : Words) : Type 0 where
+-- What the run is to show of words it passes: they are lawful steps where steps may stand, and the clause offsets have room for every clause.
+pub record RunEnds (rules : Rules) (F : Formula) (room : ℕ) (final known : List Words) (ws : Words) : Type 0 where
   pub steps : List Step
   pub written : ws ≡ stepWords steps
   pub lawful : LawfulSteps F known steps
+  pub allowed : Allowed rules known steps
   pub numbered : numberedClauses known steps ≡ final
   pub fits : length known ≤ room → length final ≤ room
 
@@ -45,21 +47,20 @@ module _ (rules : Rules) (plain : PlainKinds rules) (S : Scope) (F : Formula) (D
         (l, later .1),
       )
 
-  -- Lawful steps pass, where steps may follow an empty clause.
+  -- Lawful steps pass, where they may stand.
   pub lawful-passes :
-      rules .afterwards ≡ none
-      → (steps : List Step) (known : List Words) → LawfulSteps F known steps → NoZeros known → length known + length steps ≤ room
+      (steps : List Step) (known : List Words) → LawfulSteps F known steps → Allowed rules known steps → NoZeros known → length known + length steps ≤ room
       → Passes rules S room known (stepWords steps) steps []
   unfolding stepWords
-  lawful-passes goes-on [] known l z f = refl
-  lawful-passes goes-on (s ∷ steps) known l z f =
+  lawful-passes [] known l a z f = refl
+  lawful-passes (s ∷ steps) known l a z f =
       let was-read : readStep rules (wordsOf s ++ stepWords steps) ≡ some s = written-read rules plain s (stepWords steps) (lawful-words (λ x. x ≢ pos 0) F known z s (l .0)) in (
-        right-first rules S room known goes-on (wordsOf s ++ stepWords steps) s was-read (omega arith) (lawful-judge S F D known z s (l .0)),
+        right-first rules S room known (may-stand (rules .strict) known (λ q. a q .0)) (wordsOf s ++ stepWords steps) s was-read (omega arith) (lawful-judge S F D known z s (l .0)),
         rw (drop-at (wordsOf s) (stepWords steps) (sizeOf s) (words-size s))
-            (lawful-passes goes-on steps (known ++ (statedBy s ∷ [])) (l .1) (lawful-all-words (λ x. x ≢ pos 0) F known z s (l .0)) (omega (arith, length-snoc known (statedBy s)))),
+            (lawful-passes steps (known ++ (statedBy s ∷ [])) (l .1) (λ q. a q .1) (lawful-all-words (λ x. x ≢ pos 0) F known z s (l .0)) (omega (arith, length-snoc known (statedBy s)))),
       )
 
-  pub run-lawful : (final known : List Words) (ws : Words) → NoZeros known → run rules S room known zero ws ≡ ended final → RunEnds F room final known ws
+  pub run-lawful : (final known : List Words) (ws : Words) → NoZeros known → run rules S room known zero ws ≡ ended final → RunEnds rules F room final known ws
   run-lawful final known ws z h =
       let t = run-ended rules S room known ws final h in
       let l = passes-lawful (t .0) known ws [] z (t .1) in
@@ -67,27 +68,26 @@ module _ (rules : Rules) (plain : PlainKinds rules) (S : Scope) (F : Formula) (D
         steps = t .0;
         written = l .0 ∙ append-nil (stepWords (t .0));
         lawful = l .1;
+        allowed = passes-unended rules S room (t .0) known ws [] (t .1);
         numbered = t .2;
         fits = λ f. rw (← t .2) (passes-fits rules S room (t .0) known ws [] (t .1) f);
       }
 
   pub lawful-run :
-      rules .afterwards ≡ none
-      → (steps : List Step) (known : List Words) → LawfulSteps F known steps → NoZeros known → length known + length steps ≤ room
+      (steps : List Step) (known : List Words) → LawfulSteps F known steps → Allowed rules known steps → NoZeros known → length known + length steps ≤ room
       → run rules S room known zero (stepWords steps) ≡ ended (numberedClauses known steps)
   unfolding run
-  lawful-run goes-on steps known l z f = passes-run rules S room steps known (stepWords steps) [] (lawful-passes goes-on steps known l z f)
+  lawful-run steps known l a z f = passes-run rules S room steps known (stepWords steps) [] (lawful-passes steps known l a z f)
 
   pub run-blocked :
-      (x : Blocker) → rules .afterwards ≢ some (Blocked x)
-      → (known : List Words) (ws : Words) (place : ℕ) → NoZeros known
+      (x : Blocker) (known : List Words) (ws : Words) (place : ℕ) → NoZeros known
       → run rules S room known zero ws ≡ refused (refusal (Blocked x) place)
       → RunBlocked F known ws place x
-  run-blocked x apart known ws place z h =
+  run-blocked x known ws place z h =
       let t = run-stopped rules S room known ws (refusal (Blocked x) place) h in
       let rest = t .1 .0 in
       let l = passes-lawful (t .0) known ws rest z (t .1 .1) in
-      let b = blocked-first rules S room (numberedClauses known (t .0)) x apart rest (t .1 .2) in
+      let b = blocked-first rules S room (numberedClauses known (t .0)) x rest (t .1 .2) in
       record {
         steps = t .0;
         lawful = l .1;

@@ -24,6 +24,8 @@ use Rattle.formula.specs.Decode.{clausesOf, clauseAt}
 use Rattle.formula.specs.Decode.Places.{clauses-place}
 use Rattle.checker.specs.Steps.{antecedent}
 use Rattle.checker.specs.Read.{statementOf}
+use Rattle.checker.specs.Empty.{isEmpty, firstEmpty, emptyNumber, emptyAfter}
+use Rattle.checker.specs.Empty.Laws.{emptyThen, empty-turns, empty-ends}
 use Rattle.checker.specs.Numbered.{numberOf, tableOf, placeOf, storedAt, stored, OffsetsFilled}
 
 -- An element by its place.
@@ -185,12 +187,27 @@ filling-turns clauses offsets n from h l k steps =
     ∙ ap (λ (Cs : List Words). stored (length (clausesOf clauses)) clauses steps offsets n ++ Cs) (sym (clauses-place clauses from l))
     ∙ h steps)
 
-pub filling-ends : (clauses : Words) (offsets : List ℕ) (n from : ℕ) → Filling clauses offsets n from → length clauses ≤ from → OffsetsFilled clauses offsets
+-- The first empty clause so far, 0 for none, and those from the place on.
+abbrev pub Finding : Words → ℕ → ℕ → ℕ → Type 0
+Finding clauses n empty from = emptyThen empty (firstEmpty (suc n) (clausesOf (drop from clauses))) ≡ emptyNumber (firstEmpty 1 (clausesOf clauses))
+
+pub finding-turns :
+    (clauses : Words) (n empty from : ℕ) → Finding clauses n empty from → from < length clauses
+    → Finding clauses (n + 1) (emptyAfter empty (isEmpty (clauseAt clauses from)) (n + 1)) (from + length (clauseAt clauses from) + 1)
+finding-turns clauses n empty from h l =
+    rw (add-one n)
+    (empty-turns empty n (clauseAt clauses from) (clausesOf (drop (from + length (clauseAt clauses from) + 1) clauses))
+    ∙ ap (λ (Cs : List Words). emptyThen empty (firstEmpty (suc n) Cs)) (sym (clauses-place clauses from l))
+    ∙ h)
+
+pub filling-ends :
+    (clauses : Words) (offsets : List ℕ) (n empty from : ℕ) → Filling clauses offsets n from → Finding clauses n empty from → length clauses ≤ from
+    → OffsetsFilled clauses empty offsets
 unfolding clausesOf
-filling-ends clauses offsets n from h l =
+filling-ends clauses offsets n empty from h f l =
     let nothing : drop from clauses ≡ [] = drop-of-length-le clauses l in
     let count : n ≡ length (clausesOf clauses) = let c = filling-count clauses offsets n from h in last (rw nothing at c) in
-    record { input-clauses = λ steps. (rw count at (whole steps)) }
+    record { input-clauses = λ steps. (rw count at (whole steps)); first-empty = sym (empty-ends empty (suc n)) ∙ (rw nothing at f) }
   where
     last : n + 0 ≡ length (clausesOf clauses) → n ≡ length (clausesOf clauses)
     last e = omega arith

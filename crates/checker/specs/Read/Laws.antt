@@ -14,13 +14,14 @@ use Rattle.checker.specs.Rules.{plainRules}
 use Rattle.checker.specs.declared.read.Kind.{Kind as KindRead}
 use Rattle.checker.specs.declared.read.Kind.the-variants.{Resolves, Reduces, Other}
 use Rattle.checker.specs.declared.read.Close.the-variants.{At, Missing}
+use Rattle.checker.specs.declared.read.StepKind.{StepKind}
 use Rattle.checker.specs.declared.read.StepKind.the-variants.{Resolution, Reduction}
 use Rattle.checker.specs.declared.read.StepRead.{StepRead}
 use Rattle.checker.specs.declared.read.Reading.the-variants.{Broken, Step as Fields}
 use Rattle.checker.specs.Words.{Words, sameWord, holds, isZero, closes}
 use Rattle.checker.specs.Words.Laws.{same-sound, zero-ends, literal-first}
 use Rattle.checker.specs.Steps.{Step, resolution, reduction, statedBy, sizeOf, Kind, resolves, reduces, other, kindOf, ifClosed, readFields, readStep}
-use Rattle.checker.specs.Read.{kindRead, kindIs, statementFrom, statementOf, closeIf, closedAt, fieldsOf, readingOf, stepOf}
+use Rattle.checker.specs.Read.{kindRead, kindIs, statementFrom, statementOf, closeIf, closedAt, fieldsOf, readingOf, stepBy, stepOf}
 
 -- The kind word, by two tests.
 pub kind-resolves : (w : ℤ) → sameWord w (pos 1) ≡ true → Resolves ≡ kindIs w
@@ -231,6 +232,14 @@ reading-step at (some s) r h = (s, refl, same r (fieldsOf at s) h)
 fields-step : (at : ℕ) (s : Step) → stepOf (fieldsOf at s) (statedBy s) ≡ s
 fields-step at (resolution i j e L) = refl
 fields-step at (reduction i a L) = refl
+
+-- The step that fields and a statement make up states it.
+pub stated-step : (r : StepRead) (L : Words) → statedBy (stepOf r L) ≡ L
+stated-step r L = go (r .kind)
+  where
+    go : (k : StepKind) → statedBy (stepBy k r L) ≡ L
+    go Resolution = refl
+    go Reduction = refl
 
 -- The fields with the statement at their place make up the step that was read.
 pub step-whole :

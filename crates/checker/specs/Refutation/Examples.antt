@@ -12,6 +12,7 @@ use Rattle.checker.specs.Rules.Laws.{plain-kinds}
 use Rattle.checker.specs.Lawful.{numberedClauses}
 use Rattle.checker.specs.Lawful.Laws.{numbered-length}
 use Rattle.checker.specs.Refutation.{Refutation, FirstEmpty, Within}
+use Rattle.checker.specs.Refutation.Ending.{accepting-refutation}
 use Rattle.checker.specs.Refutation.Laws.{refutation-zeros, refutation-within}
 use Rattle.checker.specs.Verdict.Accuracy.{accepted-refutation}
 use Rattle.checker.specs.Verdict.Exact.{accepted-exactly}
@@ -24,7 +25,7 @@ pub example-refutation :
 example-refutation =
     let a = accepted-refutation plainRules plain-kinds examplePrefix exampleClauses (exampleSteps (pos 4)) 8200 9 9 5 (positions .0) in
     let eight : a .place ≡ 8 = let e = a .place-numbered in omega arith in
-    (a .refutation, sym (a .counted), rw eight at (a .first-empty))
+    (accepting-refutation examplePrefix exampleClauses (exampleSteps (pos 4)) 8200 9 9 5 a, sym (a .counted), rw eight at (a .first-empty))
 
 pub damaged-no-refutation : Refutation examplePrefix exampleClauses (exampleSteps (pos 3)) → ⊥
 unfolding zeros clausesOf

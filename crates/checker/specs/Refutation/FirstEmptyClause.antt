@@ -1,19 +1,16 @@
--- Laws of the first empty clause: the search finds it and nothing else, and nothing exactly where no clause is empty. Definitions:
--- FirstEmpty of Refutation.antt, firstEmpty of Verdict.antt, someEmpty of Steps.antt. Assumes nothing.
+-- Laws of the first empty clause: the search finds it and nothing else. Definitions:
+-- FirstEmpty of Refutation.antt, firstEmpty of Empty.antt. Assumes nothing.
 use Prim.Native.Nat.{ℕ, zero, suc, _+_, _<_}
 use mathlib.Core.Path.{_≡_, refl, ap, _∙_}
-use mathlib.Core.Logic.{_⊎_, inl, inr}
-use mathlib.Core.Bool.{true, false≢true}
-use mathlib.Core.Option.{Option, none, some}
-use mathlib.Core.List.{List, [], _∷_, List·Memᴰ, List·Memᴰ·head, List·Memᴰ·tail, List·Memᴰ·not-nil, List·Memᴰ·cases-cons}
+use mathlib.Core.Option.{Option, some}
+use mathlib.Core.List.{List, [], _∷_, List·Memᴰ, List·Memᴰ·not-nil}
 use native.Mathlib.Omega.{arith}
-use lib.IntN.{ℤ}
 use lib.ListN.{getElem?}
 use Rattle.checker.specs.Words.{Words}
-use Rattle.checker.specs.Steps.{someEmpty}
 use Rattle.checker.specs.Lawful.Laws.{found-member}
 use Rattle.checker.specs.Refutation.{FirstEmpty}
-use Rattle.checker.specs.Verdict.{firstEmpty}
+use Rattle.checker.specs.Empty.{firstEmpty}
+use Rattle.checker.specs.Empty.Laws.{later-empty}
 
 -- The search for the first empty clause, `n` being the number of the first one here.
 found-from :
@@ -57,14 +54,6 @@ pub first-empty-complete : (known : List Words) (place : ℕ) → FirstEmpty kno
 first-empty-complete known place f =
     finds-from 1 place known (f .empty) (f .earlier) ∙ ap {B = Option ℕ} some (let q : 1 + place ≡ suc place = omega arith in q)
 
--- A clause after one that is not empty.
-later-empty : (x : ℤ) (C : Words) (known : List Words) → List·Memᴰ [] ((x ∷ C) ∷ known) → List·Memᴰ [] known
-later-empty x C known m = go (List·Memᴰ·cases-cons m)
-  where
-    go : (_≡_ {A = Words} [] (x ∷ C)) ⊎ List·Memᴰ [] known → List·Memᴰ [] known
-    go (inl e) = let z : _≡_ {A = ℕ} 0 1 = cc in absurd (omega arith)
-    go (inr k) = k
-
 -- Where some clause is empty, one is the first.
 empty-found : (n : ℕ) (known : List Words) → List·Memᴰ [] known → (m : ℕ) × (firstEmpty n known ≡ some m)
 unfolding firstEmpty
@@ -75,32 +64,6 @@ empty-found n ((x ∷ C) ∷ known) m = empty-found (suc n) known (later-empty x
 pub empty-first : (known : List Words) → List·Memᴰ [] known → (place : ℕ) × FirstEmpty known place
 empty-first known m = let t = empty-found 1 known m in let f = first-empty-sound known (t .0) (t .1) in (f .0, f .2)
 
--- Nothing is found exactly where no clause is empty.
-pub first-empty-none : (known : List Words) → firstEmpty 1 known ≡ none → List·Memᴰ [] known → ⊥
-first-empty-none known h m = let t = empty-found 1 known m in let e = t .1 in let z : _≡_ {A = ℕ} 0 1 = cc in omega arith
-
-none-from : (n : ℕ) (known : List Words) → (List·Memᴰ [] known → ⊥) → firstEmpty n known ≡ none
-unfolding firstEmpty
-none-from n [] h = refl
-none-from n ([] ∷ known) h = absurd (h (List·Memᴰ·head refl))
-none-from n ((x ∷ C) ∷ known) h = none-from (suc n) known (λ m. h (List·Memᴰ·tail m))
-
-pub none-first-empty : (known : List Words) → (List·Memᴰ [] known → ⊥) → firstEmpty 1 known ≡ none
-none-first-empty known h = none-from 1 known h
-
 -- The first empty clause is one of them.
 pub first-empty-member : (known : List Words) (place : ℕ) → FirstEmpty known place → List·Memᴰ [] known
 first-empty-member known place f = found-member known place [] (f .empty)
-
--- Some clause is empty, as the rules ask it.
-pub some-empty-sound : (known : List Words) → someEmpty known ≡ true → List·Memᴰ [] known
-unfolding someEmpty
-some-empty-sound [] h = absurd (false≢true h)
-some-empty-sound ([] ∷ known) h = List·Memᴰ·head refl
-some-empty-sound ((x ∷ C) ∷ known) h = List·Memᴰ·tail (some-empty-sound known h)
-
-pub some-empty-complete : (known : List Words) → List·Memᴰ [] known → someEmpty known ≡ true
-unfolding someEmpty
-some-empty-complete [] m = absurd (List·Memᴰ·not-nil m)
-some-empty-complete ([] ∷ known) m = refl
-some-empty-complete ((x ∷ C) ∷ known) m = some-empty-complete known (later-empty x C known m)

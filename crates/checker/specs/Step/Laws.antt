@@ -20,17 +20,17 @@ use Rattle.formula.specs.Tables.{Admitted}
 use Rattle.formula.specs.declared.literal.VariableFit.{VariableFit}
 use Rattle.formula.specs.declared.refusal.Reason.{Reason}
 use Rattle.formula.specs.declared.refusal.Reason.the-variants.{WrongPivot, BrokenStep, NoRoom}
-use Rattle.checker.specs.Rules.{plainRules}
 use Rattle.checker.specs.Words.{Words, holds, AllWords, InRange, AllInRange}
 use Rattle.formula.specs.Decode.{clauseAt}
 use Rattle.checker.specs.declared.result.Judgement.{Judgement}
 use Rattle.checker.specs.declared.result.Judgement.the-variants.{Right, Wrong}
 use Rattle.checker.specs.declared.step.StepAnswer.the-variants.{Right as RightStep, Wrong as WrongStep}
-use Rattle.checker.specs.Steps.{Scope, Step, resolution, sizeOf, readStep, antecedent, resolvent, positiveExistential, demand, judgeResolution, judge, judgeFirst}
+use Rattle.checker.specs.Steps.{Scope, Step, resolution, statedBy, sizeOf, antecedent, resolvent, positiveExistential, demand, judgeResolution, judge, judgeRead}
 use Rattle.checker.specs.Lawful.Laws.{found-member}
 use Rattle.checker.specs.Verdict.{scopeOf}
 use Rattle.checker.specs.Numbered.{tableOf, placeOf, storedAt, stored}
 use Rattle.checker.specs.Numbered.Laws.{stored-get}
+use Rattle.checker.specs.Empty.{isEmpty}
 use Rattle.checker.specs.Read.{fieldsOf}
 use Rattle.checker.specs.Marks.{marksIn}
 use Rattle.checker.specs.Marks.Laws.{marks-cleared}
@@ -164,21 +164,17 @@ module _ (prefix clauses : List ℤ) (a : Admitted prefix clauses) where
       }
 
 -- The step's answer, by what was read and judged.
-module _ (S : Scope) (room : ℕ) (known : List Words) (ws : Words) (at kept : ℕ) where
-  pub step-broken : readStep plainRules ws ≡ none → WrongStep BrokenStep ≡ stepAnswer at kept (judgeFirst plainRules S room known ws)
-  unfolding judgeFirst
+module _ (S : Scope) (room : ℕ) (known : List Words) (o : Option Step) (at kept : ℕ) where
+  pub step-broken : o ≡ none → WrongStep BrokenStep ≡ stepAnswer at kept (judgeRead S room known o)
   step-broken e = rw e
 
-  pub step-no-room : (s : Step) → readStep plainRules ws ≡ some s → room ≤ length known → WrongStep NoRoom ≡ stepAnswer at kept (judgeFirst plainRules S room known ws)
-  unfolding judgeFirst
+  pub step-no-room : (s : Step) → o ≡ some s → room ≤ length known → WrongStep NoRoom ≡ stepAnswer at kept (judgeRead S room known o)
   step-no-room s e h = rw (e, le-ltb (length known) room h)
 
-  pub step-right : (s : Step) → readStep plainRules ws ≡ some s → length known < room → judge S known s ≡ none → RightStep (at + sizeOf s) (keptAfter (fieldsOf at s) kept) ≡ stepAnswer at kept (judgeFirst plainRules S room known ws)
-  unfolding judgeFirst
+  pub step-right : (s : Step) → o ≡ some s → length known < room → judge S known s ≡ none → RightStep (at + sizeOf s) (keptAfter (fieldsOf at s) kept) (isEmpty (statedBy s)) ≡ stepAnswer at kept (judgeRead S room known o)
   step-right s e h j = rw (e, lt-ltb (length known) room h, j)
 
-  pub step-wrong : (s : Step) (r : Reason) → readStep plainRules ws ≡ some s → length known < room → judge S known s ≡ some r → WrongStep r ≡ stepAnswer at kept (judgeFirst plainRules S room known ws)
-  unfolding judgeFirst
+  pub step-wrong : (s : Step) (r : Reason) → o ≡ some s → length known < room → judge S known s ≡ some r → WrongStep r ≡ stepAnswer at kept (judgeRead S room known o)
   step-wrong s r e h j = rw (e, lt-ltb (length known) room h, j)
 
 pub judgement-right : (o : Option Reason) → Right ≡ judgementOf o → o ≡ none

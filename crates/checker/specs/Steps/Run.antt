@@ -3,11 +3,11 @@
 use Prim.Native.Nat.{ℕ, zero, suc, _≤_, _<_}
 use mathlib.Core.Path.{_≡_, refl, ap, sym, _∙_}
 use mathlib.Core.Logic.{_≢_}
-use mathlib.Core.Bool.{Bool, true, false}
+use mathlib.Core.Bool.{Bool, true, false, not, _&&_, false≢true}
 use mathlib.Core.Option.{Option, none, some}
 use mathlib.Core.List.{List, [], _∷_, _++_, append-nil}
 use native.Mathlib.Omega.{arith}
-use borrow.Author.Tests.{ltb-true, lt-ltb}
+use borrow.Author.Tests.{ltb-true, lt-ltb, not-true}
 use lib.Dec.{ltb}
 use lib.ListN.{length, drop}
 use lib.IntN.{ℤ}
@@ -15,7 +15,7 @@ use Rattle.formula.specs.Refusal.{refusal}
 use Rattle.formula.specs.declared.refusal.Blocker.{Blocker}
 use Rattle.formula.specs.declared.refusal.Reason.{Reason}
 use Rattle.formula.specs.declared.refusal.Refusal.{Refusal}
-use Rattle.formula.specs.declared.refusal.Reason.the-variants.{NoRoom, BrokenStep, Blocked}
+use Rattle.formula.specs.declared.refusal.Reason.the-variants.{NoRoom, Blocked, Afterword}
 use Rattle.checker.specs.Rules.{Rules}
 use Rattle.formula.specs.Refusal.Laws.{require-passed}
 use Rattle.checker.specs.Words.{Words}
@@ -31,8 +31,6 @@ use Rattle.checker.specs.Steps.{
   wrong,
   judgedAs,
   judgeRead,
-  someEmpty,
-  refuseAfter,
   judgeFirst,
   Outcome,
   ended,
@@ -41,7 +39,9 @@ use Rattle.checker.specs.Steps.{
   run,
 }
 use Rattle.checker.specs.Steps.Written.{size-positive}
-use Rattle.checker.specs.Lawful.{numberedClauses}
+use Rattle.checker.specs.Empty.{someEmpty}
+use Rattle.checker.specs.Empty.Laws.{some-empty-complete}
+use Rattle.checker.specs.Lawful.{numberedClauses, Allowed}
 use Rattle.checker.specs.Lawful.Laws.{length-snoc, numbered-step}
 
 -- To skip words is to run the others.
@@ -52,16 +52,22 @@ run-skip rules S room known (suc skip) [] = refl
 run-skip rules S room known zero (w ∷ ws) = refl
 run-skip rules S room known (suc skip) (w ∷ ws) = run-skip rules S room known skip ws
 
--- A right step was not refused for where it stands.
-after-right : (o : Option Reason) (b : Bool) (j : Judged) (s : Step) → refuseAfter o b j ≡ right s → j ≡ right s
-after-right none b j s h = h
-after-right (some r) true j s h = let z : _≡_ {A = ℕ} 0 1 = cc in absurd (omega arith)
-after-right (some r) false j s h = h
-
+-- A step that was not refused for where it stands.
 module _ (rules : Rules) (S : Scope) (room : ℕ) (known : List Words) where
-  nothing-right : (s : Step) → judgeFirst rules S room known [] ≡ right s → ⊥
-  unfolding judgeFirst readStep
-  nothing-right s h = let e = after-right (rules .afterwards) (someEmpty known) (wrong BrokenStep) s h in let z : _≡_ {A = ℕ} 0 1 = cc in omega arith
+  first-passed :
+      (ws : Words) (j : Judged) → wrong Afterword ≢ j → judgeFirst rules S room known ws ≡ j
+      → ((rules .strict && someEmpty known) ≡ false) × (judgeRead S room known (readStep rules ws) ≡ j)
+  unfolding judgeFirst
+  first-passed ws j n h =
+      let p = require-passed (not (rules .strict && someEmpty known)) (wrong Afterword) (judgeRead S room known (readStep rules ws)) j n h in
+      (not-true (rules .strict && someEmpty known) (p .0), p .1)
+
+  first-right : (ws : Words) (s : Step) → judgeFirst rules S room known ws ≡ right s → ((rules .strict && someEmpty known) ≡ false) × (judgeRead S room known (readStep rules ws) ≡ right s)
+  first-right ws s h = first-passed ws (right s) (λ q. let z : _≡_ {A = ℕ} 0 1 = cc in omega arith) h
+
+  pub nothing-right : (s : Step) → judgeFirst rules S room known [] ≡ right s → ⊥
+  unfolding readStep
+  nothing-right s h = let e = first-right [] s h .1 in let z : _≡_ {A = ℕ} 0 1 = cc in omega arith
 
   -- A right step, and on with the words after it.
   pub run-right :
@@ -86,28 +92,18 @@ pub record Rightly (rules : Rules) (S : Scope) (room : ℕ) (known : List Words)
 same-reason : (q r : Reason) → _≡_ {A = Judged} (wrong r) (wrong q) → _≡_ {A = Option Reason} (some r) (some q)
 same-reason q r e = cc
 
-after-reason : (q : Reason) (o : Option Reason) (b : Bool) (j : Judged) → o ≢ some q → refuseAfter o b j ≡ wrong q → j ≡ wrong q
-after-reason q none b j n h = h
-after-reason q (some r) true j n h = absurd (n (same-reason q r h))
-after-reason q (some r) false j n h = h
-
 module _ (rules : Rules) (S : Scope) (room : ℕ) (known : List Words) where
-  -- Where the rules have a reason against steps after an empty clause: it comes ahead of all else, and before one it says nothing.
-  pub after-refused : (r : Reason) → rules .afterwards ≡ some r → someEmpty known ≡ true → (ws : Words) → judgeFirst rules S room known ws ≡ wrong r
+  -- Where no step may stand, that comes ahead of all else, and where one may it says nothing.
+  pub after-refused : (rules .strict && someEmpty known) ≡ true → (ws : Words) → judgeFirst rules S room known ws ≡ wrong Afterword
   unfolding judgeFirst
-  after-refused r a e ws = ap (λ (o : Option Reason). refuseAfter o (someEmpty known) (judgeRead S room known (readStep rules ws))) a ∙ rw e
+  after-refused e ws = rw e
 
-  pub before-judged : someEmpty known ≡ false → (ws : Words) → judgeFirst rules S room known ws ≡ judgeRead S room known (readStep rules ws)
+  pub before-judged : (rules .strict && someEmpty known) ≡ false → (ws : Words) → judgeFirst rules S room known ws ≡ judgeRead S room known (readStep rules ws)
   unfolding judgeFirst
-  before-judged e ws = go (rules .afterwards)
-    where
-      go : (o : Option Reason) → refuseAfter o (someEmpty known) (judgeRead S room known (readStep rules ws)) ≡ judgeRead S room known (readStep rules ws)
-      go none = refl
-      go (some r) = rw e
+  before-judged e ws = rw e
 
   pub rightly : (ws : Words) (s : Step) → judgeFirst rules S room known ws ≡ right s → Rightly rules S room known ws s
-  unfolding judgeFirst
-  rightly ws s h = go (readStep rules ws) refl (after-right (rules .afterwards) (someEmpty known) (judgeRead S room known (readStep rules ws)) s h)
+  rightly ws s h = go (readStep rules ws) refl (first-right rules S room known ws s h .1)
     where
       same : (t u : Step) → _≡_ {A = Judged} (right t) (right u) → t ≡ u
       same t u e = cc
@@ -125,18 +121,19 @@ module _ (rules : Rules) (S : Scope) (room : ℕ) (known : List Words) where
           judging t (judge S known t) refl e (ltb-true (length known) room (p .0)) (p .1)
 
   pub right-first :
-      rules .afterwards ≡ none
+      (rules .strict && someEmpty known) ≡ false
       → (ws : Words) (s : Step) → readStep rules ws ≡ some s → length known < room → judge S known s ≡ none
       → judgeFirst rules S room known ws ≡ right s
-  unfolding judgeFirst
-  right-first goes-on ws s e f j =
-      ap (λ (o : Option Reason). refuseAfter o (someEmpty known) (judgeRead S room known (readStep rules ws))) goes-on ∙ rw (e, lt-ltb (length known) room f, j)
+  right-first may ws s e f j = before-judged may ws ∙ rw (e, lt-ltb (length known) room f, j)
+
+  -- A right step stands after no empty clause, by strict rules.
+  pub right-open : rules .strict ≡ true → (ws : Words) (s : Step) → judgeFirst rules S room known ws ≡ right s → someEmpty known ≡ false
+  right-open a ws s h = ap (λ (b : Bool). b && someEmpty known) (sym a) ∙ first-right rules S room known ws s h .0
 
   -- A step that was refused as blocked was read, and judged so.
-  module _ (x : Blocker) (apart : rules .afterwards ≢ some (Blocked x)) where
+  module _ (x : Blocker) where
     pub blocked-first : (ws : Words) → judgeFirst rules S room known ws ≡ wrong (Blocked x) → (s : Step) × (readStep rules ws ≡ some s) × (judge S known s ≡ some (Blocked x))
-    unfolding judgeFirst
-    blocked-first ws h = go (readStep rules ws) refl (after-reason (Blocked x) (rules .afterwards) (someEmpty known) (judgeRead S room known (readStep rules ws)) apart h)
+    blocked-first ws h = go (readStep rules ws) refl (first-passed rules S room known ws (wrong (Blocked x)) (λ q. let z : _≡_ {A = ℕ} 0 1 = cc in omega arith) h .1)
       where
         judging : (t : Step) (o : Option Reason) → judge S known t ≡ o → readStep rules ws ≡ some t → judgedAs t o ≡ wrong (Blocked x) → (s : Step) × (readStep rules ws ≡ some s) × (judge S known s ≡ some (Blocked x))
         judging t none j e k = let z : _≡_ {A = ℕ} 0 1 = cc in absurd (omega arith)
@@ -184,6 +181,14 @@ module _ (rules : Rules) (S : Scope) (room : ℕ) where
   passes-fits (s ∷ steps) known ws rest p f =
       rw (← numbered-step known s steps)
       (passes-fits steps (known ++ (statedBy s ∷ [])) (drop (sizeOf s) ws) rest (p .1) (rw (length-snoc known (statedBy s)) (rightly rules S room known ws s (p .0) .fits)))
+
+  -- By strict rules no step that passes stands after an empty clause.
+  pub passes-unended : (steps : List Step) (known : List Words) (ws rest : Words) → Passes rules S room known ws steps rest → Allowed rules known steps
+  passes-unended [] known ws rest p a = tt
+  passes-unended (s ∷ steps) known ws rest p a = (
+    λ m. false≢true (sym (right-open rules S room known a ws s (p .0)) ∙ some-empty-complete known m),
+    passes-unended steps (known ++ (statedBy s ∷ [])) (drop (sizeOf s) ws) rest (p .1) a,
+  )
 
   pub run-passage : (known : List Words) (skip : ℕ) (ws : Words) → Passage rules S room known (drop skip ws)
   run-passage known zero [] = record { steps = []; rest = []; passes = refl; left = nothing }

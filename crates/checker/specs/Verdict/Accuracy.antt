@@ -1,5 +1,5 @@
 -- What an accepted verdict says (01, "Steps"; wish 2) and what makes it, with nothing supposed of tables or room, by any rules that
--- write steps with the kinds 1 and 2; Exact.antt has the wish as its sentence, by 01's. The verdict is blocked only where an existential of the clause depends, and what
+-- write steps with the kinds 1 and 2; Exact.antt has the wish as its sentence, by the checker's. The verdict is blocked only where an existential of the clause depends, and what
 -- blocks is an entry of the prefix. And wish 3 for the checker: an accepted proof makes the game lost. Assumes nothing.
 use Prim.Native.Nat.{ℕ, zero, suc, _+_, _-_, _*_, _≤_, _<_}
 use mathlib.Core.Path.{_≡_, refl, ap, sym, _∙_}
@@ -40,9 +40,11 @@ use Rattle.checker.specs.Lawful.Laws.{numbered-length}
 use Rattle.checker.specs.Lawful.Steps.{run-lawful, lawful-run, run-blocked, RunEnds}
 use Rattle.checker.specs.Derived.{AllDerived}
 use Rattle.checker.specs.Derived.Laws.{lawful-steps-derived, derived-lost}
-use Rattle.checker.specs.Refutation.{Refutation, FirstEmpty, Accepting}
+use Rattle.checker.specs.Refutation.{Accepting}
 use Rattle.checker.specs.Refutation.FirstEmptyClause.{first-empty-sound, first-empty-complete, first-empty-member}
-use Rattle.checker.specs.Verdict.{scopeOf, firstEmpty, concluded, conclude, ifAdmitted, sizedVerdict, verdictOf}
+use Rattle.checker.specs.Verdict.{scopeOf, conclusion, concluded, conclude, ifAdmitted, sizedVerdict, verdictOf}
+use Rattle.checker.specs.Empty.{firstEmpty}
+use Rattle.checker.specs.Verdict.Conclusion.{run-conclusion}
 use Rattle.checker.specs.Verdict.TableScope.{scope-decides}
 
 -- The order of refusals, taken apart.
@@ -81,7 +83,7 @@ module _ (rules : Rules) (plain : PlainKinds rules) (prefix clauses steps : List
   abbrev F : Formula
   F = formulaOf prefix clauses
 
-  pub passed-verdict : Passed rules prefix clauses steps scratch room → verdictOf rules prefix clauses steps scratch room ≡ conclude (zeros clauses) outcome
+  pub passed-verdict : Passed rules prefix clauses steps scratch room → verdictOf rules prefix clauses steps scratch room ≡ conclude rules (zeros clauses) outcome
   unfolding verdictOf sizedVerdict
   passed-verdict p =
       rw (
@@ -92,10 +94,10 @@ module _ (rules : Rules) (plain : PlainKinds rules) (prefix clauses steps : List
       )
 
   -- A verdict that no test before the steps gave: those refuse with numbers up to 9.
-  verdict-passed :
+  pub verdict-passed :
       (v : Verdict) → ((q : Refusal) → number (q .reason) ≤ 9 → v ≢ Refused q)
       → verdictOf rules prefix clauses steps scratch room ≡ v
-      → Passed rules prefix clauses steps scratch room × (conclude (zeros clauses) outcome ≡ v)
+      → Passed rules prefix clauses steps scratch room × (conclude rules (zeros clauses) outcome ≡ v)
   unfolding verdictOf sizedVerdict
   verdict-passed v n h =
       let a = admitted-passed (tablesRefusal prefix clauses) _ v (λ r e. n r (tables-refused prefix clauses r e .early)) h in
@@ -114,7 +116,11 @@ module _ (rules : Rules) (plain : PlainKinds rules) (prefix clauses steps : List
       test : (b : Bool) (q : Refusal) → number (q .reason) ≤ 9 → (later : Verdict) → require b (Refused q) later ≡ v → (b ≡ true) × (later ≡ v)
       test b q small later e = require-passed b (Refused q) later v (λ k. n q small (sym k)) e
 
-  accepted-apart : (n m : ℕ) (q : Refusal) → Accepted (record { 0 = n }) m ≢ Refused q
+  -- What a run that ended concludes with is its first empty clause.
+  pub ended-conclusion : Admitted prefix clauses → (final : List Words) → outcome ≡ ended final → conclusion (rules .strict) (zeros clauses) final ≡ firstEmpty 1 final
+  ended-conclusion a final e = rw (← admitted-closed prefix clauses a) (run-conclusion rules (scopeOf prefix clauses) room (clausesOf clauses) steps final e)
+
+  pub accepted-apart : (n m : ℕ) (q : Refusal) → Accepted (record { 0 = n }) m ≢ Refused q
   accepted-apart n m q e = let z : _≡_ {A = ℕ} 0 1 = cc in omega arith
 
   -- Clauses of the table hold no 0.
@@ -131,9 +137,9 @@ module _ (rules : Rules) (plain : PlainKinds rules) (prefix clauses steps : List
     where
       finish :
           Passed rules prefix clauses steps scratch room
-          → (final : List Words) → RunEnds F room final (clausesOf clauses) steps
+          → (final : List Words) → RunEnds rules F room final (clausesOf clauses) steps
           → (o : Option ℕ) → firstEmpty 1 final ≡ o
-          → concluded (zeros clauses) final o ≡ Accepted (record { 0 = n }) m
+          → concluded (zeros clauses) (length final) o ≡ Accepted (record { 0 = n }) m
           → Accepting rules prefix clauses steps scratch room n m
       finish p final ends none f k = absurd (accepted-apart n m (refusal NoConclusion (length final)) (sym k))
       finish p final ends (some k) f q =
@@ -146,13 +152,10 @@ module _ (rules : Rules) (plain : PlainKinds rules) (prefix clauses steps : List
             admitted = p .admitted;
             sized = p .sized;
             scratch-fits = p .scratch-fits;
-            refutation =
-                record {
-                  steps = ends .steps;
-                  written = ends .written;
-                  lawful = ends .lawful;
-                  some-empty = rw (ends .numbered) (first-empty-member final (first .0) (first .2));
-                };
+            steps = ends .steps;
+            written = ends .written;
+            lawful = ends .lawful;
+            allowed = ends .allowed;
             offsets-fit = rw (ends .numbered) (ends .fits (rw inputs (p .inputs-fit)));
             place = first .0;
             place-numbered = sym (same .0) ∙ first .1;
@@ -160,27 +163,28 @@ module _ (rules : Rules) (plain : PlainKinds rules) (prefix clauses steps : List
             counted = omega arith;
           }
 
-      go : Passed rules prefix clauses steps scratch room → (o : Outcome) → outcome ≡ o → conclude (zeros clauses) o ≡ Accepted (record { 0 = n }) m → Accepting rules prefix clauses steps scratch room n m
+      go : Passed rules prefix clauses steps scratch room → (o : Outcome) → outcome ≡ o → conclude rules (zeros clauses) o ≡ Accepted (record { 0 = n }) m → Accepting rules prefix clauses steps scratch room n m
       go p (ended final) e k =
-          finish p final (run-lawful rules plain (scopeOf prefix clauses) F (scope-decides prefix clauses) room final (clausesOf clauses) steps inputs-no-zero e) (firstEmpty 1 final) refl k
+          finish p final (run-lawful rules plain (scopeOf prefix clauses) F (scope-decides prefix clauses) room final (clausesOf clauses) steps inputs-no-zero e) (firstEmpty 1 final) refl
+          (ap (concluded (zeros clauses) (length final)) (sym (ended-conclusion (p .admitted) final e)) ∙ k)
       go p (refused r) e k = absurd (accepted-apart n m r (sym k))
 
-  -- A refutation is accepted, where steps may follow an empty clause.
+  -- A refutation whose steps may stand where they do is accepted.
   pub refutation-accepted :
-      rules .afterwards ≡ none → (n m : ℕ) → Accepting rules prefix clauses steps scratch room n m
+      (n m : ℕ) → Accepting rules prefix clauses steps scratch room n m
       → verdictOf rules prefix clauses steps scratch room ≡ Accepted (record { 0 = n }) m
-  refutation-accepted goes-on n m r =
-      let list = r .refutation .steps in
+  refutation-accepted n m r =
+      let list = r .steps in
       let known = numberedClauses (clausesOf clauses) list in
       let fits = r .offsets-fit in
       let inputs : length (clausesOf clauses) ≡ zeros clauses = admitted-closed prefix clauses (r .admitted) in
       let size : length known ≡ length (clausesOf clauses) + length list = numbered-length (clausesOf clauses) list in
       let ran : outcome ≡ ended known =
-      rw (r .refutation .written) (lawful-run rules plain (scopeOf prefix clauses) F (scope-decides prefix clauses) room goes-on list (clausesOf clauses) (r .refutation .lawful) inputs-no-zero (omega arith)) in
+      rw (r .written) (lawful-run rules plain (scopeOf prefix clauses) F (scope-decides prefix clauses) room list (clausesOf clauses) (r .lawful) (r .allowed) inputs-no-zero (omega arith)) in
       let first : firstEmpty 1 known ≡ some n = first-empty-complete known (r .place) (r .first-empty) ∙ ap {B = Option ℕ} some (sym (r .place-numbered)) in
       let counts : length known - zeros clauses ≡ m = let c = r .counted in omega arith in
       passed-verdict (record { admitted = r .admitted; sized = r .sized; scratch-fits = r .scratch-fits; inputs-fit = omega arith })
-      ∙ rw (ran, first, counts)
+      ∙ rw (ran, ended-conclusion (r .admitted) known ran, first, counts)
 
   -- The refusal of a blocked step comes behind those tests.
   blocked-late : (x : Blocker) (place : ℕ) (q : Refusal) → number (q .reason) ≤ 9 → Refused (refusal (Blocked x) place) ≢ Refused q
@@ -191,32 +195,32 @@ module _ (rules : Rules) (plain : PlainKinds rules) (prefix clauses steps : List
 
   -- Refused as blocked: after lawful steps stands a reduction whose clause holds an existential that depends.
   pub blocked-depends :
-      (x : Blocker) → rules .afterwards ≢ some (Blocked x) → (place : ℕ) → verdictOf rules prefix clauses steps scratch room ≡ Refused (refusal (Blocked x) place)
+      (x : Blocker) (place : ℕ) → verdictOf rules prefix clauses steps scratch room ≡ Refused (refusal (Blocked x) place)
       → RunBlocked F (clausesOf clauses) steps place x
-  blocked-depends x apart place h = go outcome refl (verdict-passed (Refused (refusal (Blocked x) place)) (blocked-late x place) h .1)
+  blocked-depends x place h = go outcome refl (verdict-passed (Refused (refusal (Blocked x) place)) (blocked-late x place) h .1)
     where
       same : (a b : Refusal) → _≡_ {A = Verdict} (Refused a) (Refused b) → a ≡ b
       same a b e = cc
 
-      finish : (final : List Words) (o : Option ℕ) → concluded (zeros clauses) final o ≡ Refused (refusal (Blocked x) place) → ⊥
+      finish : (final : List Words) (o : Option ℕ) → concluded (zeros clauses) (length final) o ≡ Refused (refusal (Blocked x) place) → ⊥
       finish final none e =
           let q : NoConclusion ≡ Blocked x = ap (λ (r : Refusal). r .reason) (same (refusal NoConclusion (length final)) (refusal (Blocked x) place) e) in
           let z : _≡_ {A = ℕ} 0 1 = cc in
           omega arith
       finish final (some n) e = let z : _≡_ {A = ℕ} 0 1 = cc in omega arith
 
-      go : (o : Outcome) → outcome ≡ o → conclude (zeros clauses) o ≡ Refused (refusal (Blocked x) place) → RunBlocked F (clausesOf clauses) steps place x
-      go (ended final) e k = absurd (finish final (firstEmpty 1 final) k)
+      go : (o : Outcome) → outcome ≡ o → conclude rules (zeros clauses) o ≡ Refused (refusal (Blocked x) place) → RunBlocked F (clausesOf clauses) steps place x
+      go (ended final) e k = absurd (finish final (conclusion (rules .strict) (zeros clauses) final) k)
       go (refused r) e k =
-          run-blocked rules plain (scopeOf prefix clauses) F (scope-decides prefix clauses) room x apart (clausesOf clauses) steps place inputs-no-zero
+          run-blocked rules plain (scopeOf prefix clauses) F (scope-decides prefix clauses) room x (clausesOf clauses) steps place inputs-no-zero
           (e ∙ ap refused (same r (refusal (Blocked x) place) k))
 
   -- What blocks is an entry of the prefix: its three words are the variable, 1 and the block.
   pub blocked-entry :
-      (x : Blocker) → rules .afterwards ≢ some (Blocked x) → (place : ℕ) → verdictOf rules prefix clauses steps scratch room ≡ Refused (refusal (Blocked x) place)
+      (x : Blocker) (place : ℕ) → verdictOf rules prefix clauses steps scratch room ≡ Refused (refusal (Blocked x) place)
       → BlockerEntry prefix x
-  blocked-entry x apart place h =
-      let r = blocked-depends x apart place h in
+  blocked-entry x place h =
+      let r = blocked-depends x place h in
       named (verdict-passed (Refused (refusal (Blocked x) place)) (blocked-late x place) h .0 .admitted) (numberedClauses (clausesOf clauses) (r .steps)) (r .blocked) (r .blocks)
     where
       named : Admitted prefix clauses → (known : List Words) (s : Step) → BlockedStep F known s x → BlockerEntry prefix x
@@ -254,6 +258,6 @@ module _ (rules : Rules) (plain : PlainKinds rules) (prefix clauses steps : List
   pub accepted-lost : (n m : ℕ) → verdictOf rules prefix clauses steps scratch room ≡ Accepted (record { 0 = n }) m → Lost F
   accepted-lost n m h =
       let r = accepted-refutation n m h in
-      let derived = lawful-steps-derived F (clausesOf clauses) (r .refutation .steps) (r .refutation .lawful) (inputs-derived (r .admitted)) in
-      let empty = derived [] (r .refutation .some-empty) in
+      let derived = lawful-steps-derived F (clausesOf clauses) (r .steps) (r .lawful) (inputs-derived (r .admitted)) in
+      let empty = derived [] (first-empty-member (numberedClauses (clausesOf clauses) (r .steps)) (r .place) (r .first-empty)) in
       derived-lost F (admitted-proper prefix clauses (r .admitted)) (empty .0) (empty .1)

@@ -1,57 +1,54 @@
 -- Wish 2 as its sentence: within 01's bounds and room, on tables that 01 admits, the verdict is accepted exactly when the step
--- words are a refutation; its two numbers are then those of the refutation; and refused as blocked only where a path of each
+-- words are a refutation, whose last clause, or without steps some input clause, is empty; its two numbers are then those of the refutation
+-- (that the first is C + steps is in Ending.antt); and refused as blocked only where a path of each
 -- sign exists. Definitions: Refutation.antt. Assumes nothing.
 use Prim.Native.Nat.{ℕ, suc}
 use mathlib.Core.Path.{_≡_, refl, sym, _∙_}
-use mathlib.Core.Logic.{_↔_, _≢_}
-use mathlib.Core.Option.{Option, none, some}
+use mathlib.Core.Logic.{_↔_}
 use mathlib.Core.List.{List}
-use native.Mathlib.Omega.{arith}
 use lib.ListN.{length}
 use lib.IntN.{ℤ}
 use Rattle.formula.specs.Decode.{clausesOf, formulaOf}
 use Rattle.formula.specs.Refusal.{refusal}
 use Rattle.formula.specs.declared.refusal.Blocker.{Blocker}
-use Rattle.formula.specs.declared.refusal.Reason.{Reason}
 use Rattle.formula.specs.declared.refusal.Reason.the-variants.{Blocked}
 use Rattle.formula.specs.Tables.{Admitted}
-use Rattle.checker.specs.declared.verdict.Verdict.{Verdict}
 use Rattle.checker.specs.declared.verdict.Verdict.the-variants.{Accepted, Refused}
 use Rattle.checker.specs.Rules.{plainRules}
 use Rattle.checker.specs.Rules.Laws.{plain-kinds}
 use Rattle.checker.specs.Lawful.{numberedClauses, RunBlocked, BlockerEntry}
 use Rattle.checker.specs.Refutation.{Refutation, FirstEmpty, Within}
+use Rattle.checker.specs.Refutation.Ending.{ends-some, accepting-refutation}
 use Rattle.checker.specs.Refutation.FirstEmptyClause.{empty-first}
 use Rattle.checker.specs.Verdict.{verdictOf, IsAccepted}
 use Rattle.checker.specs.Verdict.Accuracy.{numbers-same, accepted-refutation, refutation-accepted, blocked-depends, blocked-entry}
-
--- No reason of 01's rules follows an empty clause.
-apart : (x : Blocker) → _≢_ {A = Option Reason} none (some (Blocked x))
-apart x e = let z : _≡_ {A = ℕ} 0 1 = cc in omega arith
 
 -- After lawful steps stands a reduction whose clause holds an existential that depends, and what blocks is named.
 pub refused-blocked-depends :
     (prefix clauses words : List ℤ) (scratch offsets place : ℕ) (x : Blocker) → verdictOf plainRules prefix clauses words scratch offsets ≡ Refused (refusal (Blocked x) place)
     → RunBlocked (formulaOf prefix clauses) (clausesOf clauses) words place x
-refused-blocked-depends prefix clauses words scratch offsets place x = blocked-depends plainRules plain-kinds prefix clauses words scratch offsets x (apart x) place
+refused-blocked-depends prefix clauses words scratch offsets place x = blocked-depends plainRules plain-kinds prefix clauses words scratch offsets x place
 
 -- What blocks is an entry of the prefix: its three words are the variable, 1 and the block.
 pub refused-blocked-entry :
     (prefix clauses words : List ℤ) (scratch offsets place : ℕ) (x : Blocker) → verdictOf plainRules prefix clauses words scratch offsets ≡ Refused (refusal (Blocked x) place)
     → BlockerEntry prefix x
-refused-blocked-entry prefix clauses words scratch offsets place x = blocked-entry plainRules plain-kinds prefix clauses words scratch offsets x (apart x) place
+refused-blocked-entry prefix clauses words scratch offsets place x = blocked-entry plainRules plain-kinds prefix clauses words scratch offsets x place
 
 module _ (prefix clauses words : List ℤ) (scratch offsets : ℕ) (admitted : Admitted prefix clauses) (within : Within clauses words scratch offsets) where
   refuted :
       (r : Refutation prefix clauses words) (place : ℕ) → FirstEmpty (numberedClauses (clausesOf clauses) (r .steps)) place
       → verdictOf plainRules prefix clauses words scratch offsets ≡ Accepted (record { 0 = suc place }) (length (r .steps))
   refuted r place f =
-      refutation-accepted plainRules plain-kinds prefix clauses words scratch offsets refl (suc place) (length (r .steps))
+      refutation-accepted plainRules plain-kinds prefix clauses words scratch offsets (suc place) (length (r .steps))
       (record {
         admitted = admitted;
         sized = within .sized;
         scratch-fits = within .scratch-fits;
-        refutation = r;
+        steps = r .steps;
+        written = r .written;
+        lawful = r .lawful;
+        allowed = λ q. r .unended;
         offsets-fit = within .offsets-fit (r .steps) (r .written);
         place = place;
         place-numbered = refl;
@@ -61,8 +58,8 @@ module _ (prefix clauses words : List ℤ) (scratch offsets : ℕ) (admitted : A
 
   pub accepted-exactly : IsAccepted (verdictOf plainRules prefix clauses words scratch offsets) ↔ Refutation prefix clauses words
   accepted-exactly = (
-    λ a. accepted-refutation plainRules plain-kinds prefix clauses words scratch offsets (a .empty) (a .count) (a .accepted) .refutation,
-    λ r. let f = empty-first (numberedClauses (clausesOf clauses) (r .steps)) (r .some-empty) in
+    λ a. accepting-refutation prefix clauses words scratch offsets (a .empty) (a .count) (accepted-refutation plainRules plain-kinds prefix clauses words scratch offsets (a .empty) (a .count) (a .accepted)),
+    λ r. let f = empty-first (numberedClauses (clausesOf clauses) (r .steps)) (ends-some (r .steps) (clausesOf clauses) (r .ends-empty)) in
         record { empty = suc (f .0); count = length (r .steps); accepted = refuted r (f .0) (f .1) },
   )
 
@@ -72,6 +69,6 @@ module _ (prefix clauses words : List ℤ) (scratch offsets : ℕ) (admitted : A
       → (r : Refutation prefix clauses words)
       → (count ≡ length (r .steps)) × ((place : ℕ) × (empty ≡ suc place) × FirstEmpty (numberedClauses (clausesOf clauses) (r .steps)) place)
   accepted-numbers empty count h r =
-      let f = empty-first (numberedClauses (clausesOf clauses) (r .steps)) (r .some-empty) in
+      let f = empty-first (numberedClauses (clausesOf clauses) (r .steps)) (ends-some (r .steps) (clausesOf clauses) (r .ends-empty)) in
       let same = numbers-same empty count (suc (f .0)) (length (r .steps)) (sym h ∙ refuted r (f .0) (f .1)) in
       (same .1, (f .0, same .0, f .1))

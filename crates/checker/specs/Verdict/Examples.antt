@@ -1,4 +1,5 @@
--- The lettered positions of 01 that speak of a proof, and the checklist's damaged proof, by computation.
+-- The lettered positions of 01 that speak of a proof, the checklist's damaged proof, too little room, and what stands behind an empty clause, by
+-- computation.
 use mathlib.Core.Path.{_≡_, refl}
 use mathlib.Core.List.{List, [], _∷_}
 use native.Mathlib.Decide.{ℕ-discrete}
@@ -14,12 +15,13 @@ use Rattle.formula.specs.Word.{wordOf, ordinal}
 use Rattle.formula.specs.Decode.{firstClause, clausesOf}
 use Rattle.formula.specs.Tables.{isIn, zeros, prefixRefusal, clausesRefusal, wordsRefusal, tablesRefusal}
 use Rattle.formula.specs.Refusal.{refusal}
-use Rattle.formula.specs.declared.refusal.Reason.the-variants.{NoRoom, WrongPivot, Tautology, Blocked, Misstated, NoConclusion}
+use Rattle.formula.specs.declared.refusal.Reason.the-variants.{NoRoom, WrongPivot, Tautology, Blocked, Misstated, NoConclusion, Afterword}
 use Rattle.checker.specs.declared.verdict.Verdict.the-variants.{Accepted, Refused}
-use Rattle.checker.specs.Rules.{plainRules}
+use Rattle.checker.specs.Rules.{plainRules, formerRules}
 use Rattle.checker.specs.Words.{sameWord, isZero, holds, without, closes}
 use Rattle.checker.specs.Steps.{readStep, opposed, lists, covers, states, blocked, leftmost, blockerOf, judgeResolution, judgeReduction, judgeFirst, run}
-use Rattle.checker.specs.Verdict.{firstEmpty, sizedVerdict, verdictOf}
+use Rattle.checker.specs.Empty.{someEmpty, firstEmpty, lastEmpty}
+use Rattle.checker.specs.Verdict.{sizedVerdict, verdictOf}
 
 -- Source document 001's formula: prefix ∃1 ∀2 ∃3 ∃4; clauses {2,3} {−2,4} {−4,1} {−1,−3}.
 abbrev pub examplePrefix : List ℤ
@@ -93,5 +95,12 @@ pub positions :
     × (verdictOf plainRules examplePrefix exampleClauses (exampleSteps (pos 4)) 8199 9 ≡ Refused (refusal NoRoom 0))
     × (verdictOf plainRules examplePrefix exampleClauses (exampleSteps (pos 4)) 8200 3 ≡ Refused (refusal NoRoom 4))
     × (verdictOf plainRules examplePrefix exampleClauses (exampleSteps (pos 4)) 8200 8 ≡ Refused (refusal NoRoom 9))
-unfolding prefixOf ordinal blocksFrom occurs leftmost blockerOf sameWord isZero holds without firstClause closes readStep opposed lists covers states blocked judgeResolution judgeReduction judgeFirst run firstEmpty sizedVerdict verdictOf wordOf clausesOf isIn zeros prefixRefusal clausesRefusal wordsRefusal tablesRefusal same after existentials holdsLiteral together joined literals reach member pair depends ℕ-discrete quantifies
-positions = (refl, refl, refl, refl, refl, refl, refl, refl, refl, refl, refl, refl, refl)
+    -- 02, P10: behind the empty clause of i a right step, and a lone junk word with no room for a clause; an empty input clause, with steps
+    × (verdictOf plainRules (a 1 1 []) (pos 1 ∷ pos 0 ∷ []) (pos 2 ∷ pos 1 ∷ pos 1 ∷ pos 0 ∷ pos 2 ∷ pos 1 ∷ pos 1 ∷ pos 0 ∷ []) 8200 3 ≡ Refused (refusal Afterword 3))
+    × (verdictOf plainRules (a 1 1 []) (pos 1 ∷ pos 0 ∷ []) (pos 2 ∷ pos 1 ∷ pos 1 ∷ pos 0 ∷ pos 7 ∷ []) 8200 2 ≡ Refused (refusal Afterword 3))
+    × (verdictOf plainRules (a 1 1 []) (pos 0 ∷ pos 1 ∷ pos 0 ∷ []) (pos 2 ∷ pos 2 ∷ pos 1 ∷ pos 0 ∷ []) 8200 3 ≡ Refused (refusal Afterword 3))
+    -- the first and the third by the rule before
+    × (verdictOf formerRules (a 1 1 []) (pos 1 ∷ pos 0 ∷ []) (pos 2 ∷ pos 1 ∷ pos 1 ∷ pos 0 ∷ pos 2 ∷ pos 1 ∷ pos 1 ∷ pos 0 ∷ []) 8200 3 ≡ Accepted (record { 0 = 2 }) 2)
+    × (verdictOf formerRules (a 1 1 []) (pos 0 ∷ pos 1 ∷ pos 0 ∷ []) (pos 2 ∷ pos 2 ∷ pos 1 ∷ pos 0 ∷ []) 8200 3 ≡ Accepted (record { 0 = 1 }) 1)
+unfolding prefixOf ordinal blocksFrom occurs leftmost blockerOf sameWord isZero holds without firstClause closes readStep opposed lists covers states blocked judgeResolution judgeReduction someEmpty judgeFirst run firstEmpty lastEmpty sizedVerdict verdictOf wordOf clausesOf isIn zeros prefixRefusal clausesRefusal wordsRefusal tablesRefusal same after existentials holdsLiteral together joined literals reach member pair depends ℕ-discrete quantifies
+positions = (refl, refl, refl, refl, refl, refl, refl, refl, refl, refl, refl, refl, refl, refl, refl, refl, refl, refl)

@@ -2,16 +2,21 @@
 use Prim.Native.Nat.{ℕ, zero, suc, _≤_}
 use mathlib.Core.Path.{_≡_, refl, ap, sym, _∙_}
 use mathlib.Core.List.{List, [], _∷_, _++_}
+use native.Mathlib.Omega.{arith}
 use borrow.Author.Tests.{le-leb}
 use lib.IntN.{ℤ}
 use lib.ListN.{length, replicate}
 use Rattle.formula.specs.Decode.{clausesOf}
+use Rattle.formula.specs.Tables.{zeros}
 use Rattle.dependency.specs.Scratch.{scratchBound, smallBound}
 use Rattle.checker.specs.Rules.{Rules, resized, plainRules, smallRules}
 use Rattle.checker.specs.Words.{Words}
-use Rattle.checker.specs.Steps.{Scope, Step, statedBy, sizeOf, readStep, Judged, right, wrong, judgeFirst, turn, less-one, run}
+use Rattle.checker.specs.Steps.{Scope, Step, statedBy, sizeOf, readStep, Judged, right, wrong, judgeFirst, turn, less-one, Outcome, ended, refused, run}
 use Rattle.checker.specs.declared.verdict.Verdict.{Verdict}
-use Rattle.checker.specs.Verdict.{scopeOf, sizedVerdict, verdictOf, Checked}
+use Rattle.checker.specs.declared.verdict.Verdict.the-variants.{Accepted}
+use Rattle.checker.specs.Rules.Laws.{resized-kinds}
+use Rattle.checker.specs.Verdict.Accuracy.{accepted-refutation}
+use Rattle.checker.specs.Verdict.{scopeOf, conclude, sizedVerdict, verdictOf, Checked}
 
 module _ (n : ℕ) (rules : Rules) (S : Scope) (room : ℕ) where
   first-resized : (known : List Words) (ws : Words) → judgeFirst (resized n rules) S room known ws ≡ judgeFirst rules S room known ws
@@ -35,19 +40,38 @@ module _ (n : ℕ) (rules : Rules) (S : Scope) (room : ℕ) where
       go (right s) h = h s
       go (wrong r) h = refl
 
+  -- Nor does what it concludes with.
+  pub conclude-resized :
+      (inputs : ℕ) (known : List Words) (ws : Words)
+      → conclude (resized n rules) inputs (run (resized n rules) S room known zero ws) ≡ conclude rules inputs (run rules S room known zero ws)
+  conclude-resized inputs known ws = ap (conclude (resized n rules) inputs) (run-resized known zero ws) ∙ go (run rules S room known zero ws)
+    where
+      go : (o : Outcome) → conclude (resized n rules) inputs o ≡ conclude rules inputs o
+      go (ended final) = refl
+      go (refused r) = refl
+
 -- Both have room, each in a scratch of its own length: the verdicts are equal.
 pub resized-verdict :
     (n : ℕ) (rules : Rules) (prefix clauses steps : List ℤ) (scratch scratch-n room : ℕ) → rules .scratch ≤ scratch → n ≤ scratch-n
     → verdictOf rules prefix clauses steps scratch room ≡ verdictOf (resized n rules) prefix clauses steps scratch-n room
 unfolding verdictOf sizedVerdict
 resized-verdict n rules prefix clauses steps scratch scratch-n room h k =
-    rw (le-leb (rules .scratch) scratch h, le-leb n scratch-n k, run-resized n rules (scopeOf prefix clauses) room (clausesOf clauses) zero steps)
+    rw (le-leb (rules .scratch) scratch h, le-leb n scratch-n k, conclude-resized n rules (scopeOf prefix clauses) room (zeros clauses) (clausesOf clauses) steps)
 
 -- So the two entries answer the same wherever both have their scratch.
 pub small-verdict :
     (prefix clauses steps : List ℤ) (scratch scratch-s room : ℕ) → scratchBound ≤ scratch → smallBound ≤ scratch-s
     → verdictOf plainRules prefix clauses steps scratch room ≡ verdictOf smallRules prefix clauses steps scratch-s room
 small-verdict prefix clauses steps scratch scratch-s room h k = resized-verdict smallBound plainRules prefix clauses steps scratch scratch-s room h k
+
+-- What the small entry accepts the large one accepts in scratch enough, with the same numbers: so what is shown of an accepted proof by the checker's rules
+-- (Exact.antt, Ending.antt) holds of the small entry too.
+pub small-accepted :
+    (prefix clauses steps : List ℤ) (scratch room empty count : ℕ) → verdictOf smallRules prefix clauses steps scratch room ≡ Accepted (record { 0 = empty }) count
+    → verdictOf plainRules prefix clauses steps scratchBound room ≡ Accepted (record { 0 = empty }) count
+small-accepted prefix clauses steps scratch room empty count h =
+    let r = accepted-refutation smallRules (resized-kinds smallBound) prefix clauses steps scratch room empty count h in
+    small-verdict prefix clauses steps scratchBound scratch room (omega arith) (r .scratch-fits) ∙ h
 
 module _ (prefix clauses steps : List ℤ) (scratch scratch-s offsets : List ℕ) (room : scratchBound ≤ length scratch) (room-s : smallBound ≤ length scratch-s)
     (verdict verdict-s : Verdict) (scratch′ scratch-s′ offsets′ offsets-s′ : List ℕ)

@@ -2,11 +2,11 @@
 -- begins with, how far it goes without a clash, and one clause judged. Laws are in the crate's proofs/Scan.antt.
 use Prim.Native.Nat.{ℕ, zero, suc, _+_, _-_, _≤_, _<_}
 use mathlib.Core.Path.{_≡_}
-use mathlib.Core.Bool.{Bool, true, false, not, _&&_}
+use mathlib.Core.Bool.{Bool, true, false, not, cond, _&&_}
 use mathlib.Core.Option.{Option, some}
 use mathlib.Core.List.{List, [], _∷_}
 use lib.ListN.{length, getD, take, drop}
-use lib.Dec.{eqb}
+use lib.Dec.{ltb, eqb}
 use lib.IntN.{ℤ, pos, natAbs}
 use Rattle.bits.specs.Flags.{flags}
 use Rattle.formula.specs.Refusal.{unless}
@@ -27,6 +27,10 @@ checkOf r = unless Refused r Passed
 -- So many bytes have a bit for each variable, or there are none.
 abbrev pub AllOrNone : ℕ → Type 0
 AllOrNone bytes = 0 < bytes → bytes ≡ 128
+
+-- How many of the bytes lent are marks: all 128, or none where fewer are lent.
+abbrev pub marksUsed : ℕ → ℕ
+marksUsed lent = cond (ltb lent 128) 0 128
 
 -- The variable's bit is 1: that of the variable v is at v − 1.
 unfoldable pub marked : List ℕ → ℕ → Bool

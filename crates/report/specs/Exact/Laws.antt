@@ -2,13 +2,14 @@
 -- numbers are theirs; then for the room of 01's programs, where nothing is supposed but that the files are bytes. Assumes nothing.
 use Prim.Native.Nat.{ℕ, suc, _+_, _*_, _-_, _≤_}
 use mathlib.Core.Path.{_≡_, refl, ap, _∙_}
-use mathlib.Core.Logic.{_↔_}
+use mathlib.Core.Logic.{_↔_, _⊎_, inl, inr}
 use mathlib.Core.List.{List}
 use native.Mathlib.Omega.{arith}
 use borrow.Author.Tests.{le-leb}
 use lib.ListN.{length, take, getD}
 use Rattle.formula.specs.Decode.{clausesOf}
 use Rattle.formula.specs.Prefix.{entryCount}
+use Rattle.formula.specs.Tables.{zeros}
 use Rattle.formula.specs.Tables.Laws.{admitted-closed, admitted-count}
 use Rattle.formula.specs.Text.{read}
 use Rattle.formula.specs.Text.Admits.{read-admitted}
@@ -22,6 +23,7 @@ use Rattle.checker.specs.File.Layout.Laws.{file-of-length, layout-read, read-la
 use Rattle.checker.specs.declared.verdict.Verdict.the-variants.{Accepted}
 use Rattle.checker.specs.Lawful.{numberedClauses}
 use Rattle.checker.specs.Refutation.{FirstEmpty}
+use Rattle.checker.specs.Refutation.Ending.{ends-some, unended-first, accepting-refutation}
 use Rattle.checker.specs.Refutation.FirstEmptyClause.{empty-first}
 use Rattle.checker.specs.Refutation.Laws.{words-within}
 use Rattle.checker.specs.Rules.{plainRules}
@@ -56,7 +58,9 @@ accepted-refuting room formula proof bytes a =
         words = m .words;
         signed = read-fits proof (m .count) (room .steps) (m .words) bytes (m .proof-read);
         laid-out = read-layout proof (m .count) (room .steps) (m .words) bytes (m .proof-read);
-        refutation = accepted-refutation plainRules plain-kinds (m .prefix) (m .clauses) (m .words) (room .scratch) (room .offsets) (m .empty) (m .steps) (m .accepted) .refutation;
+        refutation =
+            accepting-refutation (m .prefix) (m .clauses) (m .words) (room .scratch) (room .offsets) (m .empty) (m .steps)
+            (accepted-refutation plainRules plain-kinds (m .prefix) (m .clauses) (m .words) (room .scratch) (room .offsets) (m .empty) (m .steps) (m .accepted));
       },
     )
 
@@ -75,12 +79,15 @@ module _ (room : Room) (formula proof : List ℕ) (within : FilesWithin room for
       let file : settledProof (room .file) proof (r .count) (room .steps) ≡ readSteps (r .words) =
       rw (le-leb (length proof) (room .file) (within .proof-fits), steps) in
       let verdict : verdictOf plainRules (r .prefix) (r .clauses) (r .words) (room .scratch) (room .offsets) ≡ Accepted (record { 0 = suc place }) (length (r .refutation .steps)) =
-      refutation-accepted plainRules plain-kinds (r .prefix) (r .clauses) (r .words) (room .scratch) (room .offsets) refl (suc place) (length (r .refutation .steps))
+      refutation-accepted plainRules plain-kinds (r .prefix) (r .clauses) (r .words) (room .scratch) (room .offsets) (suc place) (length (r .refutation .steps))
       (record {
         admitted = read-admitted formula (room .prefix) (room .clauses) (r .prefix) (r .clauses) (r .count) (r .reads) .admitted;
         sized = fits .1 .sized;
         scratch-fits = fits .1 .scratch-fits;
-        refutation = r .refutation;
+        steps = r .refutation .steps;
+        written = r .refutation .written;
+        lawful = r .refutation .lawful;
+        allowed = λ q. r .refutation .unended;
         offsets-fit = fits .1 .offsets-fit (r .refutation .steps) (r .refutation .written);
         place = place;
         place-numbered = refl;
@@ -89,11 +96,31 @@ module _ (room : Room) (formula proof : List ℕ) (within : FilesWithin room for
       }) in
       read-line room formula proof (r .prefix) (r .clauses) (r .count) text ∙ rw (file, verdict)
 
+  -- Of a refutation with steps the printed empty clause is C + steps (02, P10).
+  pub accepted-line-last :
+      (r : Refuting room formula proof) → 1 ≤ length (r .refutation .steps)
+      → checkLine room formula proof ≡ acceptedLine (entryCount (r .prefix)) (r .count) (length (r .refutation .steps)) (r .count + length (r .refutation .steps))
+  accepted-line-last r h =
+      let known = clausesOf (r .clauses) in
+      let steps = r .refutation .steps in
+      let f = empty-first (numberedClauses known steps) (ends-some steps known (r .refutation .ends-empty)) in
+      let a = read-admitted formula (room .prefix) (room .clauses) (r .prefix) (r .clauses) (r .count) (r .reads) in
+      let closed = admitted-closed (r .prefix) (r .clauses) (a .admitted) in
+      accepted-line-numbers r (f .0) (f .1)
+      ∙ ap (acceptedLine (entryCount (r .prefix)) (r .count) (length steps)) (last (f .0) (a .counted) closed (unended-first steps known (f .0) (r .refutation .unended) (f .1)))
+    where
+      last :
+          (place : ℕ) → r .count ≡ zeros (r .clauses) → length (clausesOf (r .clauses)) ≡ zeros (r .clauses)
+          → ((length (r .refutation .steps) ≡ 0) × FirstEmpty (clausesOf (r .clauses)) place) ⊎ ((1 ≤ length (r .refutation .steps)) × (suc place ≡ length (clausesOf (r .clauses)) + length (r .refutation .steps)))
+          → suc place ≡ r .count + length (r .refutation .steps)
+      last place a b (inl t) = let z = t .0 in absurd (omega arith)
+      last place a b (inr t) = let z = t .1 in omega arith
+
   -- Wish 2, from the bytes of the files.
   pub accepted-line-exactly : Bytes proof → AcceptedLine (checkLine room formula proof) ↔ Refuting room formula proof
   accepted-line-exactly bytes = (
     λ a. accepted-refuting room formula proof bytes a .2,
-    λ r. let f = empty-first (numberedClauses (clausesOf (r .clauses)) (r .refutation .steps)) (r .refutation .some-empty) in
+    λ r. let f = empty-first (numberedClauses (clausesOf (r .clauses)) (r .refutation .steps)) (ends-some (r .refutation .steps) (clausesOf (r .clauses)) (r .refutation .ends-empty)) in
         record { variables = entryCount (r .prefix); clauses = r .count; steps = length (r .refutation .steps); empty = suc (f .0); is = accepted-line-numbers r (f .0) (f .1) },
   )
 

@@ -13,11 +13,11 @@ use Rattle.formula.specs.Refusal.{refusal, require, number}
 use Rattle.formula.specs.Decode.{clausesOf}
 use Rattle.formula.specs.Prefix.{prefixOf}
 use Rattle.formula.specs.Tables.{zeros, Admitted}
-use Rattle.formula.specs.declared.refusal.Reason.{Reason}
-use Rattle.formula.specs.declared.refusal.Reason.the-variants.{Oversized, NoRoom, WrongPivot, Blocked}
+use Rattle.formula.specs.declared.refusal.Reason.the-variants.{Oversized, NoRoom, WrongPivot, Blocked, Afterword}
 use Rattle.checker.specs.Rules.{Rules}
 use Rattle.checker.specs.Words.{Words, holds, without}
-use Rattle.checker.specs.Steps.{Scope, Step, resolution, reduction, statedBy, sizeOf, readStep, antecedent, blocked, blockerOf, demand, judgeStatement, judgeResolution, judgeReduction, judge, Judged, right, wrong, judgedAs, judgeRead, someEmpty, refuseAfter, judgeFirst, Outcome, turn, less-one, run}
+use Rattle.checker.specs.Empty.{someEmpty}
+use Rattle.checker.specs.Steps.{Scope, Step, resolution, reduction, statedBy, sizeOf, readStep, antecedent, blocked, blockerOf, demand, judgeStatement, judgeResolution, judgeReduction, judge, Judged, right, wrong, judgedAs, judgeRead, judgeFirst, Outcome, turn, less-one, run}
 use Rattle.checker.specs.Verdict.{conclude, scopeIn, scopeVerdict, verdictOf}
 use Rattle.checker.specs.declared.verdict.Verdict.{Verdict}
 use Rattle.checker.specs.declared.verdict.Verdict.the-variants.{Accepted, Refused}
@@ -35,10 +35,9 @@ alike-self : (J : Judged) → Alike J J
 alike-self (right s) = refl
 alike-self (wrong r) = refl
 
-alike-after : (why : Option Reason) (after : Bool) (J K : Judged) → Alike J K → Alike (refuseAfter why after J) (refuseAfter why after K)
-alike-after none after J K h = h
-alike-after (some r) true J K h = refl
-alike-after (some r) false J K h = h
+alike-here : (may : Bool) (J K : Judged) → Alike J K → Alike (require may (wrong Afterword) J) (require may (wrong Afterword) K)
+alike-here true J K h = h
+alike-here false J K h = refl
 
 module _ (S : Scope) where
   blocked-same : (u : ℕ) (C : Words) → blocked S u C ≡ blocked (blockless S) u C
@@ -85,26 +84,26 @@ module _ (S : Scope) where
   first-alike : (rules : Rules) (room : ℕ) (known : List Words) (ws : Words) → Alike (judgeFirst rules S room known ws) (judgeFirst rules (blockless S) room known ws)
   unfolding judgeFirst
   first-alike rules room known ws =
-      alike-after (rules .afterwards) (someEmpty known) (judgeRead S room known (readStep rules ws)) (judgeRead (blockless S) room known (readStep rules ws))
+      alike-here (not (rules .strict && someEmpty known)) (judgeRead S room known (readStep rules ws)) (judgeRead (blockless S) room known (readStep rules ws))
       (read-alike room known (readStep rules ws))
 
   turn-said :
-      (inputs : ℕ) (known : List Words) (J K : Judged) (next next′ : Step → Outcome) → Alike J K
-      → ((s : Step) → said (conclude inputs (next s)) ≡ said (conclude inputs (next′ s)))
-      → said (conclude inputs (turn known J next)) ≡ said (conclude inputs (turn known K next′))
-  turn-said inputs known (right s) (right t) next next′ e h = h s ∙ ap (λ (x : Step). said (conclude inputs (next′ x))) e
-  turn-said inputs known (right s) (wrong r) next next′ e h = absurd e
-  turn-said inputs known (wrong r) (right s) next next′ e h = absurd e
-  turn-said inputs known (wrong r) (wrong q) next next′ e h = λ i. refused (e i) (suc (length known)) 0 0
+      (rules : Rules) (inputs : ℕ) (known : List Words) (J K : Judged) (next next′ : Step → Outcome) → Alike J K
+      → ((s : Step) → said (conclude rules inputs (next s)) ≡ said (conclude rules inputs (next′ s)))
+      → said (conclude rules inputs (turn known J next)) ≡ said (conclude rules inputs (turn known K next′))
+  turn-said rules inputs known (right s) (right t) next next′ e h = h s ∙ ap (λ (x : Step). said (conclude rules inputs (next′ x))) e
+  turn-said rules inputs known (right s) (wrong r) next next′ e h = absurd e
+  turn-said rules inputs known (wrong r) (right s) next next′ e h = absurd e
+  turn-said rules inputs known (wrong r) (wrong q) next next′ e h = λ i. refused (e i) (suc (length known)) 0 0
 
   run-said :
       (rules : Rules) (inputs room : ℕ) (known : List Words) (skip : ℕ) (ws : Words)
-      → said (conclude inputs (run rules S room known skip ws)) ≡ said (conclude inputs (run rules (blockless S) room known skip ws))
+      → said (conclude rules inputs (run rules S room known skip ws)) ≡ said (conclude rules inputs (run rules (blockless S) room known skip ws))
   unfolding run
   run-said rules inputs room known skip [] = refl
   run-said rules inputs room known (suc skip) (w ∷ ws) = run-said rules inputs room known skip ws
   run-said rules inputs room known zero (w ∷ ws) =
-      turn-said inputs known (judgeFirst rules S room known (w ∷ ws)) (judgeFirst rules (blockless S) room known (w ∷ ws))
+      turn-said rules inputs known (judgeFirst rules S room known (w ∷ ws)) (judgeFirst rules (blockless S) room known (w ∷ ws))
       (λ s. run rules S room (known ++ (statedBy s ∷ [])) (less-one (sizeOf s)) ws)
       (λ s. run rules (blockless S) room (known ++ (statedBy s ∷ [])) (less-one (sizeOf s)) ws)
       (first-alike rules room known (w ∷ ws))
@@ -123,6 +122,6 @@ pub verdict-said :
 verdict-said prefix clauses old a same rules steps scratch room =
     ap said (verdict-same prefix clauses old a same rules steps scratch room)
     ∙ said-within (leb (length steps) proofBound) (leb (rules .scratch) scratch) (leb (zeros clauses) room) (Refused (refusal Oversized 0)) (Refused (refusal NoRoom 0)) (Refused (refusal NoRoom (suc room)))
-    (conclude (zeros clauses) (run rules (scopeIn (signedFormula old clauses)) room (clausesOf clauses) zero steps))
-    (conclude (zeros clauses) (run rules (blockless (scopeIn (signedFormula old clauses))) room (clausesOf clauses) zero steps))
+    (conclude rules (zeros clauses) (run rules (scopeIn (signedFormula old clauses)) room (clausesOf clauses) zero steps))
+    (conclude rules (zeros clauses) (run rules (blockless (scopeIn (signedFormula old clauses))) room (clausesOf clauses) zero steps))
     (run-said (scopeIn (signedFormula old clauses)) rules (zeros clauses) room (clausesOf clauses) zero steps)

@@ -1,5 +1,5 @@
 -- `any_marked`: what was found, or what is marked from here on, is what is marked at all. Assumes nothing.
-use Prim.Native.Nat.{_+_, _-_, _<_}
+use Prim.Native.Nat.{_+_, _-_}
 use mathlib.Core.Path.{_≡_, refl, ap, sym, _∙_}
 use mathlib.Core.Bool.{Bool, not, _||_, or-false, or-assoc}
 use borrow.Author.Needs.{needs}

@@ -1,6 +1,7 @@
 -- `judge_steps`: the scratch is made ready, the offsets are filled, the run is concluded. Assumes nothing.
 use Prim.Native.Nat.{ℕ}
 use mathlib.Core.Path.{_≡_, ap, sym, _∙_}
+use mathlib.Core.Bool.{true}
 use mathlib.Core.List.{List, _++_}
 use native.Mathlib.Omega.{arith}
 use lib.ListN.{length, take, drop, replicate}
@@ -9,7 +10,12 @@ use Rattle.formula.specs.Tables.Laws.{admitted-entries, admitted-clauses-length
 use Rattle.checker.specs.declared.run.Run.the-variants.{Ended}
 use Rattle.checker.specs.Step.{Ready}
 use Rattle.checker.specs.Step.Laws.{filled-ready}
+use Rattle.checker.specs.Rules.{plainRules}
+use Rattle.checker.specs.Numbered.{stored}
+use Rattle.checker.specs.Numbered.Laws.{stored-length}
 use Rattle.checker.specs.Run.{RunDone}
+use Rattle.checker.specs.Verdict.{scopeOf}
+use Rattle.checker.specs.Verdict.Conclusion.{concluded-run}
 use Rattle.checker.proofs.proof.judge_steps.Statement.{statement}
 use Rattle.checker.proofs.proof.judge_steps.Tie as tie
 
@@ -31,14 +37,14 @@ ready-at c =
     filled-ready (c .before .before .before .before .before .before .before .before .before .before .before .before .before .before .before .args .prefix .now) (cleared .clear-lent .last .0) (filled .fill-existentials .last .1 .0) (cleared-size cleared) (filled .fill-existentials .kept .1 .0) (ap (take 256) (cleared-at cleared)) (filled .fill-existentials .ensures)
 
 -- the scratch and the offsets keep their lengths
-scratch-at : (c : tie.After-run-steps) → length (c .run-steps .last .1 .1 .1 .1 .0) ≡ length (c .before .before .before .before .before .before .before .before .before .before .before .before .before .before .before .before .before .before .before .before .args .scratch .now)
-scratch-at c = c .run-steps .kept .1 .1 .1 .1 .0 ∙ ready-at (c .before .before .before .before .before) .size ∙ sym (c .before .before .before .before .before .before .before .before .before .before .before .before .before .before .before .before .before .before .before .before .pre .1 .1 .1 .0)
+scratch-at : (c : tie.After-run-steps) → length (c .run-steps .last .1 .1 .1 .1 .1 .1 .0) ≡ length (c .before .before .before .before .before .before .before .before .before .before .before .before .before .before .before .before .before .before .before .before .args .scratch .now)
+scratch-at c = c .run-steps .kept .1 .1 .1 .1 .1 .1 .0 ∙ ready-at (c .before .before .before .before .before) .size ∙ sym (c .before .before .before .before .before .before .before .before .before .before .before .before .before .before .before .before .before .before .before .before .pre .1 .1 .1 .0)
 
-room-at : (c : tie.After-run-steps) → length (c .run-steps .last .1 .1 .1 .1 .1 .0) ≡ length (c .before .before .before .before .before .before .before .before .before .before .before .before .before .before .before .before .before .before .before .before .args .offsets .now)
-room-at c = c .run-steps .kept .1 .1 .1 .1 .1 .0 ∙ c .before .before .before .before .before .fill-offsets .kept .1 .0 ∙ c .before .before .before .before .before .before .before .before .before .before .before .before .before .before .before .clear-lent .kept .1 .0
+room-at : (c : tie.After-run-steps) → length (c .run-steps .last .1 .1 .1 .1 .1 .1 .1 .0) ≡ length (c .before .before .before .before .before .before .before .before .before .before .before .before .before .before .before .before .before .before .before .before .args .offsets .now)
+room-at c = c .run-steps .kept .1 .1 .1 .1 .1 .1 .1 .0 ∙ c .before .before .before .before .before .fill-offsets .kept .1 .0 ∙ c .before .before .before .before .before .before .before .before .before .before .before .before .before .before .before .clear-lent .kept .1 .0
 
 -- the run ended
-ended-at : (c : tie.After-known-told2) → let start = c .before .before .before .before .before .before .before .before .before .before .before .before .before .before .before .before .before .before .before .before .before .before .before .before .before .before .before in RunDone (start .args .prefix .now) (start .args .clauses .now) (start .args .steps .now) (start .args .inputs) (Ended (c .before .numbered .given .0 .0)) (c .before .before .before .before .before .before .before .run-steps .last .1 .1 .1 .1 .0) (c .before .before .before .before .before .before .before .run-steps .last .1 .1 .1 .1 .1 .0)
+ended-at : (c : tie.After-known-told2) → let start = c .before .before .before .before .before .before .before .before .before .before .before .before .before .before .before .before .before .before .before .before .before .before .before .before .before .before .before in RunDone true (start .args .prefix .now) (start .args .clauses .now) (start .args .steps .now) (start .args .inputs) (Ended (c .before .numbered .given .0 .0) (c .before .numbered .given .0 .1 .0)) (c .before .before .before .before .before .before .before .run-steps .last .1 .1 .1 .1 .1 .1 .0) (c .before .before .before .before .before .before .before .run-steps .last .1 .1 .1 .1 .1 .1 .1 .0)
 ended-at c = rw (c .before .numbered .given .1) at (c .before .before .before .before .before .before .before .run-steps .ensures)
 
 fill-existentials-requires : tie.Need-fill-existentials-requires
@@ -53,30 +59,32 @@ fill-offsets-requires c κs =
     let clauses = start .args .clauses .now in
     (admitted-clauses-length prefix clauses (start .pre .0), omega (arith, admitted-closed prefix clauses (start .pre .0), start .pre .1 .0, start .pre .1 .1 .1 .1, c .before .before .before .before .before .before .before .before .before .clear-lent .kept .1 .0))
 
+-- as many input clauses as were told
+inputs-at : (c : tie.Start) → length (clausesOf (c .args .clauses .now)) ≡ c .args .inputs
+inputs-at c = admitted-closed (c .args .prefix .now) (c .args .clauses .now) (c .pre .0) ∙ sym (c .pre .1 .0)
+
 run-steps-requires : tie.Need-run-steps-requires
 run-steps-requires c κs =
     let filled = c .before .before .before .before in
-    let start = filled .before .before .before .before .before .before .before .before .before .before .before .before .before .before .before in
-    let prefix = start .args .prefix .now in
-    let clauses = start .args .clauses .now in
-    let count : length (clausesOf clauses) ≡ start .args .inputs = admitted-closed prefix clauses (start .pre .0) ∙ sym (start .pre .1 .0) in (
+    let start = filled .before .before .before .before .before .before .before .before .before .before .before .before .before .before .before in (
       ready-at filled,
       (
         start .pre .0,
         (
           start .pre .1 .1 .0,
           (
-            omega (arith, filled .fill-offsets .kept .1 .0, filled .before .before .before .before .before .before .before .before .before .before .clear-lent .kept .1 .0, start .pre .1 .1 .1 .1),
-            rw count at (filled .fill-offsets .ensures .input-clauses (start .args .steps .now)),
+            filled .fill-offsets .ensures .first-empty,
+            (
+              omega (arith, filled .fill-offsets .kept .1 .0, filled .before .before .before .before .before .before .before .before .before .before .clear-lent .kept .1 .0, start .pre .1 .1 .1 .1),
+              rw (inputs-at start) at (filled .fill-offsets .ensures .input-clauses (start .args .steps .now)),
+            ),
           ),
         ),
       ),
     )
 
 conclude-run-requires : tie.Need-conclude-run-requires
-conclude-run-requires c κs =
-    let done = ended-at (c .before) in
-    (done .counted, done .grown)
+conclude-run-requires c κs = ended-at c .grown
 
 returns : tie.Need-returns
 returns c =
@@ -86,10 +94,15 @@ returns c =
 
 returns-2 : tie.Need-returns-2
 returns-2 c =
-    let told = c .before .before in
+    let told = c .before in
     let ran = told .before .before .before .before .before .before .before in
+    let start = ran .before .before .before .before .before .before .before .before .before .before .before .before .before .before .before .before .before .before .before .before in
+    let a = start .args in
+    let offsets = ran .run-steps .last .1 .1 .1 .1 .1 .1 .1 .0 in
+    let numbered = told .before .numbered .given .0 .0 in
     let outcome = rw (room-at ran) at (ended-at told .outcome) in
-    rw outcome (c .conclude-run .ensures)
+    c .conclude-run .ensures
+    ∙ concluded-run plainRules (scopeOf (a .prefix .now) (a .clauses .now)) (length (a .offsets .now)) (clausesOf (a .clauses .now)) (a .steps .now) (stored (a .inputs) (a .clauses .now) (a .steps .now) offsets numbered) (a .inputs) numbered (told .before .numbered .given .0 .1 .0) (inputs-at start) outcome (stored-length (a .inputs) (a .clauses .now) (a .steps .now) offsets numbered) (ended-at told .empty-told)
 
 pub judge-steps-spec : {M : Type 1} → statement M
 judge-steps-spec =
@@ -108,6 +121,6 @@ judge-steps-spec =
     (λ c. scratch-at (c .before .before .before .before .before .before .before))
     (λ c. room-at (c .before .before .before .before .before .before .before))
     returns
-    (λ c. scratch-at (c .before .before .before .before .before .before .before .before .before))
-    (λ c. room-at (c .before .before .before .before .before .before .before .before .before))
+    (λ c. scratch-at (c .before .before .before .before .before .before .before .before))
+    (λ c. room-at (c .before .before .before .before .before .before .before .before))
     returns-2)

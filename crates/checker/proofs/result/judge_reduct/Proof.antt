@@ -1,6 +1,5 @@
 -- `judge_reduct`: the clause without the literal is marked, the statement ticked, the marks wiped. Assumes nothing.
 use mathlib.Core.Path.{_≡_, _∙_}
-use mathlib.Core.Bool.{true, false}
 use borrow.Author.Needs.{needs}
 use mir.Syntax.{w32}
 use mir.Val.{toZ, ofZ}

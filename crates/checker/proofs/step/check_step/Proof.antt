@@ -1,4 +1,5 @@
 -- `check_step` reads the step, asks for room and judges it. Assumes nothing.
+use Prim.Native.Nat.{ℕ, _+_}
 use mathlib.Core.Path.{_≡_, ap, ap₂, sym, _∙_}
 use mathlib.Core.List.{List}
 use mathlib.Core.Option.{some}
@@ -9,12 +10,14 @@ use Rattle.checker.specs.Rules.{plainRules}
 use Rattle.checker.specs.declared.read.StepRead.{StepRead}
 use Rattle.checker.specs.declared.step.StepAnswer.the-variants.{Right as RightStep}
 use Rattle.checker.specs.Words.{Words}
-use Rattle.checker.specs.Steps.{Scope, Step, readStep, judge}
+use Rattle.checker.specs.Steps.{Scope, Step, statedBy, sizeOf, readStep, judge}
+use Rattle.formula.specs.Decode.{clauseAt}
+use Rattle.checker.specs.Empty.{isEmpty}
 use Rattle.checker.specs.Verdict.{scopeOf}
 use Rattle.checker.specs.Numbered.{stored}
 use Rattle.checker.specs.Numbered.Laws.{stored-length}
 use Rattle.checker.specs.Read.{fieldsOf}
-use Rattle.checker.specs.Read.Laws.{reading-broken, reading-step, fields-next, step-whole}
+use Rattle.checker.specs.Read.Laws.{reading-broken, reading-step, fields-next, stated-step, step-whole}
 use Rattle.checker.specs.Result.{judgementOf}
 use Rattle.checker.specs.Step.{keptAfter}
 use Rattle.checker.specs.Step.Laws.{none-kept, step-broken, step-no-room, step-right, step-wrong, judgement-right, judgement-wrong}
@@ -48,24 +51,29 @@ returns : tie.Need-returns
 returns c =
     let start = c .before .before .before .before .before .before .before in
     let t = step-at (c .before) in
-    record { answer = step-no-room (scope-at start) (length (start .args .offsets .now)) (known-at start) (drop (start .args .at) (start .args .steps .now)) (start .args .at) (start .args .kept) (t .0) (t .1) (omega (arith, count-at start, c .if1 .taken)); ready = none-kept (start .args .prefix .now) (start .args .clauses .now) (start .args .scratch .now) (start .pre .0 .ready) }
+    record { answer = step-no-room (scope-at start) (length (start .args .offsets .now)) (known-at start) (readStep plainRules (drop (start .args .at) (start .args .steps .now))) (start .args .at) (start .args .kept) (t .0) (t .1) (omega (arith, count-at start, c .if1 .taken)); ready = none-kept (start .args .prefix .now) (start .args .clauses .now) (start .args .scratch .now) (start .pre .0 .ready) }
 
 returns-2 : tie.Need-returns-2
 returns-2 c =
     let start = c .before .before .before .before .before in
-    record { answer = step-broken (scope-at start) (length (start .args .offsets .now)) (known-at start) (drop (start .args .at) (start .args .steps .now)) (start .args .at) (start .args .kept) (reading-broken (start .args .at) _ (sym (c .enum-told .given .1) ∙ c .before .before .read-step .ensures)); ready = none-kept (start .args .prefix .now) (start .args .clauses .now) (start .args .scratch .now) (start .pre .0 .ready) }
+    record { answer = step-broken (scope-at start) (length (start .args .offsets .now)) (known-at start) (readStep plainRules (drop (start .args .at) (start .args .steps .now))) (start .args .at) (start .args .kept) (reading-broken (start .args .at) _ (sym (c .enum-told .given .1) ∙ c .before .before .read-step .ensures)); ready = none-kept (start .args .prefix .now) (start .args .clauses .now) (start .args .scratch .now) (start .pre .0 .ready) }
 
 returns-3 : tie.Need-returns-3
 returns-3 c =
-    let called = c .before .before .before .before .before in
+    let called = c .before .before .before .before .before .before in
     let start = called .before .before .before .before .before .before .before .before .before in
     let t = step-at (called .before .before .before) in
-    let right = judgement-right _ (sym (c .before .enum-told2 .given .1) ∙ judged-at called) in
+    let right = judgement-right _ (sym (c .before .before .enum-told2 .given .1) ∙ judged-at called) in
+    let step = called .before .before .before .before .step .given .0 .0 in
+    let L = clauseAt (start .args .steps .now) (step .statement) in
+    let empty : c .is-empty .result ≡ isEmpty (statedBy (t .0)) =
+    c .is-empty .ensures ∙ ap isEmpty (sym (stated-step step L) ∙ ap statedBy (step-whole (start .args .steps .now) (start .args .at) (start .pre .1 .1 .0) (t .0) (t .1) step (t .2))) in
     record {
       answer =
-          ap₂ RightStep (ap (λ (r : StepRead). r .next) (t .2) ∙ fields-next (start .args .at) (t .0)) (c .kept-after .ensures ∙ ap (λ (r : StepRead). keptAfter r (start .args .kept)) (t .2))
-          ∙ step-right (scope-at start) (length (start .args .offsets .now)) (known-at start) (drop (start .args .at) (start .args .steps .now)) (start .args .at) (start .args .kept) (t .0) (t .1) (omega (arith, count-at start, called .before .before .if1 .left)) right;
-      ready = rw (c .kept-after .ensures) (rw (c .before .enum-told2 .given .1) at (called .judge-step .ensures .ready));
+          ap₂ (λ (next kept : ℕ). RightStep next kept (c .is-empty .result)) (ap (λ (r : StepRead). r .next) (t .2) ∙ fields-next (start .args .at) (t .0)) (c .before .kept-after .ensures ∙ ap (λ (r : StepRead). keptAfter r (start .args .kept)) (t .2))
+          ∙ ap (RightStep (start .args .at + sizeOf (t .0)) (keptAfter (fieldsOf (start .args .at) (t .0)) (start .args .kept))) empty
+          ∙ step-right (scope-at start) (length (start .args .offsets .now)) (known-at start) (readStep plainRules (drop (start .args .at) (start .args .steps .now))) (start .args .at) (start .args .kept) (t .0) (t .1) (omega (arith, count-at start, called .before .before .if1 .left)) right;
+      ready = rw (c .before .kept-after .ensures) (rw (c .before .before .enum-told2 .given .1) at (called .judge-step .ensures .ready));
     }
 
 returns-4 : tie.Need-returns-4
@@ -75,7 +83,7 @@ returns-4 c =
     let t = step-at (called .before .before .before) in
     let wrong = judgement-wrong _ (c .before .reason .given .0 .0) (sym (c .before .reason .given .1) ∙ judged-at called) in
     record {
-      answer = step-wrong (scope-at start) (length (start .args .offsets .now)) (known-at start) (drop (start .args .at) (start .args .steps .now)) (start .args .at) (start .args .kept) (t .0) (c .before .reason .given .0 .0) (t .1) (omega (arith, count-at start, called .before .before .if1 .left)) wrong;
+      answer = step-wrong (scope-at start) (length (start .args .offsets .now)) (known-at start) (readStep plainRules (drop (start .args .at) (start .args .steps .now))) (start .args .at) (start .args .kept) (t .0) (c .before .reason .given .0 .0) (t .1) (omega (arith, count-at start, called .before .before .if1 .left)) wrong;
       ready = rw (c .before .reason .given .1) at (called .judge-step .ensures .ready);
     }
 
@@ -89,6 +97,7 @@ check-step-spec =
     returns
     (λ c κs. search needs)
     (λ c. search needs)
+    (λ c κs. search needs)
     (λ c κs. search needs)
     (λ c. search needs)
     returns-2

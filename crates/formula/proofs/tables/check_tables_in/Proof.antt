@@ -1,4 +1,5 @@
 -- `check_tables_in`: sizes first, then the words, with the marks that are used of those lent. Assumes nothing.
+use Prim.Native.Nat.{_≤_}
 use mathlib.Core.Path.{_≡_, ap, sym, _∙_}
 use mathlib.Core.Bool.{true, false}
 use lib.ListN.{length, take}
@@ -11,7 +12,8 @@ use Rattle.formula.specs.Tables.{zeros, sized}
 use Rattle.formula.proofs.bounds.PrefixFit as prefix-fit
 use Rattle.formula.proofs.bounds.MatrixFit as matrix-fit
 use Rattle.formula.proofs.bounds.ClauseCountFit as count-fit
-use Rattle.formula.proofs.Scan.{sizes-refused, words-refused, words-admitted}
+use Rattle.formula.specs.Tables.Scan.{AllOrNone}
+use Rattle.formula.proofs.Scan.{marks-used-fit, sizes-refused, words-refused, words-admitted}
 use borrow.Author.Needs.{needs}
 use Rattle.formula.proofs.tables.check_tables_in.Statement.{statement}
 use Rattle.formula.proofs.tables.check_tables_in.Tie as tie
@@ -67,11 +69,14 @@ sizes : (c : tie.After-known-told) → sized (start (first (second c)) .args .pr
 sizes c = rw (prefix-within (first (second c)), clauses-within (second c), count-within c .0)
 
 -- the part lent on has the length that was answered
+used : (c : tie.After-marks-used) → (c .marks-used .result ≤ length (start (first (second (c .before))) .args .marks .now)) × AllOrNone (c .marks-used .result)
+used c = rw (c .marks-used .ensures) (marks-used-fit (length (start (first (second (c .before))) .args .marks .now)))
+
 part : (c : tie.After-marks-used) → length (take (c .marks-used .result) (start (first (second (c .before))) .args .marks .now)) ≡ c .marks-used .result
-part c = length-take-le (c .marks-used .result) (start (first (second (c .before))) .args .marks .now) (c .marks-used .ensures .0)
+part c = length-take-le (c .marks-used .result) (start (first (second (c .before))) .args .marks .now) (used c .0)
 
 check-words-requires : tie.Need-check-words-requires
-check-words-requires c κs = rw (part (c .before)) (c .before .marks-used .ensures .1)
+check-words-requires c κs = rw (part (c .before)) (used (c .before) .1)
 
 returns-4 : tie.Need-returns-4
 returns-4 c =
@@ -113,7 +118,7 @@ check-tables-in-spec =
     (λ c. search needs)
     returns-3
     (λ c κs. search needs)
-    (λ c. search needs)
+    (λ c. used c .0)
     (λ c. sym (part (c .before)))
     check-words-requires
     (λ c. search needs)

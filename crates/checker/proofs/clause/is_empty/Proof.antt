@@ -1,4 +1,4 @@
--- `clause_is_empty` looks at the first word. Assumes nothing.
+-- `is_empty` looks at the first word. Assumes nothing.
 use mathlib.Core.Path.{_≡_, refl, ap, sym}
 use mathlib.Core.Bool.{Bool, true, false}
 use borrow.Author.Needs.{needs}
@@ -7,10 +7,10 @@ use lib.IntN.{ℤ, pos}
 use Rattle.checker.specs.Words.{isZero}
 use Rattle.formula.specs.Decode.{clauseAt}
 use Rattle.formula.specs.Decode.Places.{clause-past, clause-zero, clause-literal}
-use Rattle.checker.specs.Run.{isEmpty}
+use Rattle.checker.specs.Empty.{isEmpty}
 use Rattle.checker.proofs.Signed.{read-zero}
-use Rattle.checker.proofs.run.clause_is_empty.Statement.{statement}
-use Rattle.checker.proofs.run.clause_is_empty.Tie as tie
+use Rattle.checker.proofs.clause.is_empty.Statement.{statement}
+use Rattle.checker.proofs.clause.is_empty.Tie as tie
 
 returns : tie.Need-returns
 returns c = go (c .is-zero .result) (read-zero word (c .before .word .given) (c .is-zero .ensures) refl)
@@ -25,5 +25,5 @@ returns c = go (c .is-zero .result) (read-zero word (c .before .word .given) (c 
 returns-2 : tie.Need-returns-2
 returns-2 c = sym (ap isEmpty (clause-past (c .before .args .words .now) (c .before .args .from) (c .if1 .left)))
 
-pub clause-is-empty-spec : {M : Type 1} → statement M
-clause-is-empty-spec = tie.close (tie.spec (λ c. search needs) (λ c. search needs) (λ c κs. search needs) returns returns-2)
+pub is-empty-spec : {M : Type 1} → statement M
+is-empty-spec = tie.close (tie.spec (λ c. search needs) (λ c. search needs) (λ c κs. search needs) returns returns-2)
