@@ -22,8 +22,7 @@
  *
  * Proof file. An optional note, which is not read; the step words, signed and of 32 bits, little-endian; and a trailer of 12
  * bytes: the distance in bytes from the trailer's start back to the first step word (a multiple of 4) and C, both unsigned and of
- * 32 bits, little-endian, then the bytes 51 44 52 31 (hexadecimal). A step is `1 i j e L.. 0` or `2 i a L.. 0`, as
- * qdr_check has it. */
+ * 32 bits, little-endian, then the bytes 51 44 52 31 (hexadecimal). Steps are as qdr_check has them. */
 #ifndef QDR_H
 #define QDR_H
 
@@ -74,10 +73,12 @@ enum qdr_refusal {
     QDR_MISCOUNT = 10,      /* a token after the last clause, or too few clauses: the token's byte, or the length */
     QDR_NO_TRAILER = 11,    /* a proof file without a right trailer: 0 */
     QDR_OTHER_FORMULA = 12, /* a proof file for another number of clauses: 0 */
-    QDR_BROKEN_STEP = 13,   /* a step of no known kind, or without its closing 0: its clause number */
+    QDR_BROKEN_STEP = 13,   /* a step whose kind is not 1 to 4, or is of the other family than the first step's, or without its
+                               closing 0: its clause number */
     QDR_NOT_EARLIER = 14,   /* an antecedent is not from 1 to the step's number less 1: its clause number */
     QDR_WRONG_PIVOT = 15,   /* the pivot, or the literal to reduce, is not as the rule says: its clause number */
-    QDR_TAUTOLOGY = 16,     /* the result holds both signs of a variable: its clause number */
+    QDR_TAUTOLOGY = 16,     /* the result of kind 1 holds both signs of a variable; in kind 3 the clauses oppose each other, apart
+                               from e, on a variable that is not a universal right of e: its clause number */
     QDR_BLOCKED = 17,       /* an existential of the clause to reduce depends on the variable to reduce: its clause number, and of
                                these existentials the one that stands leftmost in the prefix, variable and block */
     QDR_MISSTATED = 18,     /* the literals stated are not the result's: its clause number */
@@ -145,7 +146,11 @@ uint32_t qdr_read_proof(const uint8_t *file, size_t file_length,
                         uint64_t out[QDR_OUT_LENGTH]);
 
 /* Checks a refutation: `1 i j e L.. 0` resolves clauses i and j on e, `2 i a L.. 0` takes the universal literal a out of
- * clause i, and L states the result. 0 says that the formula is false.
+ * clause i, and L states the result. `3 i j e L.. 0` and `4 i a L.. 0` are the long-distance kinds: kind 3 resolves as kind 1
+ * does, and also where one clause holds a literal and the other its opposite, apart from e, if the variable is a universal right
+ * of e; both signs are then in the result. A pair that one clause holds whole, the other neither sign, is no hindrance. Kind 4
+ * takes both signs of a's variable out of clause i, a being one that is there.
+ * A proof has kinds 1 and 2 alone or 3 and 4 alone, as its first step has. 0 says that the formula is false.
  * Returns 0, or a refusal: those of qdr_check_tables, then 2 for too many step words, 3 for scratch under
  * QDR_SCRATCH_LENGTH bytes or for starts, which needs a word for each clause and each step; for each step 23 behind an empty
  * clause, 13, 3 where it has no start, one of 14 to 18; 19.

@@ -16,8 +16,8 @@ use Rattle.formula.specs.declared.write.WriteAnswer.{WriteAnswer}
 use Rattle.formula.specs.declared.write.WriteAnswer.the-variants.{Written, Refused as WriteRefused}
 use Rattle.dependency.specs.declared.answer.RowAnswer.{RowAnswer}
 use Rattle.dependency.specs.declared.answer.RowAnswer.the-variants.{Filled, Refused as RowRefused}
-use Rattle.checker.specs.declared.file.ProofAnswer.{ProofAnswer}
-use Rattle.checker.specs.declared.file.ProofAnswer.the-variants.{Read as ProofRead, Refused as ProofRefused}
+use Rattle.prooffile.specs.declared.file.ProofAnswer.{ProofAnswer}
+use Rattle.prooffile.specs.declared.file.ProofAnswer.the-variants.{Read as ProofRead, Refused as ProofRefused}
 use Rattle.checker.specs.declared.verdict.Verdict.{Verdict}
 use Rattle.checker.specs.declared.verdict.Verdict.the-variants.{Accepted, Refused as VerdictRefused}
 use Rattle.evaluator.specs.declared.evaluation.Evaluation.{Evaluation}

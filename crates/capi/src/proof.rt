@@ -1,13 +1,13 @@
 // C functions on a proof: its file, and its check.
 use crate::codes::accept;
 use crate::codes::refuse;
-use checker::file::ProofAnswer;
-use checker::file::read_proof;
 use checker::proof::check_proof;
 use checker::proof::check_proof_small;
 use checker::verdict::Verdict;
-ghost use Rattle.checker.specs.File.{ProofRead};
-ghost use Rattle.checker.specs.Rules.{plainRules, smallRules};
+use prooffile::file::ProofAnswer;
+use prooffile::file::read_proof;
+ghost use Rattle.prooffile.specs.File.{ProofRead};
+ghost use Rattle.inference.specs.Rules.{plainRules, smallRules};
 ghost use Rattle.checker.specs.Verdict.{Checked};
 ghost use Rattle.checker.specs.declared.verdict.Verdict.{Verdict as Answer};
 ghost use Rattle.capi.specs.Codes.{Told, Tells, proofCode, verdictCode};

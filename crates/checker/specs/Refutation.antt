@@ -1,5 +1,5 @@
 -- What a refutation is (wish 2; 01, "Steps"), and 01's bounds and room for one. Nothing here speaks of tests or of their order: that
--- the checker accepts exactly the refutations is in Verdict/Exact.antt. Lawful steps are in Lawful.antt.
+-- the checker accepts exactly the refutations is in Verdict/Exact.antt. Lawful steps are in `inference`.
 pub mod FirstEmptyClause
 pub mod Ending
 pub mod Laws
@@ -14,10 +14,11 @@ use Rattle.formula.specs.Bounds.{proofBound}
 use Rattle.formula.specs.Decode.{clausesOf, formulaOf}
 use Rattle.formula.specs.Tables.{Admitted}
 use Rattle.dependency.specs.Scratch.{scratchBound}
-use Rattle.checker.specs.Rules.{Rules}
-use Rattle.checker.specs.Words.{Words}
-use Rattle.checker.specs.Steps.{Step, statedBy}
-use Rattle.checker.specs.Lawful.{stepWords, numberedClauses, LawfulSteps, Unended, Allowed}
+use Rattle.inference.specs.declared.read.Family.{Family}
+use Rattle.inference.specs.Rules.{Rules}
+use Rattle.inference.specs.Words.{Words}
+use Rattle.inference.specs.Steps.{Step, statedBy}
+use Rattle.inference.specs.Lawful.{stepWords, numberedClauses, LawfulSteps, OfFamily, Unended, Allowed}
 
 -- The last of some steps.
 abbrev pub lastStep : Step → List Step → Step
@@ -29,12 +30,14 @@ abbrev pub EndsEmpty : List Words → List Step → Type 0
 EndsEmpty known [] = List·Memᴰ [] known
 EndsEmpty known (s ∷ steps) = statedBy (lastStep s steps) ≡ []
 
--- The words are steps written one after the other, each lawful over the clauses numbered before it, none of which is empty; and the last clause, or
+-- The words are steps of one family written one after the other, each lawful over the clauses numbered before it, none of which is empty; and the last clause, or
 -- without steps some input clause, is empty (02, P10). Dependencies are those of the formula that the tables denote.
 pub record Refutation (prefix clauses words : List ℤ) : Type 0 where
   pub steps : List Step
   pub written : words ≡ stepWords steps
   pub lawful : LawfulSteps (formulaOf prefix clauses) (clausesOf clauses) steps
+  pub family : Family
+  pub of-family : OfFamily family steps
   pub unended : Unended (clausesOf clauses) steps
   pub ends-empty : EndsEmpty (clausesOf clauses) steps
 
@@ -60,6 +63,8 @@ pub record Accepting (rules : Rules) (prefix clauses words : List ℤ) (scratch 
   pub steps : List Step
   pub written : words ≡ stepWords steps
   pub lawful : LawfulSteps (formulaOf prefix clauses) (clausesOf clauses) steps
+  pub family : Family
+  pub of-family : OfFamily family steps
   pub allowed : Allowed rules (clausesOf clauses) steps
   pub offsets-fit : length (numberedClauses (clausesOf clauses) steps) ≤ offsets
   pub place : ℕ

@@ -8,14 +8,14 @@ use mathlib.Core.List.{List}
 use lib.ListN.{length, getD, drop}
 use lib.IntN.{ℤ}
 use Rattle.formula.specs.Decode.{clausesOf}
-use Rattle.checker.specs.Rules.{ending, plainRules}
+use Rattle.inference.specs.Rules.{ending, plainRules}
 use Rattle.checker.specs.declared.run.Run.{Run}
 use Rattle.checker.specs.declared.run.Run.the-variants.{Ended, Refused}
-use Rattle.checker.specs.Words.{Words}
-use Rattle.checker.specs.Steps.{Step, statedBy, sizeOf, readStep, Outcome, ended, refused, run}
-use Rattle.checker.specs.Empty.{firstEmpty, emptyNumber}
-use Rattle.checker.specs.Verdict.{scopeOf}
-use Rattle.checker.specs.Numbered.{storedAt, stored}
+use Rattle.inference.specs.Words.{Words}
+use Rattle.inference.specs.Steps.{Step, familyOf, statedBy, sizeOf, readStep, Outcome, ended, refused, run}
+use Rattle.inference.specs.Empty.{firstEmpty, emptyNumber}
+use Rattle.inference.specs.Scope.{scopeOf}
+use Rattle.inference.specs.Numbered.{storedAt, stored}
 use Rattle.checker.specs.Step.{Ready}
 
 -- The run's answer with the offsets it leaves.
@@ -45,13 +45,13 @@ sizeRead (some s) = sizeOf s
 -- Where the step with so many steps before it begins: the first at 0, every other right behind the one before it.
 unfoldable pub stepPlace : Words → ℕ → ℕ
 stepPlace steps zero = 0
-stepPlace steps (suc n) = stepPlace steps n + sizeRead (readStep plainRules (drop (stepPlace steps n) steps))
+stepPlace steps (suc n) = stepPlace steps n + sizeRead (readStep (familyOf steps) (drop (stepPlace steps n) steps))
 
 -- The step with `before` steps before it has its first word at a place, and states the clause.
 pub record StepStands (steps : Words) (before at : ℕ) (C : Words) : Type 0 where
   pub place : at ≡ stepPlace steps before
   pub step : Step
-  pub was-read : readStep plainRules (drop at steps) ≡ some step
+  pub was-read : readStep (familyOf steps) (drop at steps) ≡ some step
   pub states : statedBy step ≡ C
 
 -- Where the words of the first `numbered` clauses stand: those of the input clauses in the clause table, as it has them; those of
@@ -62,7 +62,7 @@ pub record Placed (clauses steps : Words) (inputs : ℕ) (offsets : List ℕ) (n
 
 -- `scratch` and `offsets` are as the run leaves them: the scratch is ready for another run. A strict run refuses steps after an empty clause.
 pub record RunDone (strict : Bool) (prefix clauses steps : List ℤ) (inputs : ℕ) (r : Run) (scratch offsets : List ℕ) : Type 0 where
-  pub outcome : run (ending strict plainRules) (scopeOf prefix clauses) (length offsets) (clausesOf clauses) zero steps ≡ outcomeOf inputs clauses steps offsets r
+  pub outcome : run (ending strict plainRules) (familyOf steps) (scopeOf prefix clauses) (length offsets) (clausesOf clauses) zero steps ≡ outcomeOf inputs clauses steps offsets r
   pub counted : countOf r ≤ length offsets
   pub grown : Grown inputs r
   pub empty-told : EmptyTold inputs clauses steps offsets r

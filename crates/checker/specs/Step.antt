@@ -1,9 +1,9 @@
 -- What the parts of a step's check answer, and the scratch they work in: the marks of a step, the row that was made last, which variables are
--- existential. That the parts make up the judgement of Steps.antt is in Step/Laws.antt.
+-- existential. That the parts make up the judgement of inference/specs/Steps.antt is in Step/Laws.antt.
 pub mod Laws
 use Prim.Native.Nat.{ℕ, _+_, _≤_}
 use mathlib.Core.Path.{_≡_}
-use mathlib.Core.Bool.{not, _&&_}
+use mathlib.Core.Bool.{Bool, not, _&&_}
 use mathlib.Core.Option.{Option, none, some}
 use mathlib.Core.List.{List}
 use lib.ListN.{length, take, drop}
@@ -17,20 +17,21 @@ use Rattle.formula.specs.declared.literal.VariableFit.{VariableFit}
 use Rattle.formula.specs.declared.literal.VariableFit.the-variants.{Within, Outside}
 use Rattle.formula.specs.declared.refusal.Reason.{Reason}
 use Rattle.formula.specs.declared.refusal.Reason.the-variants.{NotEarlier, WrongPivot, Blocked}
-use Rattle.checker.specs.declared.read.StepKind.{StepKind}
-use Rattle.checker.specs.declared.read.StepKind.the-variants.{Resolution, Reduction}
-use Rattle.checker.specs.declared.read.StepRead.{StepRead}
-use Rattle.checker.specs.declared.result.Judgement.{Judgement}
-use Rattle.checker.specs.declared.result.Judgement.the-variants.{Right, Wrong}
+use Rattle.inference.specs.declared.read.Family.{Family}
+use Rattle.inference.specs.declared.read.StepKind.{StepKind}
+use Rattle.inference.specs.declared.read.StepKind.the-variants.{Resolution, Reduction}
+use Rattle.inference.specs.declared.read.StepRead.{StepRead}
+use Rattle.inference.specs.declared.result.Judgement.{Judgement}
+use Rattle.inference.specs.declared.result.Judgement.the-variants.{Right, Wrong}
 use Rattle.checker.specs.declared.step.StepAnswer.{StepAnswer}
 use Rattle.checker.specs.declared.step.StepAnswer.the-variants.{Right as RightStep, Wrong as WrongStep}
-use Rattle.checker.specs.Words.{Words, holds}
-use Rattle.checker.specs.Steps.{Scope, statedBy, sizeOf, resolvent, blocked, blockerOf, demand, Judged, right, wrong}
-use Rattle.checker.specs.Empty.{isEmpty}
-use Rattle.checker.specs.Read.{fieldsOf}
-use Rattle.checker.specs.Marks.{marksIn, clean}
-use Rattle.checker.specs.Existentials.{existentialsOf, existentialOf}
-use Rattle.checker.specs.Result.{judgementOf, resultReason, statementReason}
+use Rattle.inference.specs.Words.{Words, holds}
+use Rattle.inference.specs.Steps.{Scope, statedBy, sizeOf, resolvent, unresolvable, reduct, blocked, blockerOf, demand, judgeStatement, Judged, right, wrong}
+use Rattle.inference.specs.Empty.{isEmpty}
+use Rattle.inference.specs.Read.{fieldsOf}
+use Rattle.inference.specs.Marks.{marksIn, clean}
+use Rattle.inference.specs.Existentials.{existentialsOf, existentialOf}
+use Rattle.inference.specs.Result.{judgementOf, resultReason}
 
 -- The marks, before the row; the existentials, right behind it.
 abbrev pub marksOf : List ℕ → List ℕ
@@ -68,29 +69,30 @@ keptBy Reduction step kept = variableOf (wordOf (step .pivot))
 abbrev pub keptAfter : StepRead → ℕ → ℕ
 keptAfter step kept = keptBy (step .kind) step kept
 
--- The pivot stands in both clauses, then the result.
-abbrev pub pivotReason : ℤ → Words → Words → Words → Option Reason
-pivotReason e C D L = demand (holds e C && holds (negℤ e) D) WrongPivot (resultReason (resolvent e C D) L)
+-- The pivot stands in both clauses, no opposite literals forbid it, then the result; `may` tells which variables may be merged.
+abbrev pub pivotReason : Family → (ℕ → Bool) → ℤ → Words → Words → Words → Option Reason
+pivotReason f may e C D L = demand (holds e C && holds (negℤ e) D) WrongPivot (resultReason (unresolvable f may e C D) (resolvent e C D) L)
 
-abbrev pub resolvingReason : VariableFit → Words → Words → Words → Option Reason
-resolvingReason Outside C D L = some WrongPivot
-resolvingReason (Within v) C D L = pivotReason (pos (v .0)) C D L
+abbrev pub resolvingReason : Family → (ℕ → ℕ → Bool) → VariableFit → Words → Words → Words → Option Reason
+resolvingReason f mergeable Outside C D L = some WrongPivot
+resolvingReason f mergeable (Within v) C D L = pivotReason f (mergeable (v .0)) (pos (v .0)) C D L
 
 -- With antecedents that may be missing; `existentials` are the flags in the scratch.
-abbrev pub resolutionReason : List ℕ → ℤ → Words → Option Words → Option Words → Option Reason
-resolutionReason existentials e L none D = some NotEarlier
-resolutionReason existentials e L (some C) none = some NotEarlier
-resolutionReason existentials e L (some C) (some D) = resolvingReason (existentialOf existentials (wordOf e)) C D L
+abbrev pub resolutionReason : Family → (ℕ → ℕ → Bool) → List ℕ → ℤ → Words → Option Words → Option Words → Option Reason
+resolutionReason f mergeable existentials e L none D = some NotEarlier
+resolutionReason f mergeable existentials e L (some C) none = some NotEarlier
+resolutionReason f mergeable existentials e L (some C) (some D) = resolvingReason f mergeable (existentialOf existentials (wordOf e)) C D L
 
 -- No variable of the clause depends on u, then the result.
-abbrev pub freeReason : Scope → ℕ → ℤ → Words → Words → Option Reason
-freeReason S u a C L = demand (not (blocked S u C)) (Blocked (blockerOf S u C)) (statementReason a C L)
+abbrev pub freeReason : Family → Scope → ℕ → ℤ → Words → Words → Option Reason
+freeReason f S u a C L = demand (not (blocked S u C)) (Blocked (blockerOf S u C)) (judgeStatement (reduct f a C) L)
 
--- An answer that leaves the marks clean, and all behind them as it was.
+-- An answer that leaves the marks clean, and the row and the existentials as they were.
 pub record Answers (reason : Option Reason) (r : Judgement) (scratch scratch′ : List ℕ) : Type 0 where
   pub answer : r ≡ judgementOf reason
+  pub size : length scratch′ ≡ length scratch
   pub marks : marksOf scratch′ ≡ clean
-  pub kept : drop rowAt scratch′ ≡ drop rowAt scratch
+  pub kept : take 256 (drop rowAt scratch′) ≡ take 256 (drop rowAt scratch)
 
 -- After a wrong step no row is kept.
 abbrev pub keptIf : Judgement → ℕ → ℕ

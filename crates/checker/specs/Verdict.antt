@@ -2,7 +2,6 @@
 -- clause offsets, the steps, 19. `verdictOf plainRules` is what `check_proof` answers, `verdictOf smallRules` what `check_proof_small` does,
 -- Checked what each promises. That the two agree where both have room is in Verdict/Sizes.antt, what 02's P10 changed in Verdict/Ending.antt.
 pub mod Examples
-pub mod TableScope
 pub mod Conclusion
 pub mod Accuracy
 pub mod Exact
@@ -17,9 +16,6 @@ use mathlib.Core.List.{List}
 use lib.ListN.{length, replicate}
 use lib.Dec.{leb, ltb}
 use lib.IntN.{ℤ}
-use Rattle.qbf.specs.Dependency.{depends}
-use Rattle.qbf.specs.Formula.{Formula, existential, universal}
-use Rattle.formula.specs.Prefix.{quantifies, withBlocks}
 use Rattle.formula.specs.Bounds.{proofBound}
 use Rattle.formula.specs.Decode.{formulaOf, clausesOf}
 use Rattle.formula.specs.Tables.{zeros, tablesRefusal}
@@ -30,23 +26,11 @@ use Rattle.formula.specs.declared.refusal.Refusal.{Refusal}
 use Rattle.formula.specs.declared.refusal.Reason.the-variants.{Oversized, NoRoom, NoConclusion}
 use Rattle.checker.specs.declared.verdict.Verdict.{Verdict}
 use Rattle.checker.specs.declared.verdict.Verdict.the-variants.{Accepted, Refused}
-use Rattle.checker.specs.Rules.{Rules}
-use Rattle.checker.specs.Words.{Words}
-use Rattle.checker.specs.Empty.{firstEmpty, lastEmpty}
-use Rattle.checker.specs.Steps.{Scope, Outcome, ended, refused, run}
-
--- What steps know of a formula: the entries of its prefix, and dependencies, which come from the input formula.
-abbrev pub scopeIn : Formula → Scope
-scopeIn F =
-    record {
-      existential = quantifies existential (F .prefix);
-      universal = quantifies universal (F .prefix);
-      dependent = depends F;
-      blocks = withBlocks (F .prefix);
-    }
-
-abbrev pub scopeOf : List ℤ → List ℤ → Scope
-scopeOf prefix clauses = scopeIn (formulaOf prefix clauses)
+use Rattle.inference.specs.Rules.{Rules}
+use Rattle.inference.specs.Words.{Words}
+use Rattle.inference.specs.Empty.{firstEmpty, lastEmpty}
+use Rattle.inference.specs.Steps.{Scope, familyOf, Outcome, ended, refused, run}
+use Rattle.inference.specs.Scope.{scopeOf}
 
 -- The number of the empty clause that a run concludes with; `inputs` of the numbered clauses are input clauses. By strict rules (02, P10) it is the last
 -- clause, or without steps the first empty input clause; by others the first empty one of all.
@@ -75,7 +59,7 @@ scopeVerdict rules S clauses steps scratch room =
     (Refused (refusal NoRoom 0))
     (require (leb (zeros clauses) room)
     (Refused (refusal NoRoom (suc room)))
-    (conclude rules (zeros clauses) (run rules S room (clausesOf clauses) zero steps))))
+    (conclude rules (zeros clauses) (run rules (familyOf steps) S room (clausesOf clauses) zero steps))))
 
 unfoldable pub sizedVerdict : Rules → List ℤ → List ℤ → List ℤ → ℕ → ℕ → Verdict
 sizedVerdict rules prefix clauses steps scratch room = scopeVerdict rules (scopeOf prefix clauses) clauses steps scratch room

@@ -1,7 +1,4 @@
 // The check of a proof, on tables and step words: the entries of this layer, which differ in the scratch they ask for.
-use crate::existentials::EXISTENTIALS_END;
-use crate::existentials::fill_existentials;
-use crate::numbered::fill_offsets;
 use crate::run::Run;
 use crate::run::run_steps;
 use crate::verdict::Verdict;
@@ -17,16 +14,20 @@ use formula::refusal::Reason;
 use formula::refusal::Refusal;
 use formula::tables::TablesAnswer;
 use formula::tables::check_tables_in;
+use inference::existentials::EXISTENTIALS_END;
+use inference::existentials::fill_quantified;
+use inference::numbered::fill_offsets;
 ghost use mathlib.Core.Path.{_≡_};
 ghost use Prim.Native.Nat.{_≤_, zero};
 ghost use lib.ListN.{length, replicate};
 ghost use Rattle.dependency.specs.Scratch.{smallBound};
 ghost use Rattle.formula.specs.Decode.{clausesOf};
 ghost use Rattle.formula.specs.Tables.{Admitted, zeros};
-ghost use Rattle.checker.specs.Rules.{resized, plainRules, smallRules};
-ghost use Rattle.checker.specs.Steps.{run};
-ghost use Rattle.checker.specs.Empty.{numberFound};
-ghost use Rattle.checker.specs.Verdict.{scopeOf, concluded, conclude, sizedVerdict, verdictOf, Checked};
+ghost use Rattle.inference.specs.Rules.{resized, plainRules, smallRules};
+ghost use Rattle.inference.specs.Steps.{familyOf, run};
+ghost use Rattle.inference.specs.Empty.{numberFound};
+ghost use Rattle.checker.specs.Verdict.{concluded, conclude, sizedVerdict, verdictOf, Checked};
+ghost use Rattle.inference.specs.Scope.{scopeOf};
 
 // What was lent, wholly 0: before the steps, and as every check leaves it.
 fn clear_lent(scratch: &mut [u8], offsets: &mut [u32])
@@ -60,10 +61,10 @@ fn judge_steps<'a>(
     offsets: &mut [u32],
 ) -> Verdict
     requires { ⌜ Admitted (now prefix) (now clauses) ⌝ ∗ ⌜ inputs ≡ zeros (now clauses) ⌝ ∗ ⌜ length (now steps) ≤ 1048576 ⌝ ∗ ⌜ length (now scratch) ≡ smallBound ⌝ ∗ ⌜ inputs ≤ length (now offsets) ⌝ }
-    ensures { λ r. ⌜ r ≡ conclude plainRules inputs (run plainRules (scopeOf (now (prefix .entry)) (now (clauses .entry))) (length (now (offsets .entry))) (clausesOf (now (clauses .entry))) zero (now (steps .entry))) ⌝ }
+    ensures { λ r. ⌜ r ≡ conclude plainRules inputs (run plainRules (familyOf (now (steps .entry))) (scopeOf (now (prefix .entry)) (now (clauses .entry))) (length (now (offsets .entry))) (clausesOf (now (clauses .entry))) zero (now (steps .entry))) ⌝ }
 {
     clear_lent(scratch, offsets);
-    fill_existentials(prefix, &mut scratch[LATER..EXISTENTIALS_END]);
+    fill_quantified(prefix, 0, true, &mut scratch[LATER..EXISTENTIALS_END]);
     let first = fill_offsets(clauses, offsets);
     match run_steps(
         prefix,

@@ -1,16 +1,5 @@
-// Kind 2: a reduction. Each check costs a few passes over the prefix, the clause and the statement, and the row of its variable, unless that
+// Kinds 2 and 4: a reduction. Each check costs a few passes over the prefix, the clause and the statement, and the row of its variable, unless that
 // is the row that stands in the scratch. `kept` is the variable whose row stands there, 0 for none.
-use crate::blocked::find_blocker;
-use crate::blocked::row_touches;
-use crate::clause::has_word;
-use crate::existentials::EXISTENTIALS_END;
-use crate::existentials::fill_existentials;
-use crate::numbered::antecedent_of;
-use crate::numbered::place_of;
-use crate::numbered::table_of;
-use crate::read::StepRead;
-use crate::result::Judgement;
-use crate::result::judge_reduct;
 use dependency::answer::is_universal;
 use dependency::row::make_row;
 use dependency::scratch::LATER;
@@ -22,6 +11,18 @@ use formula::literal::Variable;
 use formula::literal::VariableFit;
 use formula::refusal::Reason;
 use formula::word::Word;
+use inference::blocked::find_blocker;
+use inference::blocked::row_touches;
+use inference::clause::has_word;
+use inference::existentials::EXISTENTIALS_END;
+use inference::existentials::fill_quantified;
+use inference::numbered::antecedent_of;
+use inference::numbered::place_of;
+use inference::numbered::table_of;
+use inference::read::Family;
+use inference::read::StepRead;
+use inference::result::Judgement;
+use inference::result::judge_reduct;
 ghost use mathlib.Core.Path.{_≡_};
 ghost use mathlib.Core.Bool.{true};
 ghost use mathlib.Core.Option.{some};
@@ -34,10 +35,10 @@ ghost use Rattle.qbf.specs.Formula.{universal};
 ghost use Rattle.formula.specs.Prefix.{prefixOf, quantifies, Entries};
 ghost use Rattle.formula.specs.Decode.{clauseAt};
 ghost use Rattle.formula.specs.Word.{wordOf, variableOf};
-ghost use Rattle.checker.specs.Steps.{antecedent, judgeReduction};
-ghost use Rattle.checker.specs.Words.{AllWords, InRange, AllInRange};
-ghost use Rattle.checker.specs.Verdict.{scopeOf};
-ghost use Rattle.checker.specs.Numbered.{stored};
+ghost use Rattle.inference.specs.Steps.{antecedent, judgeReduction};
+ghost use Rattle.inference.specs.Words.{AllWords, InRange, AllInRange};
+ghost use Rattle.inference.specs.Scope.{scopeOf};
+ghost use Rattle.inference.specs.Numbered.{stored};
 ghost use Rattle.checker.specs.Step.{KeptReady, RowReady, freeReason, JudgedReady};
 
 // The variable of a word that is a literal of a universal.
@@ -66,7 +67,7 @@ fn row_for(prefix: &[i32], clauses: &[i32], variable: Variable, kept: usize, scr
         return;
     }
     make_row(prefix, clauses, variable, scratch);
-    fill_existentials(prefix, &mut scratch[LATER..EXISTENTIALS_END]);
+    fill_quantified(prefix, 0, true, &mut scratch[LATER..EXISTENTIALS_END]);
 }
 
 // No variable of the clause depends on the reduced one, by its row, and else which one blocks; then the result is judged.
@@ -77,20 +78,29 @@ fn reduce_on(
     from: usize,
     variable: Variable,
     literal: Literal,
+    family: Family,
     steps: &[i32],
     statement: usize,
     kept: usize,
     scratch: &mut [u8],
 ) -> Judgement
-    requires { ⌜ KeptReady (now prefix) (now clauses) kept (now scratch) ⌝ ∗ ⌜ Admitted (now prefix) (now clauses) ⌝ ∗ ⌜ quantifies universal (prefixOf (now prefix)) (variable .0) ≡ true ⌝ ∗ ⌜ AllInRange (clauseAt (now words) from) ⌝ }
-    ensures { λ r. ⌜ JudgedReady (now (prefix .entry)) (now (clauses .entry)) (variable .0) (freeReason (scopeOf (now (prefix .entry)) (now (clauses .entry))) (variable .0) (literal .0) (clauseAt (now (words .entry)) from) (clauseAt (now (steps .entry)) statement)) r (now (scratch .exit)) ⌝ }
+    requires { ⌜ KeptReady (now prefix) (now clauses) kept (now scratch) ⌝ ∗ ⌜ Admitted (now prefix) (now clauses) ⌝ ∗ ⌜ quantifies universal (prefixOf (now prefix)) (variable .0) ≡ true ⌝ ∗ ⌜ InRange (literal .0) ⌝ ∗ ⌜ AllInRange (clauseAt (now words) from) ⌝ }
+    ensures { λ r. ⌜ JudgedReady (now (prefix .entry)) (now (clauses .entry)) (variable .0) (freeReason family (scopeOf (now (prefix .entry)) (now (clauses .entry))) (variable .0) (literal .0) (clauseAt (now (words .entry)) from) (clauseAt (now (steps .entry)) statement)) r (now (scratch .exit)) ⌝ }
 {
     row_for(prefix, clauses, variable, kept, scratch);
     if row_touches(words, from, scratch) {
         let blocker = find_blocker(prefix, words, from, scratch);
         return Judgement::Wrong(Reason::Blocked(blocker));
     }
-    judge_reduct(words, from, literal, steps, statement, &mut scratch[..ROW])
+    judge_reduct(
+        words,
+        from,
+        literal,
+        family,
+        steps,
+        statement,
+        &mut scratch[..ROW],
+    )
 }
 
 // The reduced literal is a universal one of the clause.
@@ -100,13 +110,14 @@ fn reduce_literal(
     words: &[i32],
     from: usize,
     literal: Literal,
+    family: Family,
     steps: &[i32],
     statement: usize,
     kept: usize,
     scratch: &mut [u8],
 ) -> Judgement
     requires { ⌜ KeptReady (now prefix) (now clauses) kept (now scratch) ⌝ ∗ ⌜ Admitted (now prefix) (now clauses) ⌝ ∗ ⌜ AllInRange (clauseAt (now words) from) ⌝ }
-    ensures { λ r. ⌜ JudgedReady (now (prefix .entry)) (now (clauses .entry)) (natAbs (literal .0)) (judgeReduction (scopeOf (now (prefix .entry)) (now (clauses .entry))) (literal .0) (clauseAt (now (steps .entry)) statement) (some (clauseAt (now (words .entry)) from))) r (now (scratch .exit)) ⌝ }
+    ensures { λ r. ⌜ JudgedReady (now (prefix .entry)) (now (clauses .entry)) (natAbs (literal .0)) (judgeReduction family (scopeOf (now (prefix .entry)) (now (clauses .entry))) (literal .0) (clauseAt (now (steps .entry)) statement) (some (clauseAt (now (words .entry)) from))) r (now (scratch .exit)) ⌝ }
 {
     let a = literal.0;
     match universal_of(prefix, a) {
@@ -120,6 +131,7 @@ fn reduce_literal(
                     from,
                     variable,
                     literal,
+                    family,
                     steps,
                     statement,
                     kept,
@@ -143,8 +155,9 @@ fn reduce_fields(
     scratch: &mut [u8],
 ) -> Judgement
     requires { ⌜ KeptReady (now prefix) (now clauses) kept (now scratch) ⌝ ∗ ⌜ Admitted (now prefix) (now clauses) ⌝ ∗ ⌜ AllInRange (clauseAt (now words) from) ⌝ }
-    ensures { λ r. ⌜ JudgedReady (now (prefix .entry)) (now (clauses .entry)) (variableOf (wordOf (step .pivot))) (judgeReduction (scopeOf (now (prefix .entry)) (now (clauses .entry))) (step .pivot) (clauseAt (now (steps .entry)) (step .statement)) (some (clauseAt (now (words .entry)) from))) r (now (scratch .exit)) ⌝ }
+    ensures { λ r. ⌜ JudgedReady (now (prefix .entry)) (now (clauses .entry)) (variableOf (wordOf (step .pivot))) (judgeReduction (step .family) (scopeOf (now (prefix .entry)) (now (clauses .entry))) (step .pivot) (clauseAt (now (steps .entry)) (step .statement)) (some (clauseAt (now (words .entry)) from))) r (now (scratch .exit)) ⌝ }
 {
+    let family = step.family;
     match Literal::new(step.pivot) {
         LiteralFit::Outside => Judgement::Wrong(Reason::WrongPivot),
         LiteralFit::Within(literal) => {
@@ -154,6 +167,7 @@ fn reduce_fields(
                 words,
                 from,
                 literal,
+                family,
                 steps,
                 step.statement,
                 kept,
@@ -177,7 +191,7 @@ pub fn check_reduction<'a>(
 ) -> Judgement
     requires { ⌜ KeptReady (now prefix) (now clauses) kept (now scratch) ⌝ ∗ ⌜ Admitted (now prefix) (now clauses) ⌝ }
     requires { ⌜ numbered ≤ length (now offsets) ⌝ ∗ ⌜ AllWords InRange (stored inputs (now clauses) (now steps) (now offsets) numbered) ⌝ }
-    ensures { λ r. ⌜ JudgedReady (now (prefix .entry)) (now (clauses .entry)) (variableOf (wordOf (step .pivot))) (judgeReduction (scopeOf (now (prefix .entry)) (now (clauses .entry))) (step .pivot) (clauseAt (now (steps .entry)) (step .statement)) (antecedent (stored inputs (now (clauses .entry)) (now (steps .entry)) (now (offsets .entry)) numbered) (step .first))) r (now (scratch .exit)) ⌝ }
+    ensures { λ r. ⌜ JudgedReady (now (prefix .entry)) (now (clauses .entry)) (variableOf (wordOf (step .pivot))) (judgeReduction (step .family) (scopeOf (now (prefix .entry)) (now (clauses .entry))) (step .pivot) (clauseAt (now (steps .entry)) (step .statement)) (antecedent (stored inputs (now (clauses .entry)) (now (steps .entry)) (now (offsets .entry)) numbered) (step .first))) r (now (scratch .exit)) ⌝ }
 {
     match antecedent_of(step.first, numbered) {
         NumberFit::Outside => Judgement::Wrong(Reason::NotEarlier),

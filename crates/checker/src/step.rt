@@ -1,25 +1,25 @@
 // The check of one step: it is read, has room, and is judged by its kind.
-use crate::clause::is_empty;
-use crate::read::Reading;
-use crate::read::StepKind;
-use crate::read::StepRead;
-use crate::read::read_step;
 use crate::reduce::check_reduction;
 use crate::resolve::check_resolution;
-use crate::result::Judgement;
 use formula::refusal::Reason;
 use formula::word::Word;
+use inference::clause::is_empty;
+use inference::read::Family;
+use inference::read::Reading;
+use inference::read::StepKind;
+use inference::read::StepRead;
+use inference::read::read_step;
+use inference::result::Judgement;
 ghost use mathlib.Core.Path.{_≡_};
 ghost use Prim.Native.Nat.{_≤_, _<_};
 ghost use lib.ListN.{length, drop};
 ghost use Rattle.formula.specs.Decode.{clauseAt};
 ghost use Rattle.formula.specs.Tables.{Admitted};
-ghost use Rattle.checker.specs.Rules.{plainRules};
-ghost use Rattle.checker.specs.Steps.{readStep, judge, judgeRead};
-ghost use Rattle.checker.specs.Words.{AllWords, InRange};
-ghost use Rattle.checker.specs.Verdict.{scopeOf};
-ghost use Rattle.checker.specs.Numbered.{stored};
-ghost use Rattle.checker.specs.Read.{stepOf};
+ghost use Rattle.inference.specs.Steps.{readStep, judge, judgeRead};
+ghost use Rattle.inference.specs.Words.{AllWords, InRange};
+ghost use Rattle.inference.specs.Scope.{scopeOf};
+ghost use Rattle.inference.specs.Numbered.{stored};
+ghost use Rattle.inference.specs.Read.{stepOf};
 ghost use Rattle.checker.specs.Step.{KeptReady, keptAfter, JudgedReady, StepChecked};
 
 // A step that was read, by its kind.
@@ -41,7 +41,16 @@ fn judge_step<'a>(
     let kind = step.kind;
     match kind {
         StepKind::Resolution => {
-            check_resolution(clauses, steps, offsets, inputs, numbered, step, scratch)
+            check_resolution(
+                prefix,
+                clauses,
+                steps,
+                offsets,
+                inputs,
+                numbered,
+                step,
+                scratch,
+            )
         }
         StepKind::Reduction => {
             check_reduction(
@@ -90,14 +99,15 @@ pub fn check_step<'a>(
     inputs: usize,
     numbered: usize,
     at: usize,
+    family: Family,
     kept: usize,
     scratch: &mut [u8],
 ) -> StepAnswer
     requires { ⌜ KeptReady (now prefix) (now clauses) kept (now scratch) ⌝ ∗ ⌜ Admitted (now prefix) (now clauses) ⌝ ∗ ⌜ at < length (now steps) ⌝ }
     requires { ⌜ numbered ≤ length (now offsets) ⌝ ∗ ⌜ AllWords InRange (stored inputs (now clauses) (now steps) (now offsets) numbered) ⌝ }
-    ensures { λ r. ⌜ StepChecked (now (prefix .entry)) (now (clauses .entry)) at kept (judgeRead (scopeOf (now (prefix .entry)) (now (clauses .entry))) (length (now (offsets .entry))) (stored inputs (now (clauses .entry)) (now (steps .entry)) (now (offsets .entry)) numbered) (readStep plainRules (drop at (now (steps .entry))))) r (now (scratch .exit)) ⌝ }
+    ensures { λ r. ⌜ StepChecked (now (prefix .entry)) (now (clauses .entry)) at kept (judgeRead (scopeOf (now (prefix .entry)) (now (clauses .entry))) (length (now (offsets .entry))) (stored inputs (now (clauses .entry)) (now (steps .entry)) (now (offsets .entry)) numbered) (readStep family (drop at (now (steps .entry))))) r (now (scratch .exit)) ⌝ }
 {
-    match read_step(steps, at) {
+    match read_step(steps, at, family) {
         Reading::Broken => StepAnswer::Wrong(Reason::BrokenStep),
         Reading::Step(step) => {
             if offsets.len() <= numbered {

@@ -4,6 +4,7 @@ use Prim.Native.Nat.{ℕ}
 use mathlib.Core.Bool.{Bool, true, false, _&&_}
 use lib.Dec.{leb}
 use lib.IntN.{ℤ}
+pub use Rattle.scanner.specs.Position.{textBound}
 use Rattle.formula.specs.declared.bounds.TextFit.{TextFit}
 use Rattle.formula.specs.declared.bounds.TextFit.the-variants.{Within as TextWithin, Oversized as TextOversized}
 use Rattle.formula.specs.declared.bounds.PrefixFit.{PrefixFit}
@@ -23,7 +24,8 @@ use Rattle.formula.specs.declared.literal.LiteralFit.the-variants.{Withi
 use Rattle.formula.specs.declared.literal.NumberFit.{NumberFit}
 use Rattle.formula.specs.declared.literal.NumberFit.the-variants.{Within as NumberWithin, Outside as NumberOutside}
 
--- Variables, and their numbers; prefix words, three a variable (02, P6); input clauses; clause words; step words; bytes of text.
+-- Variables, and their numbers; prefix words, three a variable (02, P6); input clauses; clause words; step words. That on bytes of text, `textBound`,
+-- stands in the scanner's Position.antt.
 abbrev pub variableBound : ℕ
 variableBound = 1024
 
@@ -38,9 +40,6 @@ matrixBound = 65536
 
 abbrev pub proofBound : ℕ
 proofBound = 1048576
-
-abbrev pub textBound : ℕ
-textBound = 1048576
 
 -- A number from 1 to `last`.
 abbrev pub inRange : ℕ → ℕ → Bool

@@ -8,8 +8,8 @@ use mathlib.Core.Option.{Option, none, some}
 use mathlib.Core.List.{List, [], _∷_}
 use lib.ListN.{length, getD}
 use lib.Dec.{eqb}
-use Rattle.formula.specs.Position.{positionAt}
-use Rattle.formula.specs.declared.position.Position.{Position}
+use Rattle.scanner.specs.Position.{positionAt}
+use Rattle.scanner.specs.declared.position.Position.{Position}
 use Rattle.formula.specs.declared.refusal.Reason.{Reason}
 use Rattle.formula.specs.declared.refusal.Refusal.{Refusal}
 use Rattle.formula.specs.declared.refusal.Blocker.{Blocker}

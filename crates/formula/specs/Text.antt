@@ -26,7 +26,7 @@ use Rattle.formula.specs.Word.{signed}
 use Rattle.formula.specs.Prefix.{entryFits, prefixWords}
 use Rattle.formula.specs.Free.{completed}
 use Rattle.formula.specs.Tables.{isIn, zeros}
-use Rattle.formula.specs.Token.{Token, tokens, tokensAt, same, pText, cnfText, aText, eText, Number, natural, negative, noNumber, numberOf}
+use Rattle.scanner.specs.Token.{Token, tokens, tokensAt, same, pText, cnfText, aText, eText, Number, natural, negative, noNumber, numberOf}
 use Rattle.formula.specs.declared.refusal.Refusal.{Refusal}
 use Rattle.formula.specs.declared.refusal.Reason.{Reason}
 use Rattle.formula.specs.declared.refusal.Reason.the-variants.{

@@ -1,22 +1,22 @@
 // The clauses of a formula's text: literals, each clause closed by 0. A variable's mark is twice the number of the last clause that
 // holds it, and 1 more where a set lists it.
 use crate::bounds::MatrixLength;
-use crate::position::Position;
 use crate::refusal::Reason;
 use crate::refusal::Refusal;
-use crate::token::Next;
-use crate::token::Token;
-use crate::token::next_token;
 use crate::word::signed_word;
+use scanner::position::Position;
+use scanner::token::Next;
+use scanner::token::Token;
+use scanner::token::next_token;
 ghost use mathlib.Core.Path.{_≡_};
 ghost use Prim.Native.Nat.{ℕ, _≤_};
 ghost use lib.ListN.{length, getD};
 ghost use lib.Dec.{ltb};
 ghost use Rattle.qbf.specs.Formula.{Prefix};
 ghost use Rattle.formula.specs.Bounds.{variableBound, countBound, textBound};
-ghost use Rattle.formula.specs.Position.Cursor.{PositionIn};
-ghost use Rattle.formula.specs.Token.{Number};
-ghost use Rattle.formula.specs.Token.Scan.{shown};
+ghost use Rattle.scanner.specs.Position.Cursor.{PositionIn};
+ghost use Rattle.scanner.specs.Token.{Number};
+ghost use Rattle.scanner.specs.Token.Scan.{shown};
 ghost use Rattle.formula.specs.Text.{literalReason};
 ghost use Rattle.formula.specs.Text.Sets.{Listed};
 ghost use Rattle.formula.specs.Text.Clauses.{literalStep, LiteralPost, ClosingPost, ClauseTokenPost, clausesEnd, ClausesPost};

@@ -8,16 +8,16 @@ use crate::free::Completion;
 use crate::free::complete;
 use crate::header::HeaderAnswer;
 use crate::header::read_header;
-use crate::position::Position;
 use crate::refusal::Reason;
 use crate::refusal::Refusal;
 use crate::sets::SetsAnswer;
 use crate::sets::read_sets;
+use scanner::position::Position;
 ghost use Prim.Native.Nat.{_≤_};
 ghost use mathlib.Core.List.{[]};
 ghost use lib.ListN.{length};
 ghost use Rattle.formula.specs.Bounds.{variableBound, countBound, textBound};
-ghost use Rattle.formula.specs.Position.Cursor.{PositionIn};
+ghost use Rattle.scanner.specs.Position.Cursor.{PositionIn};
 ghost use Rattle.formula.specs.Text.{betweenSets, reading, readingFrom, ReadPost};
 ghost use Rattle.formula.specs.Text.Fill.{FillPost};
 

@@ -2,7 +2,7 @@
 // with its place. A reason more is a line in the enum and in `tagged`, in `numbers` and `table` of specs/Refusal.antt, and in the
 // list of words of report/src/word.rt.
 use crate::literal::Variable;
-use crate::position::Position;
+use scanner::position::Position;
 ghost use mathlib.Core.Path.{_≡_};
 ghost use Rattle.formula.specs.Refusal.{refusal, refusedAt, numbers, number, Tagged, TaggedNumber};
 

@@ -1,23 +1,23 @@
 // The quantifier sets of a formula's text: `a` or `e`, positive numbers, 0. A mark per variable says whether it is listed.
 use crate::literal::Variable;
 use crate::literal::VariableFit;
-use crate::position::Position;
 use crate::prefix::entry_fits;
 use crate::prefix::put_entry;
 use crate::refusal::Reason;
 use crate::refusal::Refusal;
-use crate::token::Next;
-use crate::token::Token;
-use crate::token::is_word;
-use crate::token::next_token;
+use scanner::position::Position;
+use scanner::token::Next;
+use scanner::token::Token;
+use scanner::token::is_word;
+use scanner::token::next_token;
 ghost use mathlib.Core.Path.{_≡_};
 ghost use Prim.Native.Nat.{_≤_, _<_};
 ghost use mathlib.Core.List.{[]};
 ghost use lib.ListN.{length};
 ghost use Rattle.formula.specs.Bounds.{variableBound, textBound};
-ghost use Rattle.formula.specs.Position.Cursor.{PositionIn};
-ghost use Rattle.formula.specs.Token.{Number};
-ghost use Rattle.formula.specs.Token.Scan.{shown};
+ghost use Rattle.scanner.specs.Position.Cursor.{PositionIn};
+ghost use Rattle.scanner.specs.Token.{Number};
+ghost use Rattle.scanner.specs.Token.Scan.{shown};
 ghost use Rattle.formula.specs.Prefix.{entriesIn, entryWords, quantifierOf};
 ghost use Rattle.formula.specs.Text.Sets.{ListingPost, Listed, setClosing, SetTokenPost, SetPost, SetsPost};
 

@@ -25,10 +25,10 @@ use Rattle.dependency.specs.Scratch.{scratchBound}
 use Rattle.dependency.specs.Answer.{rowRefusal, answerRow, rowBuffer}
 use Rattle.checker.specs.declared.verdict.Verdict.{Verdict}
 use Rattle.checker.specs.declared.verdict.Verdict.the-variants.{Accepted, Refused}
-use Rattle.checker.specs.Rules.{plainRules}
-use Rattle.checker.specs.Words.{sameWord, holds, without, closes}
-use Rattle.checker.specs.Steps.{readStep, opposed, lists, covers, states, blocked, leftmost, blockerOf, judgeResolution, judgeReduction, judgeFirst, run}
-use Rattle.checker.specs.Empty.{someEmpty, firstEmpty, lastEmpty}
+use Rattle.inference.specs.Rules.{plainRules}
+use Rattle.inference.specs.Words.{sameWord, holds, without, closes}
+use Rattle.inference.specs.Steps.{familyOf, unresolvable, readStep, opposed, lists, covers, states, blocked, leftmost, blockerOf, judgeResolution, judgeReduction, judgeFirst, run}
+use Rattle.inference.specs.Empty.{someEmpty, firstEmpty, lastEmpty}
 use Rattle.checker.specs.Verdict.{sizedVerdict, verdictOf}
 use Rattle.checker.specs.Verdict.Examples.{examplePrefix, exampleClauses, exampleSteps}
 use Rattle.evaluator.specs.declared.evaluation.Evaluation.{Evaluation}
@@ -103,6 +103,6 @@ knownPositions =
     ∷ []
 
 pub known-positions : AllAnswered knownPositions
-unfolding prefixOf ordinal blocksFrom occurs leftmost blockerOf sameWord isZero holds without firstClause closes readStep opposed lists covers states blocked judgeResolution judgeReduction someEmpty judgeFirst run firstEmpty lastEmpty sizedVerdict verdictOf wordOf clausesOf isIn zeros prefixRefusal clausesRefusal wordsRefusal tablesRefusal same after existentials holdsLiteral together joined literals reach member pair depends ℕ-discrete quantifies rowBelow rowOf rowRefusal evaluationOf lost falsified satisfied
+unfolding prefixOf ordinal blocksFrom occurs leftmost blockerOf sameWord isZero holds without firstClause closes familyOf readStep opposed unresolvable lists covers states blocked judgeResolution judgeReduction someEmpty judgeFirst run firstEmpty lastEmpty sizedVerdict verdictOf wordOf clausesOf isIn zeros prefixRefusal clausesRefusal wordsRefusal tablesRefusal same after existentials holdsLiteral together joined literals reach member pair depends ℕ-discrete quantifies rowBelow rowOf rowRefusal evaluationOf lost falsified satisfied
 known-positions =
     ((refl, refl), (refl, ((refl, refl), ((refl, refl), (refl, ((refl, refl), (refl, (refl, (refl, (refl, (refl, (refl, (refl, (refl, ((refl, refl), (refl, tt))))))))))))))))

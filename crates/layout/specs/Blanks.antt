@@ -5,7 +5,7 @@ use Prim.Native.Nat.{ℕ}
 use mathlib.Core.Path.{_≡_}
 use mathlib.Core.Bool.{true}
 use mathlib.Core.List.{List, [], _∷_}
-use Rattle.formula.specs.Token.{isBlank}
+use Rattle.scanner.specs.Token.{isBlank}
 use Rattle.formula.specs.Text.{Reading, read, refused}
 
 -- Two bytes are the same, or both are blanks.

@@ -20,9 +20,9 @@ use Rattle.qbf.specs.Formula.{Quantifier, entry, Prefix, listed, Distinct}
 use Rattle.formula.specs.Bounds.{variableBound, countBound, matrixBound, textBound}
 use Rattle.formula.specs.Decimal.{decimal}
 use Rattle.formula.specs.Free.{completed}
-use Rattle.formula.specs.Position.{lineFeed}
+use Rattle.scanner.specs.Position.{lineFeed}
 use Rattle.formula.specs.Prefix.{prefixWords}
-use Rattle.formula.specs.Token.{isBlank, IsRun, pText, cnfText}
+use Rattle.scanner.specs.Token.{isBlank, IsRun, pText, cnfText}
 use Rattle.formula.specs.Write.{letterOf, literalText}
 
 -- "Tokens are parted by space, tab, CR or LF." Bytes that are blanks alone.

@@ -29,12 +29,14 @@ use Rattle.dependency.specs.declared.answer.RowAnswer.the-variants.{Filled, Ref
 use Rattle.evaluator.specs.Evaluation.{gameBound, verdict, unset, evaluationOf}
 use Rattle.evaluator.specs.declared.evaluation.Evaluation.{Evaluation}
 use Rattle.evaluator.specs.declared.evaluation.Evaluation.the-variants.{True, False, Refused as EvaluationRefused}
-use Rattle.checker.specs.File.{ProofReading, read, refused, stepCount, clauseCount, hasTrailer, stepBytes, wordsOf, proofRefusal, proofReading}
-use Rattle.checker.specs.Rules.{Rules}
-use Rattle.checker.specs.Steps.{Scope, Judged, right, wrong, Step, Outcome, ended, judgeFirst, turn, less-one, sizeOf, statedBy, run}
-use Rattle.checker.specs.Steps.{refused as stepRefused}
-use Rattle.checker.specs.Verdict.{scopeOf, conclusion, concluded, conclude, sizedVerdict, verdictOf}
-use Rattle.checker.specs.Words.{Words}
+use Rattle.prooffile.specs.File.{ProofReading, read, refused, stepCount, clauseCount, hasTrailer, stepBytes, wordsOf, proofRefusal, proofReading}
+use Rattle.inference.specs.Rules.{Rules}
+use Rattle.inference.specs.declared.read.Family.{Family}
+use Rattle.inference.specs.Steps.{Scope, Judged, right, wrong, Step, Outcome, ended, familyOf, judgeFirst, turn, less-one, sizeOf, statedBy, run}
+use Rattle.inference.specs.Steps.{refused as stepRefused}
+use Rattle.checker.specs.Verdict.{conclusion, concluded, conclude, sizedVerdict, verdictOf}
+use Rattle.inference.specs.Scope.{scopeOf}
+use Rattle.inference.specs.Words.{Words}
 use Rattle.checker.specs.declared.verdict.Verdict.{Verdict}
 use Rattle.checker.specs.declared.verdict.Verdict.the-variants.{Accepted, Refused as VerdictRefused}
 
@@ -159,17 +161,17 @@ abbrev VerdictIn : Verdict → Type 0
 VerdictIn (Accepted empty steps) = Unit {0}
 VerdictIn (VerdictRefused r) = Unplaced r
 
-module _ (rules : Rules) (S : Scope) (room : ℕ) where
+module _ (rules : Rules) (f : Family) (S : Scope) (room : ℕ) where
   turn-in : (known : List Words) (j : Judged) (next : Step → Outcome) → ((s : Step) → OutcomeIn (next s)) → OutcomeIn (turn known j next)
   turn-in known (right s) next h = h s
   turn-in known (wrong r) next h = unplaced r (suc (length known))
 
-  run-in : (known : List Words) (skip : ℕ) (ws : Words) → OutcomeIn (run rules S room known skip ws)
+  run-in : (known : List Words) (skip : ℕ) (ws : Words) → OutcomeIn (run rules f S room known skip ws)
   unfolding run
   run-in known skip [] = tt
   run-in known (suc skip) (w ∷ ws) = run-in known skip ws
   run-in known zero (w ∷ ws) =
-      turn-in known (judgeFirst rules S room known (w ∷ ws)) (λ s. run rules S room (known ++ (statedBy s ∷ [])) (less-one (sizeOf s)) ws)
+      turn-in known (judgeFirst rules f S room known (w ∷ ws)) (λ s. run rules f S room (known ++ (statedBy s ∷ [])) (less-one (sizeOf s)) ws)
       (λ s. run-in (known ++ (statedBy s ∷ [])) (less-one (sizeOf s)) ws)
 
 concluded-in : (inputs numbered : ℕ) (e : Option ℕ) → VerdictIn (concluded inputs numbered e)
@@ -187,7 +189,7 @@ module _ (rules : Rules) (prefix words steps : List ℤ) (scratch room : ℕ) wh
       require-holds VerdictIn (leb (length steps) proofBound) (VerdictRefused (refusal Oversized 0)) _ (unplaced Oversized 0)
       (require-holds VerdictIn (leb (rules .scratch) scratch) (VerdictRefused (refusal NoRoom 0)) _ (unplaced NoRoom 0)
       (require-holds VerdictIn (leb (zeros words) room) (VerdictRefused (refusal NoRoom (suc room))) _ (unplaced NoRoom (suc room))
-      (conclude-in rules (zeros words) (run rules (scopeOf prefix words) room (clausesOf words) zero steps) (run-in rules (scopeOf prefix words) room (clausesOf words) zero steps))))
+      (conclude-in rules (zeros words) (run rules (familyOf steps) (scopeOf prefix words) room (clausesOf words) zero steps) (run-in rules (familyOf steps) (scopeOf prefix words) room (clausesOf words) zero steps))))
 
   pub verdict-unplaced : (r : Refusal) → verdictOf rules prefix words steps scratch room ≡ VerdictRefused r → Unplaced r
   unfolding verdictOf

@@ -12,12 +12,12 @@ use lib.IntN.{ℤ, pos}
 use lib.ListN.{length, drop, length-drop}
 use Rattle.qbf.specs.Formula.{Quantifier, entry, Prefix, listed}
 use Rattle.formula.specs.Bounds.{variableBound, countBound, textBound}
-use Rattle.formula.specs.Position.{lineAt, columnAt}
+use Rattle.scanner.specs.Position.{lineAt, columnAt}
 use Rattle.formula.specs.Free.{completed}
 use Rattle.formula.specs.Prefix.{entryFits, prefixWords}
 use Rattle.formula.specs.Refusal.{refusal, number, inText, require, unless}
 use Rattle.formula.specs.Tables.{isIn, zeros}
-use Rattle.formula.specs.Token.{isBlank, leadStep, leadPlace, leadFrom, firstToken, Token, emit, ended, joined, tokensFrom, tokens, same, pText, cnfText, aText, eText, Number, natural, negative, noNumber, numberOf}
+use Rattle.scanner.specs.Token.{isBlank, leadStep, leadPlace, leadFrom, firstToken, Token, emit, ended, joined, tokensFrom, tokens, same, pText, cnfText, aText, eText, Number, natural, negative, noNumber, numberOf}
 use Rattle.formula.specs.Text.{
   Reading,
   read,
@@ -51,8 +51,8 @@ use Rattle.formula.specs.Text.{
   reading,
 }
 use Rattle.formula.specs.Word.{signed}
-use Rattle.formula.specs.declared.token.Lead.{Lead}
-use Rattle.formula.specs.declared.token.Lead.the-variants.{LineStart, InLine, Comment, Over}
+use Rattle.scanner.specs.declared.token.Lead.{Lead}
+use Rattle.scanner.specs.declared.token.Lead.the-variants.{LineStart, InLine, Comment, Over}
 use Rattle.formula.specs.declared.refusal.Reason.{Reason}
 use Rattle.formula.specs.declared.refusal.Reason.the-variants.{Headless, Oversized, NoRoom, BadToken, Unfinished, Miscount}
 use Rattle.formula.specs.declared.refusal.Refusal.{Refusal}

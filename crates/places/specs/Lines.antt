@@ -14,9 +14,9 @@ use Rattle.formula.specs.Refusal.{refusal, require}
 use Rattle.formula.specs.Text.{read, refused, reading}
 use Rattle.formula.specs.declared.refusal.Reason.the-variants.{Oversized, NoRoom}
 use Rattle.formula.specs.declared.refusal.Refusal.{Refusal}
-use Rattle.checker.specs.File.{ProofReading, proofReading}
-use Rattle.checker.specs.File.{read as readSteps, refused as refusedFile}
-use Rattle.checker.specs.Rules.{plainRules}
+use Rattle.prooffile.specs.File.{ProofReading, proofReading}
+use Rattle.prooffile.specs.File.{read as readSteps, refused as refusedFile}
+use Rattle.inference.specs.Rules.{plainRules}
 use Rattle.checker.specs.Verdict.{verdictOf}
 use Rattle.checker.specs.declared.verdict.Verdict.{Verdict}
 use Rattle.checker.specs.declared.verdict.Verdict.the-variants.{Accepted, Refused}

@@ -14,7 +14,7 @@ use Rattle.formula.specs.Free.{completed}
 use Rattle.formula.specs.Prefix.{entryFits, prefixWords}
 use Rattle.formula.specs.Refusal.{refusal, number, inText, require, unless}
 use Rattle.formula.specs.Tables.{isIn, zeros}
-use Rattle.formula.specs.Token.{Token, tokens, same, pText, cnfText, aText, eText, Number, natural, negative, noNumber, numberOf}
+use Rattle.scanner.specs.Token.{Token, tokens, same, pText, cnfText, aText, eText, Number, natural, negative, noNumber, numberOf}
 use Rattle.formula.specs.Text.{
   Reading,
   read,

@@ -8,7 +8,7 @@ use mathlib.Core.Logic.{_≢_}
 use mathlib.Core.Bool.{Bool, true, false}
 use mathlib.Core.List.{List·Memᴰ}
 use Rattle.qbf.specs.Literal.{Literal, literal, neg, Clause}
-use Rattle.qbf.specs.Formula.{Formula, Existential, Universal, RightOf}
+use Rattle.qbf.specs.Formula.{Formula, Existential, Universal, UniversalRightOf}
 use Rattle.qbf.specs.Dependency.{Depends}
 
 -- An input clause; a resolution on a pivot, whose premise b holds the pivot with sign b; a reduction of a universal.
@@ -28,8 +28,7 @@ Concludes (reduce t u) l = Concludes t l × (l .variable ≢ u)
 -- the other neither sign, is free.
 abbrev pub MergesRight : Formula → ℕ → (Literal → Type 0) → (Literal → Type 0) → Type 0
 MergesRight F x positive negative =
-    (l : Literal) → positive l → l ≢ literal x true → negative (neg l) →
-    Universal (F .prefix) (l .variable) × RightOf (F .prefix) x (l .variable)
+    (l : Literal) → positive l → l ≢ literal x true → negative (neg l) → UniversalRightOf (F .prefix) x (l .variable)
 
 -- Each rule is kept. A reduction may find no literal of its variable, and then removes nothing: looser than 01, for restricted
 -- derivations have such reductions.

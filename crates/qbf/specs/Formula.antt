@@ -61,6 +61,10 @@ Universal P v = List·Memᴰ (entry v universal) P
 abbrev pub RightOf : Prefix → ℕ → ℕ → Type 0
 RightOf P u e = List·Memᴰ e (listed (after u P))
 
+-- A universal whose entry stands right of x: the ones that a long-distance resolution on x may merge.
+abbrev pub UniversalRightOf : Prefix → ℕ → ℕ → Type 0
+UniversalRightOf P x v = Universal (after x P) v
+
 -- The existential variables of a prefix, in order.
 unfoldable pub existentials : Prefix → List ℕ
 existentials [] = []

@@ -15,11 +15,11 @@ use Rattle.qbf.specs.Formula.{Formula, Quantifier, existential, universa
 use Rattle.qbf.specs.Formula.Laws.{distinct-rest}
 use Rattle.qbf.specs.Play.{Values, assign, turn, lost, Lost}
 use Rattle.qbf.specs.Play.Laws.{unsatisfied, falsified-by}
-use Rattle.qbf.specs.Derivation.{Derivation, leaf, resolve, reduce, Valid, Empty}
+use Rattle.qbf.specs.Derivation.{Derivation, leaf, resolve, reduce, Concludes, Valid, Empty}
 use Rattle.qbf.specs.Restriction.{Unset, ValidAt, RefutesAt, Occurs, occurs?, Restricted, top, tree, restrict, Refuted, move, FalseClause}
 use Rattle.qbf.specs.Restriction.Laws.{begin-concludes, concludes-only}
 use Rattle.qbf.specs.Soundness.Restricting.{Kept, restrict-kept}
-use Rattle.qbf.specs.Soundness.MoveLemma.{one-literal-occurs}
+use Rattle.qbf.specs.Soundness.MoveLemma.{existential-one-sign, one-literal-occurs}
 
 -- With every entry to be set, a valid derivation is valid at the position.
 module _ (F : Formula) (proper : Proper F) where
@@ -32,6 +32,12 @@ module _ (F : Formula) (proper : Proper F) where
     λ l c n c′. v .3 l (concludes-only (F .prefix) (t true) l c) n (concludes-only (F .prefix) (t false) (neg l) c′),
   )
   begin-valid τ (reduce t u) v = (begin-valid τ t (v .0), v .1, λ e c. v .2 e (concludes-only (F .prefix) t e c))
+
+  -- No derived clause holds both signs of an existential.
+  pub derived-one-sign : (t : Derivation) → Valid F t → (m : Literal) → Existential (F .prefix) (m .variable) → Concludes t m → Concludes t (neg m) → ⊥
+  derived-one-sign t v m e c c′ =
+      let τ : Values = λ x. false in
+      existential-one-sign F proper (F .prefix) τ t (begin-valid τ t v) m e (begin-concludes F proper t v m c) (begin-concludes F proper t v (neg m) c′)
 
   -- A refutation of the formula refutes the first position, whatever the values before.
   pub refutation-begins : (τ : Values) (t : Derivation) → Valid F t → Empty t → RefutesAt F (F .prefix) τ t

@@ -86,7 +86,7 @@ fn step_starts() {
         b"four starts, no steps||\
           four starts, a right step|2 1 2 3 0|\
           four starts, a broken step|2 1 2 3|\
-          four starts, kind 3|3 1 2 3 0|\
+          four starts, kind 5|5 1 2 3 0|\
           four starts, antecedent 0|2 0 2 3 0|\
           four starts, a wrong pivot|2 1 3 2 0|",
     );
@@ -102,6 +102,43 @@ fn step_starts() {
         8_200,
         8,
         b"eight starts for nine clauses|2 1 2 3 0 2 2 -2 4 0 1 6 3 4 1 0 1 5 4 3 -1 0 1 7 8 1 0|",
+    );
+}
+
+// The same of kinds 3 and 4 (02, P14): a kind of the other family is 13, ahead of its start.
+fn long_starts() {
+    example_lent(
+        8_199,
+        16,
+        b"scratch 8,199, kind 1 behind kind 3|3 1 4 3 2 -1 0 1 1 4 3 2 -1 0|",
+    );
+    example_lent(
+        8_200,
+        4,
+        b"four starts, kind 3|3 1 4 3 2 -1 0|\
+          four starts, kind 4, antecedent 0|4 0 2 3 0|\
+          four starts, 4 0 0|4 0 0|",
+    );
+    example_lent(
+        8_200,
+        5,
+        b"five starts, kind 4|4 1 2 3 0|\
+          five starts, kind 4 behind kind 3|3 1 4 3 2 -1 0 4 1 2 3 0|\
+          five starts, kind 1 behind kind 4|4 1 2 3 0 1 5 4 3 -1 0|",
+    );
+    lent(
+        b"2 2 1  1 1 2",
+        b"1 2 0 -1 -2 0",
+        8_200,
+        2,
+        b"two starts, a pair to the left|3 1 2 1 2 -2 0|",
+    );
+    lent(
+        b"2 2 1  1 1 2",
+        b"1 2 0 -1 -2 0",
+        8_200,
+        3,
+        b"three starts, a pair to the left|3 1 2 1 2 -2 0|",
     );
 }
 
@@ -200,6 +237,7 @@ pub fn run() {
     scratch();
     input_starts();
     step_starts();
+    long_starts();
     ended();
     oversized();
 }

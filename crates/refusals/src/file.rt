@@ -3,8 +3,8 @@
 use caselist::fields::field;
 use caselist::fields::next_field;
 use caselist::show;
-use checker::file::ProofAnswer;
-use checker::file::read_proof;
+use prooffile::file::ProofAnswer;
+use prooffile::file::read_proof;
 ghost use Prim.Native.Nat.{_<_};
 ghost use lib.ListN.{length};
 

@@ -220,6 +220,96 @@ fn resolved() {
     );
 }
 
+// Long-distance proofs (02, P14): a refutation, and what refuses its steps.
+fn merged() {
+    proofs(
+        b"1 1 1  2 1 1  3 2 2  4 1 3",
+        b"1 3 2 4 0 -1 -3 0 -2 3 0 -4 -3 0 -4 0",
+        640,
+        16,
+        b"a long-distance refutation|3 1 2 1 3 2 4 -3 0 3 6 5 4 3 -3 2 0 4 7 3 2 0 4 3 3 -2 0 3 8 9 2 0|\
+          the other family behind a merge|3 1 2 1 3 2 4 -3 0 1 6 5 4 3 -3 2 0|\
+          whole in i, one sign in j, pivot left|3 1 2 1 3 2 4 -3 0 3 6 3 2 3 -3 4 0|\
+          whole in i, one sign in j, pivot right|3 1 2 1 3 2 4 -3 0 3 6 4 4 3 -3 2 0|\
+          both signs, blocked|3 1 2 1 3 2 4 -3 0 4 6 3 2 4 0|\
+          both signs removed, the other stated|3 1 2 1 3 2 4 -3 0 3 6 5 4 3 -3 2 0 4 7 3 -3 2 0|",
+    );
+    proofs(
+        b"1 1 1  2 1 1  3 2 2  4 1 3",
+        b"1 3 2 4 0 -1 -3 0 -2 3 0 -4 -3 0 -4 0",
+        639,
+        16,
+        b"a long-distance refutation|3 1 2 1 3 2 4 -3 0 3 6 5 4 3 -3 2 0 4 7 3 2 0 4 3 3 -2 0 3 8 9 2 0|",
+    );
+    proofs(
+        b"1 2 1",
+        b"1 0",
+        640,
+        16,
+        b"kind 2 behind an empty clause by kind 4|4 1 1 0 2 1 1 0|",
+    );
+}
+
+// What is right of one pivot is forgotten at the next, rows between them or not.
+fn merged_in_turn() {
+    proofs(
+        b"1 1 1  2 2 2  3 1 3  4 2 4",
+        b"1 2 3 4 0 -1 -2 0 -3 -4 0 -3 -2 0",
+        640,
+        16,
+        b"inner pivot, the pair to its right|3 1 3 3 1 2 4 -4 0|\
+          outer pivot, then inner|3 1 2 1 2 -2 3 4 0 3 1 4 3 1 2 -2 4 0|\
+          outer pivot, a reduction, then inner|3 1 2 1 2 -2 3 4 0 4 1 4 1 2 3 0 3 6 4 3 1 2 -2 0|\
+          inner pivot, then outer, two pairs|3 1 3 3 1 2 4 -4 0 3 5 2 1 2 -2 4 -4 0|",
+    );
+    proofs(
+        b"1 1 1  2 2 2  3 1 3",
+        b"1 2 3 0 -1 -2 0 -3 2 0",
+        640,
+        16,
+        b"a merged pair removed ahead of an inner pivot|3 1 2 1 2 -2 3 0 4 4 2 3 0 3 5 3 3 2 0 4 6 2 0|",
+    );
+    proofs(
+        b"6 1 1  1 2 2  4 1 3  3 2 4  2 1 5",
+        b"6 2 3 1 4 0 -6 -1 -3 0 -1 -4 0 -3 -2 0",
+        640,
+        16,
+        b"two pairs, the inner blocked by block 5|3 1 2 6 2 3 1 4 -1 -3 0 4 5 -3 2 1 -1 4 0|",
+    );
+}
+
+// Variables 1, 8, 512 and 1,024 as what is opposed, 1,023 and 1,024 as pivots.
+fn merged_high() {
+    proofs(
+        b"1023 1 1  1024 2 2",
+        b"1023 1024 0 -1023 -1024 0",
+        640,
+        16,
+        b"1,024 right of 1,023|3 1 2 1023 1024 -1024 0 4 3 -1024 0|",
+    );
+    proofs(
+        b"1024 2 1  1023 1 2",
+        b"1023 1024 0 -1023 -1024 0",
+        640,
+        16,
+        b"1,024 left of 1,023|3 1 2 1023 1024 -1024 0|",
+    );
+    proofs(
+        b"1024 1 1  1 2 2  8 2 2  512 2 2",
+        b"1024 1 8 512 0 -1024 -1 -8 -512 0",
+        640,
+        16,
+        b"1, 8 and 512 right of 1,024|3 1 2 1024 1 8 512 -1 -8 -512 0|",
+    );
+    proofs(
+        b"512 2 1  1024 1 2  1 2 3  8 2 3",
+        b"1024 1 8 512 0 -1024 -1 -8 -512 0",
+        640,
+        16,
+        b"512 alone left of 1,024|3 1 2 1024 1 8 512 -1 -8 -512 0|",
+    );
+}
+
 // The lettered positions' rows.
 fn lettered() {
     rows(
@@ -256,5 +346,8 @@ pub fn run() {
     ended();
     blocked();
     resolved();
+    merged();
+    merged_in_turn();
+    merged_high();
     lettered();
 }

@@ -7,7 +7,7 @@ use crate::judge::on;
 fn broken() {
     example(
         b"kind 0|0 1 2 3 0|\
-          kind 3|3 1 2 3 0|\
+          kind 5|5 1 2 3 0|\
           kind -1|-1 1 2 3 0|\
           kind the lowest number|-2147483648 1 2 3 0|\
           the word 1 alone|1|\
@@ -19,7 +19,7 @@ fn broken() {
           words end in the statement|2 1 2 3|\
           a 0 behind a right step|2 1 2 3 0 0|\
           second step not closed|2 1 2 3 0 2 2 -2 4|\
-          kind 3 and antecedents 0|3 0 0 0 0|",
+          kind 5 and antecedents 0|5 0 0 0 0|",
     );
 }
 

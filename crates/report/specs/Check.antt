@@ -14,11 +14,11 @@ use Rattle.formula.specs.Prefix.{entryCount}
 use Rattle.formula.specs.Refusal.{refusal, require}
 use Rattle.formula.specs.declared.refusal.Reason.the-variants.{Oversized}
 use Rattle.formula.specs.Text.{Reading, read, refused, reading}
-use Rattle.checker.specs.File.{ProofReading, proofReading}
-use Rattle.checker.specs.File.{read as readSteps, refused as refusedFile}
+use Rattle.prooffile.specs.File.{ProofReading, proofReading}
+use Rattle.prooffile.specs.File.{read as readSteps, refused as refusedFile}
 use Rattle.checker.specs.declared.verdict.Verdict.{Verdict}
 use Rattle.checker.specs.declared.verdict.Verdict.the-variants.{Accepted, Refused}
-use Rattle.checker.specs.Rules.{plainRules}
+use Rattle.inference.specs.Rules.{plainRules}
 use Rattle.checker.specs.Verdict.{verdictOf}
 use Rattle.report.specs.Line.{acceptedText, acceptedLine, refusedLine, lineRoom, settled, used, held}
 

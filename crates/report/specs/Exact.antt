@@ -11,7 +11,7 @@ use lib.IntN.{ℤ, pos}
 use mir.Syntax.{w32}
 use mir.Val.{SFits}
 use Rattle.formula.specs.Text.{read, reading}
-use Rattle.checker.specs.File.Layout.{fileOf}
+use Rattle.prooffile.specs.File.Layout.{fileOf}
 use Rattle.checker.specs.Refutation.{Refutation, Within}
 use Rattle.report.specs.Line.{acceptedLine}
 use Rattle.report.specs.Check.{Room}

@@ -11,10 +11,10 @@ use Rattle.formula.specs.Bounds.{countBound}
 use Rattle.formula.specs.Text.{Reading, read, refused}
 use Rattle.formula.specs.declared.read.ReadAnswer.{ReadAnswer}
 use Rattle.formula.specs.declared.read.ReadAnswer.the-variants.{Read, Refused}
-use Rattle.checker.specs.File.{ProofReading}
-use Rattle.checker.specs.File.{read as readSteps, refused as refusedFile}
-use Rattle.checker.specs.declared.file.ProofAnswer.{ProofAnswer}
-use Rattle.checker.specs.declared.file.ProofAnswer.the-variants.{Read as ReadSteps, Refused as RefusedFile}
+use Rattle.prooffile.specs.File.{ProofReading}
+use Rattle.prooffile.specs.File.{read as readSteps, refused as refusedFile}
+use Rattle.prooffile.specs.declared.file.ProofAnswer.{ProofAnswer}
+use Rattle.prooffile.specs.declared.file.ProofAnswer.the-variants.{Read as ReadSteps, Refused as RefusedFile}
 use Rattle.report.specs.Line.{settled}
 use Rattle.report.specs.Check.{settledProof}
 use Rattle.report.specs.declared.settle.FileFit.{FileFit}

@@ -7,7 +7,7 @@ use mathlib.Core.List.{List, [], _∷_}
 use lib.ListN.{length}
 use lib.Dec.{eqb}
 use Rattle.formula.specs.Refusal.{Named}
-use Rattle.formula.specs.Token.{same}
+use Rattle.scanner.specs.Token.{same}
 
 -- A word filled up with dots: the bytes before the first.
 abbrev pub beforeDot : Bool → ℕ → List ℕ → List ℕ

@@ -1,11 +1,11 @@
 // A file is settled: its length is within the largest that is taken, `bound`, and it is read, or it is refused. 2 on the file's
 // length comes ahead of all else in it.
-use checker::file::ProofAnswer;
-use checker::file::read_proof;
 use formula::read::ReadAnswer;
 use formula::read::read_formula;
 use formula::refusal::Reason;
 use formula::refusal::Refusal;
+use prooffile::file::ProofAnswer;
+use prooffile::file::read_proof;
 ghost use mathlib.Core.Path.{_≡_};
 ghost use lib.Dec.{leb};
 ghost use lib.ListN.{length};

@@ -124,7 +124,7 @@ fn trailers() {
 
 // 13, 14 and 15.
 fn steps() {
-    refused_proof(b"proof/kind-3");
+    refused_proof(b"proof/kind-5");
     refused_proof(b"proof/no-closing-0");
     refused_proof(b"proof/antecedent-0");
     refused_proof(b"proof/antecedent-own");
@@ -147,6 +147,19 @@ fn results() {
     run(b"formula/nothing", b"proof/no-steps-0");
 }
 
+// Long-distance proofs (02, P14): one that is right, whose first pivot is a free variable and whose two reductions remove both signs; 13 for a
+// kind of the other family, 16 left of a pivot and for an existential, 17, 18 for a sign left, 23; the example's proof in kinds 3 and 4.
+fn long_distance() {
+    run(b"formula/merging", b"proof/merged");
+    run(b"formula/merging", b"proof/merged-mixed");
+    run(b"formula/merging-left", b"proof/merged");
+    run(b"formula/two-existentials", b"proof/merged-existential");
+    run(b"formula/merging-blocked", b"proof/merged-blocked");
+    run(b"formula/merging", b"proof/merged-one-left");
+    run(b"formula/reduction", b"proof/after-empty-long");
+    run(b"formula/example", b"proof/example-long");
+}
+
 // All pairs.
 fn main() {
     accepted();
@@ -160,4 +173,5 @@ fn main() {
     trailers();
     steps();
     results();
+    long_distance();
 }

@@ -14,7 +14,7 @@ use Rattle.formula.specs.Bounds.{variableBound, countBound, matrixBound}
 use Rattle.formula.specs.Decode.{clausesOf, matrixOf}
 use Rattle.formula.specs.Refusal.{number}
 use Rattle.formula.specs.Tables.{zeros}
-use Rattle.checker.specs.Steps.{Scope}
+use Rattle.inference.specs.Steps.{Scope}
 use Rattle.checker.specs.declared.verdict.Verdict.{Verdict}
 use Rattle.checker.specs.declared.verdict.Verdict.the-variants.{Accepted, Refused}
 
@@ -66,6 +66,6 @@ abbrev pub said : Verdict → Said
 said (Accepted n count) = accepted (n .0) count
 said (Refused r) = refused (number (r .reason)) (r .place) (r .line) (r .column)
 
--- What steps knew before there were blocks.
+-- What steps know but for the blocks.
 abbrev pub blockless : Scope → Scope
-blockless S = record { existential = S .existential; universal = S .universal; dependent = S .dependent; blocks = [] }
+blockless S = record { existential = S .existential; universal = S .universal; mergeable = S .mergeable; dependent = S .dependent; blocks = [] }

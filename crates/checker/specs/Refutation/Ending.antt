@@ -11,15 +11,15 @@ use borrow.Author.Tests.{lt-ltb}
 use lib.ListN.{length}
 use lib.IntN.{ℤ}
 use Rattle.formula.specs.Decode.{clausesOf}
-use Rattle.checker.specs.Words.{Words}
-use Rattle.checker.specs.Steps.{Step, statedBy}
-use Rattle.checker.specs.Lawful.{numberedClauses, Unended}
-use Rattle.checker.specs.Lawful.Laws.{numbered-step, numbered-length}
+use Rattle.inference.specs.Words.{Words}
+use Rattle.inference.specs.Steps.{Step, statedBy}
+use Rattle.inference.specs.Lawful.{numberedClauses, Unended}
+use Rattle.inference.specs.Lawful.Laws.{numbered-step, numbered-length}
 use Rattle.checker.specs.Refutation.{EndsEmpty, Refutation, FirstEmpty, Accepting}
 use Rattle.checker.specs.Refutation.FirstEmptyClause.{first-empty-complete, first-empty-member}
-use Rattle.checker.specs.Rules.{plainRules}
-use Rattle.checker.specs.Empty.{firstEmpty, lastEmpty}
-use Rattle.checker.specs.Empty.Laws.{last-number}
+use Rattle.inference.specs.Rules.{plainRules}
+use Rattle.inference.specs.Empty.{firstEmpty, lastEmpty}
+use Rattle.inference.specs.Empty.Laws.{last-number}
 use Rattle.checker.specs.Verdict.{conclusion}
 use Rattle.checker.specs.Verdict.Conclusion.{conclusion-first}
 
@@ -65,6 +65,8 @@ accepting-refutation prefix clauses words scratch offsets empty count r =
       steps = r .steps;
       written = r .written;
       lawful = r .lawful;
+      family = r .family;
+      of-family = r .of-family;
       unended = r .allowed refl;
       ends-empty = unended-ends (r .steps) (clausesOf clauses) (r .allowed refl) (first-empty-member (numberedClauses (clausesOf clauses) (r .steps)) (r .place) (r .first-empty));
     }

@@ -7,10 +7,9 @@ use lib.ListN.{length}
 use lib.IntN.{pos}
 use Rattle.formula.specs.Decode.{clausesOf}
 use Rattle.formula.specs.Tables.{zeros}
-use Rattle.checker.specs.Rules.{plainRules}
-use Rattle.checker.specs.Rules.Laws.{plain-kinds}
-use Rattle.checker.specs.Lawful.{numberedClauses}
-use Rattle.checker.specs.Lawful.Laws.{numbered-length}
+use Rattle.inference.specs.Rules.{plainRules}
+use Rattle.inference.specs.Lawful.{numberedClauses}
+use Rattle.inference.specs.Lawful.Laws.{numbered-length}
 use Rattle.checker.specs.Refutation.{Refutation, FirstEmpty, Within}
 use Rattle.checker.specs.Refutation.Ending.{accepting-refutation}
 use Rattle.checker.specs.Refutation.Laws.{refutation-zeros, refutation-within}
@@ -23,7 +22,7 @@ pub example-refutation :
     × (length (r .steps) ≡ 5)
     × FirstEmpty (numberedClauses (clausesOf exampleClauses) (r .steps)) 8
 example-refutation =
-    let a = accepted-refutation plainRules plain-kinds examplePrefix exampleClauses (exampleSteps (pos 4)) 8200 9 9 5 (positions .0) in
+    let a = accepted-refutation plainRules examplePrefix exampleClauses (exampleSteps (pos 4)) 8200 9 9 5 (positions .0) in
     let eight : a .place ≡ 8 = let e = a .place-numbered in omega arith in
     (accepting-refutation examplePrefix exampleClauses (exampleSteps (pos 4)) 8200 9 9 5 a, sym (a .counted), rw eight at (a .first-empty))
 
@@ -31,7 +30,7 @@ pub damaged-no-refutation : Refutation examplePrefix exampleClauses (exampleStep
 unfolding zeros clausesOf
 damaged-no-refutation r =
     let words = exampleSteps (pos 3) in
-    let admitted = accepted-refutation plainRules plain-kinds examplePrefix exampleClauses (exampleSteps (pos 4)) 8200 9 9 5 (positions .0) .admitted in
+    let admitted = accepted-refutation plainRules examplePrefix exampleClauses (exampleSteps (pos 4)) 8200 9 9 5 (positions .0) .admitted in
     let within : Within exampleClauses words 8200 9 =
     refutation-within examplePrefix exampleClauses words 8200 9 r (omega arith) (omega arith)
     (omega (arith, refutation-zeros examplePrefix exampleClauses words r, numbered-length (clausesOf exampleClauses) (r .steps))) in

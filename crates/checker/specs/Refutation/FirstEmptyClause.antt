@@ -1,16 +1,16 @@
 -- Laws of the first empty clause: the search finds it and nothing else. Definitions:
--- FirstEmpty of Refutation.antt, firstEmpty of Empty.antt. Assumes nothing.
+-- FirstEmpty of Refutation.antt, firstEmpty of inference/specs/Empty.antt. Assumes nothing.
 use Prim.Native.Nat.{ℕ, zero, suc, _+_, _<_}
 use mathlib.Core.Path.{_≡_, refl, ap, _∙_}
 use mathlib.Core.Option.{Option, some}
 use mathlib.Core.List.{List, [], _∷_, List·Memᴰ, List·Memᴰ·not-nil}
 use native.Mathlib.Omega.{arith}
 use lib.ListN.{getElem?}
-use Rattle.checker.specs.Words.{Words}
-use Rattle.checker.specs.Lawful.Laws.{found-member}
+use Rattle.inference.specs.Words.{Words}
+use Rattle.inference.specs.Lawful.Laws.{found-member}
 use Rattle.checker.specs.Refutation.{FirstEmpty}
-use Rattle.checker.specs.Empty.{firstEmpty}
-use Rattle.checker.specs.Empty.Laws.{later-empty}
+use Rattle.inference.specs.Empty.{firstEmpty}
+use Rattle.inference.specs.Empty.Laws.{later-empty}
 
 -- The search for the first empty clause, `n` being the number of the first one here.
 found-from :

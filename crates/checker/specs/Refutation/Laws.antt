@@ -14,11 +14,13 @@ use Rattle.formula.specs.Decode.Laws.{clauses-no-zero}
 use Rattle.formula.specs.Tables.{zeros}
 use Rattle.formula.specs.Tables.Laws.{zeros-cons}
 use Rattle.dependency.specs.Scratch.{scratchBound}
-use Rattle.checker.specs.Words.{Words}
-use Rattle.checker.specs.Steps.{Step, resolution, reduction, statedBy}
-use Rattle.checker.specs.Steps.Written.{steps-size}
-use Rattle.checker.specs.Lawful.{Numbered, Lawful, wordsOf, stepWords, numberedClauses, LawfulSteps, NoZeros}
-use Rattle.checker.specs.Lawful.Laws.{numbered-member, numbered-length, lawful-words, lawful-all-words}
+use Rattle.inference.specs.declared.read.Family.{Family}
+use Rattle.inference.specs.declared.read.Family.the-variants.{Ordinary, LongDistance}
+use Rattle.inference.specs.Words.{Words}
+use Rattle.inference.specs.Steps.{Step, resolution, reduction, statedBy, resolutionWord, reductionWord}
+use Rattle.inference.specs.Steps.Written.{steps-size}
+use Rattle.inference.specs.Lawful.{Numbered, Lawful, wordsOf, stepWords, numberedClauses, LawfulSteps, NoZeros}
+use Rattle.inference.specs.Lawful.Laws.{numbered-member, numbered-length, lawful-words, lawful-all-words}
 use Rattle.checker.specs.Refutation.{Refutation, Within}
 
 -- A clause offset for each input clause and for each four step words is room enough.
@@ -51,8 +53,8 @@ closed-more (x ∷ L) rest = omega (arith, closed-more L rest, zeros-more x ((L 
 
 -- Each step is closed by a 0; one that is lawful over clauses without 0 has no other.
 step-zeros : (s : Step) (rest : Words) → suc (zeros rest) ≤ zeros (wordsOf s ++ rest)
-step-zeros (resolution i j e L) rest = let t = (L ++ pos 0 ∷ []) ++ rest in omega (arith, closed-more L rest, zeros-more e t, zeros-more j (e ∷ t), zeros-more i (j ∷ e ∷ t), zeros-more (pos 1) (i ∷ j ∷ e ∷ t))
-step-zeros (reduction i a L) rest = let t = (L ++ pos 0 ∷ []) ++ rest in omega (arith, closed-more L rest, zeros-more a t, zeros-more i (a ∷ t), zeros-more (pos 2) (i ∷ a ∷ t))
+step-zeros (resolution f i j e L) rest = let t = (L ++ pos 0 ∷ []) ++ rest in omega (arith, closed-more L rest, zeros-more e t, zeros-more j (e ∷ t), zeros-more i (j ∷ e ∷ t), zeros-more (resolutionWord f) (i ∷ j ∷ e ∷ t))
+step-zeros (reduction f i a L) rest = let t = (L ++ pos 0 ∷ []) ++ rest in omega (arith, closed-more L rest, zeros-more a t, zeros-more i (a ∷ t), zeros-more (reductionWord f) (i ∷ a ∷ t))
 
 steps-zeros : (steps : List Step) → length steps ≤ zeros (stepWords steps)
 unfolding stepWords
@@ -61,6 +63,15 @@ steps-zeros (s ∷ steps) = omega (arith, steps-zeros steps, step-zeros s (stepW
 
 numbered-nonzero : (known : List Words) (i : ℤ) (C : Words) → Numbered known i C → i ≢ pos 0
 numbered-nonzero known i C n z = let e : _≡_ {A = ℤ} (pos (suc (n .place))) (pos 0) = sym (n .is) ∙ z in let q : _≡_ {A = ℕ} 0 1 = cc in omega arith
+
+-- Kind words are not 0.
+resolution-nonzero : (f : Family) → resolutionWord f ≢ pos 0
+resolution-nonzero Ordinary e = let z : _≡_ {A = ℕ} 0 1 = cc in omega arith
+resolution-nonzero LongDistance e = let z : _≡_ {A = ℕ} 0 1 = cc in omega arith
+
+reduction-nonzero : (f : Family) → reductionWord f ≢ pos 0
+reduction-nonzero Ordinary e = let z : _≡_ {A = ℕ} 0 1 = cc in omega arith
+reduction-nonzero LongDistance e = let z : _≡_ {A = ℕ} 0 1 = cc in omega arith
 
 module _ (F : Formula) where
   lawful-zeros : (known : List Words) → NoZeros known → (s : Step) → Lawful F known s → (rest : Words) → zeros (wordsOf s ++ rest) ≡ suc (zeros rest)
@@ -71,15 +82,17 @@ module _ (F : Formula) where
       closed L h = ap zeros (append-assoc L (pos 0 ∷ []) rest) ∙ zeros-nonzero L (pos 0 ∷ rest) h
 
       go : (s : Step) → Lawful F known s → ((x : ℤ) → List·Memᴰ x (statedBy s) → x ≢ pos 0) → zeros (wordsOf s ++ rest) ≡ suc (zeros rest)
-      go (resolution i j e L) l h =
+      go (resolution f i j e L) l h =
           let t = (L ++ pos 0 ∷ []) ++ rest in
-          zeros-cons i (j ∷ e ∷ t) (numbered-nonzero known i (l .left) (l .left-numbered))
+          zeros-cons (resolutionWord f) (i ∷ j ∷ e ∷ t) (resolution-nonzero f)
+          ∙ zeros-cons i (j ∷ e ∷ t) (numbered-nonzero known i (l .left) (l .left-numbered))
           ∙ zeros-cons j (e ∷ t) (numbered-nonzero known j (l .right) (l .right-numbered))
           ∙ zeros-cons e t (clean (l .left) (numbered-member known i (l .left) (l .left-numbered)) e (l .in-left))
           ∙ closed L h
-      go (reduction i a L) l h =
+      go (reduction f i a L) l h =
           let t = (L ++ pos 0 ∷ []) ++ rest in
-          zeros-cons i (a ∷ t) (numbered-nonzero known i (l .clause) (l .numbered))
+          zeros-cons (reductionWord f) (i ∷ a ∷ t) (reduction-nonzero f)
+          ∙ zeros-cons i (a ∷ t) (numbered-nonzero known i (l .clause) (l .numbered))
           ∙ zeros-cons a t (clean (l .clause) (numbered-member known i (l .clause) (l .numbered)) a (l .in-clause))
           ∙ closed L h
 

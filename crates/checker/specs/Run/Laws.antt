@@ -17,23 +17,23 @@ use Rattle.formula.specs.Tables.Laws.{admitted-literal}
 use Rattle.formula.specs.Decode.{formulaOf, clausesOf, clauseAt}
 use Rattle.formula.specs.declared.refusal.Reason.{Reason}
 use Rattle.formula.specs.declared.refusal.Reason.the-variants.{Afterword}
-use Rattle.checker.specs.Rules.{plainRules, ending, formerRules}
+use Rattle.inference.specs.Rules.{plainRules, ending, formerRules}
 use Rattle.checker.specs.declared.step.StepAnswer.{StepAnswer}
 use Rattle.checker.specs.declared.step.StepAnswer.the-variants.{Right as RightStep, Wrong as WrongStep}
-use Rattle.checker.specs.Words.{Words, AllWords, InRange}
-use Rattle.checker.specs.Steps.{Scope, Step, resolution, reduction, statedBy, sizeOf, judge, Judged, right, wrong, judgeRead, judgeFirst, readStep, run, refused}
-use Rattle.checker.specs.Steps.Run.{run-right, run-wrong, after-refused, before-judged, rightly}
-use Rattle.checker.specs.Lawful.{NoZeros}
-use Rattle.checker.specs.Lawful.Judged.{judge-lawful}
-use Rattle.checker.specs.Lawful.Laws.{lawful-all-words}
-use Rattle.checker.specs.Verdict.{scopeOf}
-use Rattle.checker.specs.Verdict.TableScope.{scope-decides}
-use Rattle.checker.specs.Empty.{isEmpty, someEmpty, firstEmpty, emptyNumber, emptyAfter}
-use Rattle.checker.specs.Empty.Laws.{empty-after, some-number}
-use Rattle.checker.specs.Numbered.{storedAt, stored}
-use Rattle.checker.specs.Numbered.Laws.{stored-length, stored-at-later, stored-at-step, stored-set-later, stored-step}
-use Rattle.checker.specs.Read.{statementOf}
-use Rattle.checker.specs.Read.Laws.{statement-read}
+use Rattle.inference.specs.Words.{Words, AllWords, InRange}
+use Rattle.inference.specs.Steps.{Scope, Step, resolution, reduction, familyOf, statedBy, sizeOf, judge, Judged, right, wrong, judgeRead, judgeFirst, readStep, run, refused}
+use Rattle.inference.specs.Steps.Run.{run-right, run-wrong, after-refused, before-judged, rightly}
+use Rattle.inference.specs.Lawful.{NoZeros}
+use Rattle.inference.specs.Lawful.Judged.{judge-lawful}
+use Rattle.inference.specs.Lawful.Laws.{lawful-all-words}
+use Rattle.inference.specs.Scope.{scopeOf}
+use Rattle.inference.specs.Scope.Laws.{scope-decides}
+use Rattle.inference.specs.Empty.{isEmpty, someEmpty, firstEmpty, emptyNumber, emptyAfter}
+use Rattle.inference.specs.Empty.Laws.{empty-after, some-number}
+use Rattle.inference.specs.Numbered.{storedAt, stored}
+use Rattle.inference.specs.Numbered.Laws.{stored-length, stored-at-later, stored-at-step, stored-set-later, stored-step}
+use Rattle.inference.specs.Read.{statementOf}
+use Rattle.inference.specs.Read.Laws.{statement-read}
 use Rattle.checker.specs.Step.{Ready, KeptReady, stepAnswer}
 use Rattle.checker.specs.Step.Laws.{none-kept}
 use Rattle.checker.specs.Run.{stepPlace, StepStands, Placed, RunDone}
@@ -44,15 +44,15 @@ pub in-range-nonzero : (known : List Words) → AllWords InRange known → NoZer
 in-range-nonzero known all C m x k e = let r = all C m x k in let z : natAbs x ≡ 0 = ap natAbs e in omega (arith, r .0, z)
 
 -- Right behind a step that is read at its place stands the next one.
-pub place-onward : (steps : Words) (before at : ℕ) (s : Step) → at ≡ stepPlace steps before → readStep plainRules (drop at steps) ≡ some s → at + sizeOf s ≡ stepPlace steps (suc before)
+pub place-onward : (steps : Words) (before at : ℕ) (s : Step) → at ≡ stepPlace steps before → readStep (familyOf steps) (drop at steps) ≡ some s → at + sizeOf s ≡ stepPlace steps (suc before)
 unfolding stepPlace
 place-onward steps before at s e h = rw (← e, h)
 
 -- What a right answer says.
 pub record Taken (S : Scope) (room : ℕ) (known : List Words) (steps : Words) (at next : ℕ) (ends : Bool) : Type 0 where
   pub taken : Step
-  pub was-read : readStep plainRules (drop at steps) ≡ some taken
-  pub first : judgeRead S room known (readStep plainRules (drop at steps)) ≡ right taken
+  pub was-read : readStep (familyOf steps) (drop at steps) ≡ some taken
+  pub first : judgeRead S room known (readStep (familyOf steps) (drop at steps)) ≡ right taken
   pub judged : judge S known taken ≡ none
   pub fits : length known < room
   pub statement : clauseAt steps (statementOf steps at) ≡ statedBy taken
@@ -60,22 +60,11 @@ pub record Taken (S : Scope) (room : ℕ) (known : List Words) (steps : Words) (
   pub onward : at < next
   pub ends-is : ends ≡ isEmpty (statedBy taken)
 
--- By the rules of either kind a step is read the same, and judged the same where it may stand.
-read-same : (strict : Bool) (ws : Words) → readStep (ending strict plainRules) ws ≡ readStep plainRules ws
-unfolding readStep
-read-same strict [] = refl
-read-same strict (w ∷ ws) = refl
-
-pub first-judged :
-    (strict : Bool) (S : Scope) (room : ℕ) (known : List Words) (ws : Words) → (strict && someEmpty known) ≡ false
-    → judgeFirst (ending strict plainRules) S room known ws ≡ judgeRead S room known (readStep plainRules ws)
-first-judged strict S room known ws h = before-judged (ending strict plainRules) S room known h ws ∙ ap (judgeRead S room known) (read-same strict ws)
-
 module _ (S : Scope) (room : ℕ) (known : List Words) (steps : Words) (at kept : ℕ) (within : at < length steps) where
   pub right-taken :
-      (next row : ℕ) (ends : Bool) → RightStep next row ends ≡ stepAnswer at kept (judgeRead S room known (readStep plainRules (drop at steps)))
+      (next row : ℕ) (ends : Bool) → RightStep next row ends ≡ stepAnswer at kept (judgeRead S room known (readStep (familyOf steps) (drop at steps)))
       → Taken S room known steps at next ends
-  right-taken next row ends h = go (judgeRead S room known (readStep plainRules (drop at steps))) refl h
+  right-taken next row ends h = go (judgeRead S room known (readStep (familyOf steps) (drop at steps))) refl h
     where
       next-of : StepAnswer → ℕ
       next-of (RightStep a b c) = a
@@ -86,22 +75,21 @@ module _ (S : Scope) (room : ℕ) (known : List Words) (steps : Words) (at kept 
       ends-of (WrongStep r) = false
 
       larger : (s : Step) → at < at + sizeOf s
-      larger (resolution i j e L) = omega arith
-      larger (reduction i a L) = omega arith
+      larger (resolution f i j e L) = omega arith
+      larger (reduction f i a L) = omega arith
 
-      go : (j : Judged) → judgeRead S room known (readStep plainRules (drop at steps)) ≡ j → RightStep next row ends ≡ stepAnswer at kept j → Taken S room known steps at next ends
+      go : (j : Judged) → judgeRead S room known (readStep (familyOf steps) (drop at steps)) ≡ j → RightStep next row ends ≡ stepAnswer at kept j → Taken S room known steps at next ends
       go (wrong r) e q = let z : _≡_ {A = ℕ} 0 1 = cc in absurd (omega arith)
       go (right s) e q =
-          let r = rightly formerRules S room known (drop at steps) s (first-judged false S room known (drop at steps) refl ∙ e) in
+          let r = rightly formerRules (familyOf steps) S room known (drop at steps) s (before-judged formerRules (familyOf steps) S room known refl (drop at steps) ∙ e) in
           let n : next ≡ at + sizeOf s = ap next-of q in
-          let was-read = sym (read-same false (drop at steps)) ∙ r .was-read in
           record {
             taken = s;
-            was-read = was-read;
+            was-read = r .was-read;
             first = e;
             judged = r .judged;
             fits = r .fits;
-            statement = statement-read steps at within s was-read .1;
+            statement = statement-read (familyOf steps) steps at within s (r .was-read) .1;
             after = n;
             onward = rw n (larger s);
             ends-is = ap ends-of q;
@@ -109,23 +97,23 @@ module _ (S : Scope) (room : ℕ) (known : List Words) (steps : Words) (at kept 
 
   -- A refused step, by its answer or for where it stands.
   module _ (strict : Bool) where
-    run-refused : (r : Reason) → judgeFirst (ending strict plainRules) S room known (drop at steps) ≡ wrong r → run (ending strict plainRules) S room known zero (drop at steps) ≡ refused (refusal r (suc (length known)))
+    run-refused : (r : Reason) → judgeFirst (ending strict plainRules) (familyOf steps) S room known (drop at steps) ≡ wrong r → run (ending strict plainRules) (familyOf steps) S room known zero (drop at steps) ≡ refused (refusal r (suc (length known)))
     run-refused r j = go (drop-cons steps at (pos 0) within)
       where
-        go : drop at steps ≡ getD steps at (pos 0) ∷ drop (suc at) steps → run (ending strict plainRules) S room known zero (drop at steps) ≡ refused (refusal r (suc (length known)))
-        go d = rw d (run-wrong (ending strict plainRules) S room known (getD steps at (pos 0)) (drop (suc at) steps) r (rw d at j))
+        go : drop at steps ≡ getD steps at (pos 0) ∷ drop (suc at) steps → run (ending strict plainRules) (familyOf steps) S room known zero (drop at steps) ≡ refused (refusal r (suc (length known)))
+        go d = rw d (run-wrong (ending strict plainRules) (familyOf steps) S room known (getD steps at (pos 0)) (drop (suc at) steps) r (rw d at j))
 
     pub wrong-run :
-        (r : Reason) → (strict && someEmpty known) ≡ false → WrongStep r ≡ stepAnswer at kept (judgeRead S room known (readStep plainRules (drop at steps)))
-        → run (ending strict plainRules) S room known zero (drop at steps) ≡ refused (refusal r (suc (length known)))
-    wrong-run r may h = run-refused r (first-judged strict S room known (drop at steps) may ∙ go (judgeRead S room known (readStep plainRules (drop at steps))) h)
+        (r : Reason) → (strict && someEmpty known) ≡ false → WrongStep r ≡ stepAnswer at kept (judgeRead S room known (readStep (familyOf steps) (drop at steps)))
+        → run (ending strict plainRules) (familyOf steps) S room known zero (drop at steps) ≡ refused (refusal r (suc (length known)))
+    wrong-run r may h = run-refused r (before-judged (ending strict plainRules) (familyOf steps) S room known may (drop at steps) ∙ go (judgeRead S room known (readStep (familyOf steps) (drop at steps))) h)
       where
         go : (j : Judged) → WrongStep r ≡ stepAnswer at kept j → j ≡ wrong r
         go (right s) q = let z : _≡_ {A = ℕ} 0 1 = cc in absurd (omega arith)
         go (wrong p) q = let e : p ≡ r = cc in ap wrong e
 
-    pub after-run : (strict && someEmpty known) ≡ true → run (ending strict plainRules) S room known zero (drop at steps) ≡ refused (refusal Afterword (suc (length known)))
-    after-run h = run-refused Afterword (after-refused (ending strict plainRules) S room known h (drop at steps))
+    pub after-run : (strict && someEmpty known) ≡ true → run (ending strict plainRules) (familyOf steps) S room known zero (drop at steps) ≡ refused (refusal Afterword (suc (length known)))
+    after-run h = run-refused Afterword (after-refused (ending strict plainRules) (familyOf steps) S room known h (drop at steps))
 
 -- The run after a right step, with its offset kept.
 module _ (strict : Bool) (prefix clauses steps : List ℤ) (inputs : ℕ) (offsets : List ℕ) (numbered at next : ℕ) (ends : Bool)
@@ -140,12 +128,12 @@ module _ (strict : Bool) (prefix clauses steps : List ℤ) (inputs : ℕ) (offse
 
   pub taken-run :
       (strict && someEmpty (stored inputs clauses steps offsets numbered)) ≡ false
-      → run (ending strict plainRules) (scopeOf prefix clauses) (length offsets) (stored inputs clauses steps offsets numbered) zero (drop at steps)
-      ≡ run (ending strict plainRules) (scopeOf prefix clauses) (length offsets) (stored inputs clauses steps (set offsets numbered at) (numbered + 1)) zero (drop next steps)
+      → run (ending strict plainRules) (familyOf steps) (scopeOf prefix clauses) (length offsets) (stored inputs clauses steps offsets numbered) zero (drop at steps)
+      ≡ run (ending strict plainRules) (familyOf steps) (scopeOf prefix clauses) (length offsets) (stored inputs clauses steps (set offsets numbered at) (numbered + 1)) zero (drop next steps)
   taken-run may =
-      run-right (ending strict plainRules) (scopeOf prefix clauses) (length offsets) (stored inputs clauses steps offsets numbered) (drop at steps) (taken .taken)
-      (first-judged strict (scopeOf prefix clauses) (length offsets) (stored inputs clauses steps offsets numbered) (drop at steps) may ∙ taken .first)
-      ∙ ap₂ (λ (Cs : List Words) (ws : Words). run (ending strict plainRules) (scopeOf prefix clauses) (length offsets) Cs zero ws) (sym taken-stored) (drop-drop (sizeOf (taken .taken)) at steps ∙ ap (λ (n : ℕ). drop n steps) (sym (taken .after)))
+      run-right (ending strict plainRules) (familyOf steps) (scopeOf prefix clauses) (length offsets) (stored inputs clauses steps offsets numbered) (drop at steps) (taken .taken)
+      (before-judged (ending strict plainRules) (familyOf steps) (scopeOf prefix clauses) (length offsets) (stored inputs clauses steps offsets numbered) may (drop at steps) ∙ taken .first)
+      ∙ ap₂ (λ (Cs : List Words) (ws : Words). run (ending strict plainRules) (familyOf steps) (scopeOf prefix clauses) (length offsets) Cs zero ws) (sym taken-stored) (drop-drop (sizeOf (taken .taken)) at steps ∙ ap (λ (n : ℕ). drop n steps) (sym (taken .after)))
 
   pub taken-in-range : AllWords InRange (stored inputs clauses steps offsets numbered) → AllWords InRange (stored inputs clauses steps (set offsets numbered at) (numbered + 1))
   taken-in-range all =
@@ -183,8 +171,8 @@ module _ (strict : Bool) (prefix clauses steps : List ℤ) (inputs : ℕ) (offse
 -- The run under way: what is left to run comes to the same as the whole; `room` is the length of the offsets.
 pub record Going (strict : Bool) (prefix clauses steps : List ℤ) (inputs room : ℕ) (scratch offsets : List ℕ) (numbered at kept empty : ℕ) : Type 0 where
   pub whole :
-      run (ending strict plainRules) (scopeOf prefix clauses) room (clausesOf clauses) zero steps
-      ≡ run (ending strict plainRules) (scopeOf prefix clauses) room (stored inputs clauses steps offsets numbered) zero (drop at steps)
+      run (ending strict plainRules) (familyOf steps) (scopeOf prefix clauses) room (clausesOf clauses) zero steps
+      ≡ run (ending strict plainRules) (familyOf steps) (scopeOf prefix clauses) room (stored inputs clauses steps offsets numbered) zero (drop at steps)
   pub ready : KeptReady prefix clauses kept scratch
   pub room-is : length offsets ≡ room
   pub past : inputs ≤ numbered
@@ -243,7 +231,7 @@ module _ (strict : Bool) (prefix clauses steps : List ℤ) (inputs room : ℕ) (
   -- A refused one ends the run.
   going-stops :
       (r : Reason) (scratch′ : List ℕ)
-      → run (ending strict plainRules) (scopeOf prefix clauses) (length offsets) (stored inputs clauses steps offsets numbered) zero (drop at steps) ≡ refused (refusal r (suc (length (stored inputs clauses steps offsets numbered))))
+      → run (ending strict plainRules) (familyOf steps) (scopeOf prefix clauses) (length offsets) (stored inputs clauses steps offsets numbered) zero (drop at steps) ≡ refused (refusal r (suc (length (stored inputs clauses steps offsets numbered))))
       → Ready prefix scratch′
       → RunDone strict prefix clauses steps inputs (Refused (refusal r (numbered + 1))) scratch′ offsets
   going-stops r scratch′ w k =
@@ -259,7 +247,7 @@ module _ (strict : Bool) (prefix clauses steps : List ℤ) (inputs room : ℕ) (
 
   pub going-refused :
       (r : Reason) (scratch′ : List ℕ) → at < length steps → (strict && ltb 0 empty) ≡ false
-      → WrongStep r ≡ stepAnswer at kept (judgeRead (scopeOf prefix clauses) (length offsets) (stored inputs clauses steps offsets numbered) (readStep plainRules (drop at steps)))
+      → WrongStep r ≡ stepAnswer at kept (judgeRead (scopeOf prefix clauses) (length offsets) (stored inputs clauses steps offsets numbered) (readStep (familyOf steps) (drop at steps)))
       → Ready prefix scratch′
       → RunDone strict prefix clauses steps inputs (Refused (refusal r (numbered + 1))) scratch′ offsets
   going-refused r scratch′ h may e k =

@@ -1,7 +1,7 @@
--- What an accepted verdict says (01, "Steps"; wish 2) and what makes it, with nothing supposed of tables or room, by any rules that
--- write steps with the kinds 1 and 2; Exact.antt has the wish as its sentence, by the checker's. The verdict is blocked only where an existential of the clause depends, and what
--- blocks is an entry of the prefix. And wish 3 for the checker: an accepted proof makes the game lost. Assumes nothing.
-use Prim.Native.Nat.{ℕ, zero, suc, _+_, _-_, _*_, _≤_, _<_}
+-- What an accepted verdict says (01, "Steps"; wish 2) and what makes it, with nothing supposed of tables or room, by any rules and for both families;
+-- Exact.antt has the wish as its sentence, by the checker's rules. The verdict is blocked only where an existential of the clause depends, and what blocks
+-- is an entry of the prefix. And wish 3 for the checker: an accepted proof makes the game lost. Assumes nothing.
+use Prim.Native.Nat.{ℕ, zero, suc, _+_, _-_, _≤_, _<_}
 use mathlib.Core.Path.{_≡_, refl, ap, sym, _∙_}
 use mathlib.Core.Logic.{_≢_}
 use mathlib.Core.Bool.{Bool, true}
@@ -30,22 +30,25 @@ use Rattle.formula.specs.declared.refusal.Blocker.{Blocker}
 use Rattle.formula.specs.declared.refusal.Reason.the-variants.{Oversized, NoRoom, NoConclusion, Blocked}
 use Rattle.checker.specs.declared.verdict.Verdict.{Verdict}
 use Rattle.checker.specs.declared.verdict.Verdict.the-variants.{Accepted, Refused}
-use Rattle.checker.specs.Rules.{Rules, PlainKinds}
+use Rattle.inference.specs.declared.read.Family.{Family}
+use Rattle.inference.specs.Rules.{Rules}
 use Rattle.formula.specs.Refusal.Laws.{require-passed}
-use Rattle.checker.specs.Words.{Words}
-use Rattle.checker.specs.Steps.{Step, resolution, reduction, Outcome, ended, refused, run}
-use Rattle.checker.specs.Steps.Tests.{opposite-zero}
-use Rattle.checker.specs.Lawful.{numberedClauses, BlockedStep, RunBlocked, BlockerEntry}
-use Rattle.checker.specs.Lawful.Laws.{numbered-length}
-use Rattle.checker.specs.Lawful.Steps.{run-lawful, lawful-run, run-blocked, RunEnds}
-use Rattle.checker.specs.Derived.{AllDerived}
-use Rattle.checker.specs.Derived.Laws.{lawful-steps-derived, derived-lost}
+use Rattle.inference.specs.Words.{Words}
+use Rattle.inference.specs.Steps.{Step, resolution, reduction, familyOf, Outcome, ended, refused, run}
+use Rattle.inference.specs.Steps.Tests.{opposite-zero}
+use Rattle.inference.specs.Lawful.{stepWords, numberedClauses, OfFamily, BlockedStep, RunBlocked, BlockerEntry}
+use Rattle.inference.specs.Lawful.Laws.{numbered-length}
+use Rattle.inference.specs.Steps.Written.{family-written}
+use Rattle.inference.specs.Lawful.Steps.{run-lawful, lawful-run, run-blocked, RunEnds}
+use Rattle.inference.specs.Derived.{AllDerived}
+use Rattle.inference.specs.Derived.Laws.{lawful-steps-derived, derived-lost}
 use Rattle.checker.specs.Refutation.{Accepting}
 use Rattle.checker.specs.Refutation.FirstEmptyClause.{first-empty-sound, first-empty-complete, first-empty-member}
-use Rattle.checker.specs.Verdict.{scopeOf, conclusion, concluded, conclude, ifAdmitted, sizedVerdict, verdictOf}
-use Rattle.checker.specs.Empty.{firstEmpty}
+use Rattle.checker.specs.Verdict.{conclusion, concluded, conclude, ifAdmitted, sizedVerdict, verdictOf}
+use Rattle.inference.specs.Scope.{scopeOf}
+use Rattle.inference.specs.Empty.{firstEmpty}
 use Rattle.checker.specs.Verdict.Conclusion.{run-conclusion}
-use Rattle.checker.specs.Verdict.TableScope.{scope-decides}
+use Rattle.inference.specs.Scope.Laws.{scope-decides}
 
 -- The order of refusals, taken apart.
 admitted-passed : (o : Option Refusal) (later v : Verdict) → ((r : Refusal) → o ≡ some r → v ≢ Refused r) → ifAdmitted o later ≡ v → (o ≡ none) × (later ≡ v)
@@ -76,9 +79,9 @@ pub record Passed (rules : Rules) (prefix clauses steps : List ℤ) (scratch roo
   pub scratch-fits : rules .scratch ≤ scratch
   pub inputs-fit : zeros clauses ≤ room
 
-module _ (rules : Rules) (plain : PlainKinds rules) (prefix clauses steps : List ℤ) (scratch room : ℕ) where
+module _ (rules : Rules) (prefix clauses steps : List ℤ) (scratch room : ℕ) where
   abbrev outcome : Outcome
-  outcome = run rules (scopeOf prefix clauses) room (clausesOf clauses) zero steps
+  outcome = run rules (familyOf steps) (scopeOf prefix clauses) room (clausesOf clauses) zero steps
 
   abbrev F : Formula
   F = formulaOf prefix clauses
@@ -118,7 +121,7 @@ module _ (rules : Rules) (plain : PlainKinds rules) (prefix clauses steps : List
 
   -- What a run that ended concludes with is its first empty clause.
   pub ended-conclusion : Admitted prefix clauses → (final : List Words) → outcome ≡ ended final → conclusion (rules .strict) (zeros clauses) final ≡ firstEmpty 1 final
-  ended-conclusion a final e = rw (← admitted-closed prefix clauses a) (run-conclusion rules (scopeOf prefix clauses) room (clausesOf clauses) steps final e)
+  ended-conclusion a final e = rw (← admitted-closed prefix clauses a) (run-conclusion rules (familyOf steps) (scopeOf prefix clauses) room (clausesOf clauses) steps final e)
 
   pub accepted-apart : (n m : ℕ) (q : Refusal) → Accepted (record { 0 = n }) m ≢ Refused q
   accepted-apart n m q e = let z : _≡_ {A = ℕ} 0 1 = cc in omega arith
@@ -137,7 +140,7 @@ module _ (rules : Rules) (plain : PlainKinds rules) (prefix clauses steps : List
     where
       finish :
           Passed rules prefix clauses steps scratch room
-          → (final : List Words) → RunEnds rules F room final (clausesOf clauses) steps
+          → (final : List Words) → RunEnds rules (familyOf steps) F room final (clausesOf clauses) steps
           → (o : Option ℕ) → firstEmpty 1 final ≡ o
           → concluded (zeros clauses) (length final) o ≡ Accepted (record { 0 = n }) m
           → Accepting rules prefix clauses steps scratch room n m
@@ -155,6 +158,8 @@ module _ (rules : Rules) (plain : PlainKinds rules) (prefix clauses steps : List
             steps = ends .steps;
             written = ends .written;
             lawful = ends .lawful;
+            family = familyOf steps;
+            of-family = ends .of-family;
             allowed = ends .allowed;
             offsets-fit = rw (ends .numbered) (ends .fits (rw inputs (p .inputs-fit)));
             place = first .0;
@@ -165,9 +170,15 @@ module _ (rules : Rules) (plain : PlainKinds rules) (prefix clauses steps : List
 
       go : Passed rules prefix clauses steps scratch room → (o : Outcome) → outcome ≡ o → conclude rules (zeros clauses) o ≡ Accepted (record { 0 = n }) m → Accepting rules prefix clauses steps scratch room n m
       go p (ended final) e k =
-          finish p final (run-lawful rules plain (scopeOf prefix clauses) F (scope-decides prefix clauses) room final (clausesOf clauses) steps inputs-no-zero e) (firstEmpty 1 final) refl
+          finish p final (run-lawful rules (familyOf steps) (scopeOf prefix clauses) F (scope-decides prefix clauses) room final (clausesOf clauses) steps inputs-no-zero e) (firstEmpty 1 final) refl
           (ap (concluded (zeros clauses) (length final)) (sym (ended-conclusion (p .admitted) final e)) ∙ k)
       go p (refused r) e k = absurd (accepted-apart n m r (sym k))
+
+  -- Steps of one family are of that of their words.
+  own-family : (list : List Step) (f : Family) → OfFamily f list → OfFamily (familyOf (stepWords list)) list
+  unfolding stepWords
+  own-family [] f o = tt
+  own-family (s ∷ list) f o = rw (family-written s (stepWords list), o .0) (refl, o .1)
 
   -- A refutation whose steps may stand where they do is accepted.
   pub refutation-accepted :
@@ -180,7 +191,7 @@ module _ (rules : Rules) (plain : PlainKinds rules) (prefix clauses steps : List
       let inputs : length (clausesOf clauses) ≡ zeros clauses = admitted-closed prefix clauses (r .admitted) in
       let size : length known ≡ length (clausesOf clauses) + length list = numbered-length (clausesOf clauses) list in
       let ran : outcome ≡ ended known =
-      rw (r .written) (lawful-run rules plain (scopeOf prefix clauses) F (scope-decides prefix clauses) room list (clausesOf clauses) (r .lawful) (r .allowed) inputs-no-zero (omega arith)) in
+      rw (r .written) (lawful-run rules (familyOf (stepWords list)) (scopeOf prefix clauses) F (scope-decides prefix clauses) room list (clausesOf clauses) (r .lawful) (own-family list (r .family) (r .of-family)) (r .allowed) inputs-no-zero (omega arith)) in
       let first : firstEmpty 1 known ≡ some n = first-empty-complete known (r .place) (r .first-empty) ∙ ap {B = Option ℕ} some (sym (r .place-numbered)) in
       let counts : length known - zeros clauses ≡ m = let c = r .counted in omega arith in
       passed-verdict (record { admitted = r .admitted; sized = r .sized; scratch-fits = r .scratch-fits; inputs-fit = omega arith })
@@ -196,7 +207,7 @@ module _ (rules : Rules) (plain : PlainKinds rules) (prefix clauses steps : List
   -- Refused as blocked: after lawful steps stands a reduction whose clause holds an existential that depends.
   pub blocked-depends :
       (x : Blocker) (place : ℕ) → verdictOf rules prefix clauses steps scratch room ≡ Refused (refusal (Blocked x) place)
-      → RunBlocked F (clausesOf clauses) steps place x
+      → RunBlocked rules F (clausesOf clauses) steps place x
   blocked-depends x place h = go outcome refl (verdict-passed (Refused (refusal (Blocked x) place)) (blocked-late x place) h .1)
     where
       same : (a b : Refusal) → _≡_ {A = Verdict} (Refused a) (Refused b) → a ≡ b
@@ -209,10 +220,10 @@ module _ (rules : Rules) (plain : PlainKinds rules) (prefix clauses steps : List
           omega arith
       finish final (some n) e = let z : _≡_ {A = ℕ} 0 1 = cc in omega arith
 
-      go : (o : Outcome) → outcome ≡ o → conclude rules (zeros clauses) o ≡ Refused (refusal (Blocked x) place) → RunBlocked F (clausesOf clauses) steps place x
+      go : (o : Outcome) → outcome ≡ o → conclude rules (zeros clauses) o ≡ Refused (refusal (Blocked x) place) → RunBlocked rules F (clausesOf clauses) steps place x
       go (ended final) e k = absurd (finish final (conclusion (rules .strict) (zeros clauses) final) k)
       go (refused r) e k =
-          run-blocked rules plain (scopeOf prefix clauses) F (scope-decides prefix clauses) room x (clausesOf clauses) steps place inputs-no-zero
+          run-blocked rules (familyOf steps) (scopeOf prefix clauses) F (scope-decides prefix clauses) room x (clausesOf clauses) steps place inputs-no-zero
           (e ∙ ap refused (same r (refusal (Blocked x) place) k))
 
   -- What blocks is an entry of the prefix: its three words are the variable, 1 and the block.
@@ -224,8 +235,8 @@ module _ (rules : Rules) (plain : PlainKinds rules) (prefix clauses steps : List
       named (verdict-passed (Refused (refusal (Blocked x) place)) (blocked-late x place) h .0 .admitted) (numberedClauses (clausesOf clauses) (r .steps)) (r .blocked) (r .blocks)
     where
       named : Admitted prefix clauses → (known : List Words) (s : Step) → BlockedStep F known s x → BlockerEntry prefix x
-      named adm known (resolution i j e L) b = absurd b
-      named adm known (reduction i a L) b =
+      named adm known (resolution f i j e L) b = absurd b
+      named adm known (reduction f i a L) b =
           let k = length (b .left) in
           let own : getD (withBlocks (prefixOf prefix)) k noBlocker ≡ x = ap (λ (bs : List Blocker). getD bs k noBlocker) (b .stands) ∙ behind (b .left) (b .right) x in
           let l : k < entryCount prefix = omega (arith, blocks-length 0 0 (prefixOf prefix), ap {B = ℕ} (λ (bs : List Blocker). length bs) (b .stands), length-append (b .left) (x ∷ b .right)) in
@@ -242,15 +253,15 @@ module _ (rules : Rules) (plain : PlainKinds rules) (prefix clauses steps : List
           }
 
   -- The input clauses of tables that pass are derived.
-  pub inputs-derived : Admitted prefix clauses → AllDerived F (clausesOf clauses)
-  inputs-derived a C m = (
+  pub inputs-derived : Admitted prefix clauses → (f : Family) → AllDerived F f (clausesOf clauses)
+  inputs-derived a f C m = (
     leaf (clauseOf C),
     record {
       valid = Memᴰ·map clauseOf m;
       concluded = λ x k. Memᴰ·map literalOf k;
       conclusion = λ l k. Memᴰ·of-map literalOf C k;
       nonzero = inputs-no-zero C m;
-      one-sign = λ x k i. inputs-no-zero C m x k (opposite-zero x (sym (distinct-images natAbs C (admitted-clause-distinct prefix clauses a C m) k i (sym (magnitude-negated x)))));
+      one-sign = λ q x k i. inputs-no-zero C m x k (opposite-zero x (sym (distinct-images natAbs C (admitted-clause-distinct prefix clauses a C m) k i (sym (magnitude-negated x)))));
     },
   )
 
@@ -258,6 +269,6 @@ module _ (rules : Rules) (plain : PlainKinds rules) (prefix clauses steps : List
   pub accepted-lost : (n m : ℕ) → verdictOf rules prefix clauses steps scratch room ≡ Accepted (record { 0 = n }) m → Lost F
   accepted-lost n m h =
       let r = accepted-refutation n m h in
-      let derived = lawful-steps-derived F (clausesOf clauses) (r .steps) (r .lawful) (inputs-derived (r .admitted)) in
+      let derived = lawful-steps-derived F (r .family) (clausesOf clauses) (r .steps) (r .of-family) (r .lawful) (inputs-derived (r .admitted) (r .family)) in
       let empty = derived [] (first-empty-member (numberedClauses (clausesOf clauses) (r .steps)) (r .place) (r .first-empty)) in
-      derived-lost F (admitted-proper prefix clauses (r .admitted)) (empty .0) (empty .1)
+      derived-lost F (admitted-proper prefix clauses (r .admitted)) (r .family) (empty .0) (empty .1)

@@ -7,14 +7,15 @@ use mathlib.Core.List.{List, [], _∷_, _++_}
 use native.Mathlib.Omega.{arith}
 use borrow.Author.Tests.{lt-ltb, le-ltb}
 use lib.ListN.{length}
-use Rattle.checker.specs.Rules.{Rules}
-use Rattle.checker.specs.Words.{Words}
-use Rattle.checker.specs.Steps.{Scope, Step, statedBy, ended, run}
-use Rattle.checker.specs.Steps.Run.{passes-unended, run-ended}
-use Rattle.checker.specs.Empty.{someEmpty, firstEmpty, emptyNumber, numberFound}
-use Rattle.checker.specs.Empty.Laws.{none-empty, last-first, number-found}
-use Rattle.checker.specs.Lawful.{numberedClauses, Unended}
-use Rattle.checker.specs.Lawful.Laws.{numbered-step, numbered-length}
+use Rattle.inference.specs.declared.read.Family.{Family}
+use Rattle.inference.specs.Rules.{Rules}
+use Rattle.inference.specs.Words.{Words}
+use Rattle.inference.specs.Steps.{Scope, Step, statedBy, ended, run}
+use Rattle.inference.specs.Steps.Run.{passes-unended, run-ended}
+use Rattle.inference.specs.Empty.{someEmpty, firstEmpty, emptyNumber, numberFound}
+use Rattle.inference.specs.Empty.Laws.{none-empty, last-first, number-found}
+use Rattle.inference.specs.Lawful.{numberedClauses, Unended}
+use Rattle.inference.specs.Lawful.Laws.{numbered-step, numbered-length}
 use Rattle.checker.specs.Verdict.{conclusion, concluded, conclude}
 
 -- The last clause, and those before it.
@@ -38,20 +39,20 @@ conclusion-first true (s ∷ steps) known u =
     rw (lt-ltb (length known) (length (numberedClauses known (s ∷ steps))) (omega (arith, numbered-length known (s ∷ steps))), c .joined) (last-first (c .front) (c .last) (c .none-before))
 
 pub run-conclusion :
-    (rules : Rules) (S : Scope) (room : ℕ) (known : List Words) (ws : Words) (final : List Words) → run rules S room known zero ws ≡ ended final
+    (rules : Rules) (family : Family) (S : Scope) (room : ℕ) (known : List Words) (ws : Words) (final : List Words) → run rules family S room known zero ws ≡ ended final
     → conclusion (rules .strict) (length known) final ≡ firstEmpty 1 final
-run-conclusion rules S room known ws final h =
-    let t = run-ended rules S room known ws final h in
-    rw (← t .2) (conclusion-first (rules .strict) (t .0) known (passes-unended rules S room (t .0) known ws [] (t .1)))
+run-conclusion rules family S room known ws final h =
+    let t = run-ended rules family S room known ws final h in
+    rw (← t .2) (conclusion-first (rules .strict) (t .0) known (passes-unended rules family S room (t .0) known ws [] (t .1)))
 
 -- The verdict from the first empty clause's number, as the code keeps it.
 pub concluded-run :
-    (rules : Rules) (S : Scope) (room : ℕ) (start : List Words) (ws : Words) (known : List Words) (inputs numbered empty : ℕ) → length start ≡ inputs
-    → run rules S room start zero ws ≡ ended known
+    (rules : Rules) (family : Family) (S : Scope) (room : ℕ) (start : List Words) (ws : Words) (known : List Words) (inputs numbered empty : ℕ) → length start ≡ inputs
+    → run rules family S room start zero ws ≡ ended known
     → length known ≡ numbered
     → empty ≡ emptyNumber (firstEmpty 1 known)
-    → concluded inputs numbered (numberFound empty) ≡ conclude rules inputs (run rules S room start zero ws)
-concluded-run rules S room start ws known inputs numbered empty i h l e =
+    → concluded inputs numbered (numberFound empty) ≡ conclude rules inputs (run rules family S room start zero ws)
+concluded-run rules family S room start ws known inputs numbered empty i h l e =
     let found : numberFound empty ≡ conclusion (rules .strict) inputs known =
-    ap numberFound e ∙ number-found known ∙ sym (ap (λ (k : ℕ). conclusion (rules .strict) k known) (sym i) ∙ run-conclusion rules S room start ws known h) in
+    ap numberFound e ∙ number-found known ∙ sym (ap (λ (k : ℕ). conclusion (rules .strict) k known) (sym i) ∙ run-conclusion rules family S room start ws known h) in
     ap₂ (concluded inputs) (sym l) found ∙ ap (conclude rules inputs) (sym h)

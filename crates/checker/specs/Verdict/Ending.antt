@@ -20,18 +20,19 @@ use Rattle.formula.specs.Refusal.{refusal}
 use Rattle.formula.specs.declared.refusal.Reason.the-variants.{NoConclusion, Afterword}
 use Rattle.checker.specs.declared.verdict.Verdict.{Verdict}
 use Rattle.checker.specs.declared.verdict.Verdict.the-variants.{Accepted, Refused}
-use Rattle.checker.specs.Rules.{Rules, plainRules, ending, formerRules}
-use Rattle.checker.specs.Rules.Laws.{plain-kinds, ending-kinds}
-use Rattle.checker.specs.Words.{Words}
-use Rattle.checker.specs.Steps.{Scope, Step, statedBy, sizeOf, readStep, judgeRead, judgeFirst, Outcome, ended, refused, run}
-use Rattle.checker.specs.Steps.Run.{nothing-right, run-right, run-wrong, after-refused, before-judged, Passes, run-ended}
-use Rattle.checker.specs.Empty.{isEmpty, someEmpty, firstEmpty}
-use Rattle.checker.specs.Empty.Laws.{some-snoc, first-beyond, first-least, first-within}
-use Rattle.checker.specs.Lawful.{numberedClauses}
-use Rattle.checker.specs.Lawful.Laws.{length-snoc, numbered-step, numbered-length}
+use Rattle.inference.specs.declared.read.Family.{Family}
+use Rattle.inference.specs.Rules.{Rules, plainRules, ending, formerRules}
+use Rattle.inference.specs.Words.{Words}
+use Rattle.inference.specs.Steps.{Scope, Step, familyOf, statedBy, sizeOf, judgeFirst, Outcome, ended, refused, run}
+use Rattle.inference.specs.Steps.Run.{nothing-right, run-right, run-wrong, after-refused, before-judged, Passes, run-ended}
+use Rattle.inference.specs.Empty.{isEmpty, someEmpty, firstEmpty}
+use Rattle.inference.specs.Empty.Laws.{some-snoc, first-beyond, first-least, first-within}
+use Rattle.inference.specs.Lawful.{numberedClauses}
+use Rattle.inference.specs.Lawful.Laws.{length-snoc, numbered-step, numbered-length}
 use Rattle.checker.specs.Refutation.{FirstEmpty, Accepting}
 use Rattle.checker.specs.Refutation.Ending.{unended-first}
-use Rattle.checker.specs.Verdict.{scopeOf, concluded, conclude, verdictOf}
+use Rattle.checker.specs.Verdict.{concluded, conclude, verdictOf}
+use Rattle.inference.specs.Scope.{scopeOf}
 use Rattle.checker.specs.Verdict.Accuracy.{Passed, passed-verdict, verdict-passed, accepted-apart, accepted-refutation, refutation-accepted, ended-conclusion, numbers-same}
 
 first-nil : (n : ℕ) (Cs : List Words) → firstEmpty n ([] ∷ Cs) ≡ some n
@@ -39,29 +40,22 @@ unfolding firstEmpty
 first-nil n Cs = refl
 
 -- The run by the strict rule, from what the other one passed.
-module _ (rules : Rules) (S : Scope) (room : ℕ) where
+module _ (rules : Rules) (family : Family) (S : Scope) (room : ℕ) where
   abbrev strictly : List Words → Words → Outcome
-  strictly known ws = run (ending true rules) S room known zero ws
-
-  read-same : (ws : Words) → readStep (ending true rules) ws ≡ readStep (ending false rules) ws
-  unfolding readStep
-  read-same [] = refl
-  read-same (w ∷ ws) = refl
+  strictly known ws = run (ending true rules) family S room known zero ws
 
   -- Where no clause is empty, the two judge the same.
-  first-same : (known : List Words) (ws : Words) → someEmpty known ≡ false → judgeFirst (ending true rules) S room known ws ≡ judgeFirst (ending false rules) S room known ws
+  first-same : (known : List Words) (ws : Words) → someEmpty known ≡ false → judgeFirst (ending true rules) family S room known ws ≡ judgeFirst (ending false rules) family S room known ws
   first-same known ws h =
-      before-judged (ending true rules) S room known h ws
-      ∙ ap (judgeRead S room known) (read-same ws)
-      ∙ sym (before-judged (ending false rules) S room known refl ws)
+      before-judged (ending true rules) family S room known h ws ∙ sym (before-judged (ending false rules) family S room known refl ws)
 
   -- Where one is, any step is refused.
   after-stops :
-      (known : List Words) (ws rest : Words) (s : Step) (steps : List Step) → someEmpty known ≡ true → Passes (ending false rules) S room known ws (s ∷ steps) rest
+      (known : List Words) (ws rest : Words) (s : Step) (steps : List Step) → someEmpty known ≡ true → Passes (ending false rules) family S room known ws (s ∷ steps) rest
       → strictly known ws ≡ refused (refusal Afterword (suc (length known)))
-  after-stops known [] rest s steps e p = absurd (nothing-right (ending false rules) S room known s (p .0))
+  after-stops known [] rest s steps e p = absurd (nothing-right (ending false rules) family S room known s (p .0))
   after-stops known (w ∷ ws) rest s steps e p =
-      run-wrong (ending true rules) S room known w ws Afterword (after-refused (ending true rules) S room known e (w ∷ ws))
+      run-wrong (ending true rules) family S room known w ws Afterword (after-refused (ending true rules) family S room known e (w ∷ ws))
 
   run-nothing : (known : List Words) → strictly known [] ≡ ended known
   unfolding run
@@ -86,7 +80,7 @@ module _ (rules : Rules) (S : Scope) (room : ℕ) where
   endsAt false n final = ended final
 
   strict-run :
-      (steps : List Step) (known : List Words) (ws : Words) (n : ℕ) → Passes (ending false rules) S room known ws steps [] → someEmpty known ≡ false
+      (steps : List Step) (known : List Words) (ws : Words) (n : ℕ) → Passes (ending false rules) family S room known ws steps [] → someEmpty known ≡ false
       → firstEmpty 1 (numberedClauses known steps) ≡ some n
       → strictly known ws ≡ endsAt (ltb n (length known + length steps)) n (numberedClauses known steps)
   strict-run [] known ws n p e f =
@@ -94,14 +88,14 @@ module _ (rules : Rules) (S : Scope) (room : ℕ) where
       let z : _≡_ {A = ℕ} 0 1 = cc (rw (append-nil known) at f) in
       absurd (omega arith)
   strict-run (s ∷ steps) known ws n p e f =
-      run-right (ending true rules) S room known ws s (first-same known ws e ∙ p .0)
+      run-right (ending true rules) family S room known ws s (first-same known ws e ∙ p .0)
       ∙ go (statedBy s) refl steps (p .1) f (strict-run steps (known ++ (statedBy s ∷ [])) (drop (sizeOf s) ws) n (p .1))
     where
       one-more : length (known ++ (statedBy s ∷ [])) ≡ suc (length known)
       one-more = length-snoc known (statedBy s)
 
       go :
-          (C : Words) → statedBy s ≡ C → (steps : List Step) → Passes (ending false rules) S room (known ++ (statedBy s ∷ [])) (drop (sizeOf s) ws) steps []
+          (C : Words) → statedBy s ≡ C → (steps : List Step) → Passes (ending false rules) family S room (known ++ (statedBy s ∷ [])) (drop (sizeOf s) ws) steps []
           → firstEmpty 1 (numberedClauses known (s ∷ steps)) ≡ some n
           → (someEmpty (known ++ (statedBy s ∷ [])) ≡ false → firstEmpty 1 (numberedClauses (known ++ (statedBy s ∷ [])) steps) ≡ some n → strictly (known ++ (statedBy s ∷ [])) (drop (sizeOf s) ws) ≡ endsAt (ltb n (length (known ++ (statedBy s ∷ [])) + length steps)) n (numberedClauses (known ++ (statedBy s ∷ [])) steps))
           → strictly (known ++ (statedBy s ∷ [])) (drop (sizeOf s) ws) ≡ endsAt (ltb n (length known + suc (length steps))) n (numberedClauses known (s ∷ steps))
@@ -150,7 +144,7 @@ module _ (prefix clauses steps : List ℤ) (scratch room empty count : ℕ) wher
       verdictOf plainRules prefix clauses steps scratch room ≡ Accepted (record { 0 = empty }) count
       → ((count ≡ 0) × ((place : ℕ) × (empty ≡ suc place) × FirstEmpty (clausesOf clauses) place)) ⊎ ((1 ≤ count) × (empty ≡ zeros clauses + count))
   accepted-last h =
-      let r = accepted-refutation plainRules plain-kinds prefix clauses steps scratch room empty count h in
+      let r = accepted-refutation plainRules prefix clauses steps scratch room empty count h in
       go r (unended-first (r .steps) (clausesOf clauses) (r .place) (r .allowed refl) (r .first-empty))
     where
       go :
@@ -166,13 +160,13 @@ module _ (prefix clauses steps : List ℤ) (scratch room empty count : ℕ) wher
           let e = t .1 in
           inr (omega arith, omega arith)
 
-  -- Accepted, and so it was before.
+  -- Accepted, and so it is where steps may follow an empty clause.
   pub accepted-former :
       verdictOf plainRules prefix clauses steps scratch room ≡ Accepted (record { 0 = empty }) count
       → verdictOf formerRules prefix clauses steps scratch room ≡ Accepted (record { 0 = empty }) count
   accepted-former h =
-      let r = accepted-refutation plainRules plain-kinds prefix clauses steps scratch room empty count h in
-      refutation-accepted formerRules (ending-kinds false) prefix clauses steps scratch room empty count
+      let r = accepted-refutation plainRules prefix clauses steps scratch room empty count h in
+      refutation-accepted formerRules prefix clauses steps scratch room empty count
       (record {
         admitted = r .admitted;
         sized = r .sized;
@@ -180,6 +174,8 @@ module _ (prefix clauses steps : List ℤ) (scratch room empty count : ℕ) wher
         steps = r .steps;
         written = r .written;
         lawful = r .lawful;
+        family = r .family;
+        of-family = r .of-family;
         allowed = λ e. absurd (false≢true e);
         offsets-fit = r .offsets-fit;
         place = r .place;
@@ -196,25 +192,25 @@ module _ (prefix clauses steps : List ℤ) (scratch room empty count : ℕ) wher
 
   -- The verdict from the strict run.
   module _ (p : Passed formerRules prefix clauses steps scratch room) where
-    concludes : verdictOf plainRules prefix clauses steps scratch room ≡ conclude plainRules (zeros clauses) (run plainRules S room inputs zero steps)
+    concludes : verdictOf plainRules prefix clauses steps scratch room ≡ conclude plainRules (zeros clauses) (run plainRules (familyOf steps) S room inputs zero steps)
     concludes =
-        passed-verdict plainRules plain-kinds prefix clauses steps scratch room
+        passed-verdict plainRules prefix clauses steps scratch room
         (record { admitted = p .admitted; sized = p .sized; scratch-fits = p .scratch-fits; inputs-fit = p .inputs-fit })
 
-    refuses : (place : ℕ) → run plainRules S room inputs zero steps ≡ refused (refusal Afterword place) → verdictOf plainRules prefix clauses steps scratch room ≡ Refused (refusal Afterword place)
+    refuses : (place : ℕ) → run plainRules (familyOf steps) S room inputs zero steps ≡ refused (refusal Afterword place) → verdictOf plainRules prefix clauses steps scratch room ≡ Refused (refusal Afterword place)
     refuses place e = concludes ∙ ap (conclude plainRules (zeros clauses)) e
 
     accepts :
-        (final : List Words) → firstEmpty 1 final ≡ some empty → length final - zeros clauses ≡ count → run plainRules S room inputs zero steps ≡ ended final
+        (final : List Words) → firstEmpty 1 final ≡ some empty → length final - zeros clauses ≡ count → run plainRules (familyOf steps) S room inputs zero steps ≡ ended final
         → verdictOf plainRules prefix clauses steps scratch room ≡ Accepted (record { 0 = empty }) count
     accepts final first counted e =
         concludes
         ∙ ap (conclude plainRules (zeros clauses)) e
-        ∙ rw (ended-conclusion plainRules plain-kinds prefix clauses steps scratch room (p .admitted) final e, first, counted)
+        ∙ rw (ended-conclusion plainRules prefix clauses steps scratch room (p .admitted) final e, first, counted)
 
     -- Steps that the other run passed, after input clauses one of which is empty, or none.
     ended-inputs :
-        (list : List Step) → Passes formerRules S room inputs steps list [] → firstEmpty 1 (numberedClauses inputs list) ≡ some empty
+        (list : List Step) → Passes formerRules (familyOf steps) S room inputs steps list [] → firstEmpty 1 (numberedClauses inputs list) ≡ some empty
         → length (numberedClauses inputs list) - zeros clauses ≡ count
         → someEmpty inputs ≡ true
         → AfterEnd (zeros clauses) empty count (verdictOf plainRules prefix clauses steps scratch room)
@@ -225,14 +221,14 @@ module _ (prefix clauses steps : List ℤ) (scratch room empty count : ℕ) wher
         record {
           after-input = λ a b. absurd (omega arith);
           after-step = λ a b. absurd (omega arith);
-          same = λ t. accepts (numberedClauses inputs []) first counted (rw (q, run-nothing plainRules S room inputs) (ap ended (sym (append-nil inputs))));
+          same = λ t. accepts (numberedClauses inputs []) first counted (rw (q, run-nothing plainRules (familyOf []) S room inputs) (ap ended (sym (append-nil inputs))));
         }
     ended-inputs (s ∷ list) q first counted e =
         let closed = admitted-closed prefix clauses (p .admitted) in
         let size = numbered-length inputs (s ∷ list) in
         let within = first-within 1 empty inputs (map statedBy (s ∷ list)) e first in
         record {
-          after-input = λ a b. refuses (suc (zeros clauses)) (after-stops plainRules S room inputs steps [] s list e q ∙ ap (λ (k : ℕ). refused (refusal Afterword (suc k))) closed);
+          after-input = λ a b. refuses (suc (zeros clauses)) (after-stops plainRules (familyOf steps) S room inputs steps [] s list e q ∙ ap (λ (k : ℕ). refused (refusal Afterword (suc k))) closed);
           after-step = λ a b. absurd (omega arith);
           same = λ t. absurd (neither t closed size within counted);
         }
@@ -242,7 +238,7 @@ module _ (prefix clauses steps : List ℤ) (scratch room empty count : ℕ) wher
         neither (inr z) a b c d = omega arith
 
     open-inputs :
-        (list : List Step) → Passes formerRules S room inputs steps list [] → firstEmpty 1 (numberedClauses inputs list) ≡ some empty
+        (list : List Step) → Passes formerRules (familyOf steps) S room inputs steps list [] → firstEmpty 1 (numberedClauses inputs list) ≡ some empty
         → length (numberedClauses inputs list) - zeros clauses ≡ count
         → someEmpty inputs ≡ false
         → AfterEnd (zeros clauses) empty count (verdictOf plainRules prefix clauses steps scratch room)
@@ -250,7 +246,7 @@ module _ (prefix clauses steps : List ℤ) (scratch room empty count : ℕ) wher
         let closed = admitted-closed prefix clauses (p .admitted) in
         let size = numbered-length inputs list in
         let least = first-least (suc (length inputs)) empty (map statedBy list) (sym (first-beyond inputs (map statedBy list) e) ∙ first) in
-        let ran = strict-run plainRules S room list inputs steps empty q e first in
+        let ran = strict-run plainRules (familyOf steps) S room list inputs steps empty q e first in
         record {
           after-input = λ a b. absurd (omega arith);
           after-step = λ a b. refuses (suc empty) (rw (lt-ltb empty (length inputs + length list) (omega arith)) at ran);
@@ -261,30 +257,30 @@ module _ (prefix clauses steps : List ℤ) (scratch room empty count : ℕ) wher
         either (inl z) a b c d = omega arith
         either (inr z) a b c d = omega arith
 
-  -- Accepted before: what is answered now.
+  -- Accepted where steps may follow an empty clause: what the checker answers.
   pub former-accepted :
       verdictOf formerRules prefix clauses steps scratch room ≡ Accepted (record { 0 = empty }) count
       → verdictOf plainRules prefix clauses steps scratch room ≡ answerNow (zeros clauses) empty count
   former-accepted h =
-      let p = verdict-passed formerRules (ending-kinds false) prefix clauses steps scratch room (Accepted (record { 0 = empty }) count) (λ q small. accepted-apart formerRules (ending-kinds false) prefix clauses steps scratch room empty count q) h in
-      answered (zeros clauses) empty count (verdictOf plainRules prefix clauses steps scratch room) (go (p .0) (run formerRules S room inputs zero steps) refl (p .1))
+      let p = verdict-passed formerRules prefix clauses steps scratch room (Accepted (record { 0 = empty }) count) (λ q small. accepted-apart formerRules prefix clauses steps scratch room empty count q) h in
+      answered (zeros clauses) empty count (verdictOf plainRules prefix clauses steps scratch room) (go (p .0) (run formerRules (familyOf steps) S room inputs zero steps) refl (p .1))
     where
       numbers :
           (final : List Words) (o : Option ℕ) → firstEmpty 1 final ≡ o → concluded (zeros clauses) (length final) o ≡ Accepted (record { 0 = empty }) count
           → (firstEmpty 1 final ≡ some empty) × (length final - zeros clauses ≡ count)
-      numbers final none f k = absurd (accepted-apart formerRules (ending-kinds false) prefix clauses steps scratch room empty count (refusal NoConclusion (length final)) (sym k))
+      numbers final none f k = absurd (accepted-apart formerRules prefix clauses steps scratch room empty count (refusal NoConclusion (length final)) (sym k))
       numbers final (some a) f k = let same = numbers-same a (length final - zeros clauses) empty count k in (f ∙ ap {B = Option ℕ} some (same .0), same .1)
 
       some-or-none :
-          Passed formerRules prefix clauses steps scratch room → (list : List Step) → Passes formerRules S room inputs steps list []
+          Passed formerRules prefix clauses steps scratch room → (list : List Step) → Passes formerRules (familyOf steps) S room inputs steps list []
           → (firstEmpty 1 (numberedClauses inputs list) ≡ some empty) × (length (numberedClauses inputs list) - zeros clauses ≡ count)
           → (b : Bool) → someEmpty inputs ≡ b
           → AfterEnd (zeros clauses) empty count (verdictOf plainRules prefix clauses steps scratch room)
       some-or-none p list q t true e = ended-inputs p list q (t .0) (t .1) e
       some-or-none p list q t false e = open-inputs p list q (t .0) (t .1) e
 
-      go : Passed formerRules prefix clauses steps scratch room → (o : Outcome) → run formerRules S room inputs zero steps ≡ o → conclude formerRules (zeros clauses) o ≡ Accepted (record { 0 = empty }) count → AfterEnd (zeros clauses) empty count (verdictOf plainRules prefix clauses steps scratch room)
-      go p (refused r) e k = absurd (accepted-apart formerRules (ending-kinds false) prefix clauses steps scratch room empty count r (sym k))
+      go : Passed formerRules prefix clauses steps scratch room → (o : Outcome) → run formerRules (familyOf steps) S room inputs zero steps ≡ o → conclude formerRules (zeros clauses) o ≡ Accepted (record { 0 = empty }) count → AfterEnd (zeros clauses) empty count (verdictOf plainRules prefix clauses steps scratch room)
+      go p (refused r) e k = absurd (accepted-apart formerRules prefix clauses steps scratch room empty count r (sym k))
       go p (ended final) e k =
-          let t = run-ended formerRules S room inputs steps final e in
+          let t = run-ended formerRules (familyOf steps) S room inputs steps final e in
           some-or-none p (t .0) (t .1) (rw (t .2) (numbers final (firstEmpty 1 final) refl k)) (someEmpty inputs) refl

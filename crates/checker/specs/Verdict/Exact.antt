@@ -14,9 +14,8 @@ use Rattle.formula.specs.declared.refusal.Blocker.{Blocker}
 use Rattle.formula.specs.declared.refusal.Reason.the-variants.{Blocked}
 use Rattle.formula.specs.Tables.{Admitted}
 use Rattle.checker.specs.declared.verdict.Verdict.the-variants.{Accepted, Refused}
-use Rattle.checker.specs.Rules.{plainRules}
-use Rattle.checker.specs.Rules.Laws.{plain-kinds}
-use Rattle.checker.specs.Lawful.{numberedClauses, RunBlocked, BlockerEntry}
+use Rattle.inference.specs.Rules.{plainRules}
+use Rattle.inference.specs.Lawful.{numberedClauses, RunBlocked, BlockerEntry}
 use Rattle.checker.specs.Refutation.{Refutation, FirstEmpty, Within}
 use Rattle.checker.specs.Refutation.Ending.{ends-some, accepting-refutation}
 use Rattle.checker.specs.Refutation.FirstEmptyClause.{empty-first}
@@ -26,21 +25,21 @@ use Rattle.checker.specs.Verdict.Accuracy.{numbers-same, accepted-refuta
 -- After lawful steps stands a reduction whose clause holds an existential that depends, and what blocks is named.
 pub refused-blocked-depends :
     (prefix clauses words : List ℤ) (scratch offsets place : ℕ) (x : Blocker) → verdictOf plainRules prefix clauses words scratch offsets ≡ Refused (refusal (Blocked x) place)
-    → RunBlocked (formulaOf prefix clauses) (clausesOf clauses) words place x
-refused-blocked-depends prefix clauses words scratch offsets place x = blocked-depends plainRules plain-kinds prefix clauses words scratch offsets x place
+    → RunBlocked plainRules (formulaOf prefix clauses) (clausesOf clauses) words place x
+refused-blocked-depends prefix clauses words scratch offsets place x = blocked-depends plainRules prefix clauses words scratch offsets x place
 
 -- What blocks is an entry of the prefix: its three words are the variable, 1 and the block.
 pub refused-blocked-entry :
     (prefix clauses words : List ℤ) (scratch offsets place : ℕ) (x : Blocker) → verdictOf plainRules prefix clauses words scratch offsets ≡ Refused (refusal (Blocked x) place)
     → BlockerEntry prefix x
-refused-blocked-entry prefix clauses words scratch offsets place x = blocked-entry plainRules plain-kinds prefix clauses words scratch offsets x place
+refused-blocked-entry prefix clauses words scratch offsets place x = blocked-entry plainRules prefix clauses words scratch offsets x place
 
 module _ (prefix clauses words : List ℤ) (scratch offsets : ℕ) (admitted : Admitted prefix clauses) (within : Within clauses words scratch offsets) where
   refuted :
       (r : Refutation prefix clauses words) (place : ℕ) → FirstEmpty (numberedClauses (clausesOf clauses) (r .steps)) place
       → verdictOf plainRules prefix clauses words scratch offsets ≡ Accepted (record { 0 = suc place }) (length (r .steps))
   refuted r place f =
-      refutation-accepted plainRules plain-kinds prefix clauses words scratch offsets (suc place) (length (r .steps))
+      refutation-accepted plainRules prefix clauses words scratch offsets (suc place) (length (r .steps))
       (record {
         admitted = admitted;
         sized = within .sized;
@@ -48,6 +47,8 @@ module _ (prefix clauses words : List ℤ) (scratch offsets : ℕ) (admitted : A
         steps = r .steps;
         written = r .written;
         lawful = r .lawful;
+        family = r .family;
+        of-family = r .of-family;
         allowed = λ q. r .unended;
         offsets-fit = within .offsets-fit (r .steps) (r .written);
         place = place;
@@ -58,7 +59,7 @@ module _ (prefix clauses words : List ℤ) (scratch offsets : ℕ) (admitted : A
 
   pub accepted-exactly : IsAccepted (verdictOf plainRules prefix clauses words scratch offsets) ↔ Refutation prefix clauses words
   accepted-exactly = (
-    λ a. accepting-refutation prefix clauses words scratch offsets (a .empty) (a .count) (accepted-refutation plainRules plain-kinds prefix clauses words scratch offsets (a .empty) (a .count) (a .accepted)),
+    λ a. accepting-refutation prefix clauses words scratch offsets (a .empty) (a .count) (accepted-refutation plainRules prefix clauses words scratch offsets (a .empty) (a .count) (a .accepted)),
     λ r. let f = empty-first (numberedClauses (clausesOf clauses) (r .steps)) (ends-some (r .steps) (clausesOf clauses) (r .ends-empty)) in
         record { empty = suc (f .0); count = length (r .steps); accepted = refuted r (f .0) (f .1) },
   )

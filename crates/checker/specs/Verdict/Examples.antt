@@ -17,10 +17,10 @@ use Rattle.formula.specs.Tables.{isIn, zeros, prefixRefusal, clausesRefusal, wo
 use Rattle.formula.specs.Refusal.{refusal}
 use Rattle.formula.specs.declared.refusal.Reason.the-variants.{NoRoom, WrongPivot, Tautology, Blocked, Misstated, NoConclusion, Afterword}
 use Rattle.checker.specs.declared.verdict.Verdict.the-variants.{Accepted, Refused}
-use Rattle.checker.specs.Rules.{plainRules, formerRules}
-use Rattle.checker.specs.Words.{sameWord, isZero, holds, without, closes}
-use Rattle.checker.specs.Steps.{readStep, opposed, lists, covers, states, blocked, leftmost, blockerOf, judgeResolution, judgeReduction, judgeFirst, run}
-use Rattle.checker.specs.Empty.{someEmpty, firstEmpty, lastEmpty}
+use Rattle.inference.specs.Rules.{plainRules, formerRules}
+use Rattle.inference.specs.Words.{sameWord, isZero, holds, without, closes}
+use Rattle.inference.specs.Steps.{familyOf, readStep, unresolvable, opposed, lists, covers, states, blocked, leftmost, blockerOf, judgeResolution, judgeReduction, judgeFirst, run}
+use Rattle.inference.specs.Empty.{someEmpty, firstEmpty, lastEmpty}
 use Rattle.checker.specs.Verdict.{sizedVerdict, verdictOf}
 
 -- Source document 001's formula: prefix ∃1 ∀2 ∃3 ∃4; clauses {2,3} {−2,4} {−4,1} {−1,−3}.
@@ -102,5 +102,5 @@ pub positions :
     -- the first and the third by the rule before
     × (verdictOf formerRules (a 1 1 []) (pos 1 ∷ pos 0 ∷ []) (pos 2 ∷ pos 1 ∷ pos 1 ∷ pos 0 ∷ pos 2 ∷ pos 1 ∷ pos 1 ∷ pos 0 ∷ []) 8200 3 ≡ Accepted (record { 0 = 2 }) 2)
     × (verdictOf formerRules (a 1 1 []) (pos 0 ∷ pos 1 ∷ pos 0 ∷ []) (pos 2 ∷ pos 2 ∷ pos 1 ∷ pos 0 ∷ []) 8200 3 ≡ Accepted (record { 0 = 1 }) 1)
-unfolding prefixOf ordinal blocksFrom occurs leftmost blockerOf sameWord isZero holds without firstClause closes readStep opposed lists covers states blocked judgeResolution judgeReduction someEmpty judgeFirst run firstEmpty lastEmpty sizedVerdict verdictOf wordOf clausesOf isIn zeros prefixRefusal clausesRefusal wordsRefusal tablesRefusal same after existentials holdsLiteral together joined literals reach member pair depends ℕ-discrete quantifies
+unfolding prefixOf ordinal blocksFrom occurs leftmost blockerOf sameWord isZero holds without firstClause closes familyOf readStep unresolvable opposed lists covers states blocked judgeResolution judgeReduction someEmpty judgeFirst run firstEmpty lastEmpty sizedVerdict verdictOf wordOf clausesOf isIn zeros prefixRefusal clausesRefusal wordsRefusal tablesRefusal same after existentials holdsLiteral together joined literals reach member pair depends ℕ-discrete quantifies
 positions = (refl, refl, refl, refl, refl, refl, refl, refl, refl, refl, refl, refl, refl, refl, refl, refl, refl, refl)

@@ -7,7 +7,7 @@ use lib.ListN.{length, replicate}
 use Rattle.formula.specs.Clear.{clearFrom}
 use Rattle.formula.specs.declared.literal.ClauseNumber.{ClauseNumber}
 use Rattle.checker.specs.declared.verdict.Verdict.the-variants.{Accepted}
-use Rattle.checker.specs.Empty.{numberFound}
+use Rattle.inference.specs.Empty.{numberFound}
 use Rattle.checker.specs.Verdict.{concluded}
 
 pub cleared-whole : (l : List ℕ) → clearFrom 0 0 l ≡ replicate (length l) 0

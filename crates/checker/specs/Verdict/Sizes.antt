@@ -9,42 +9,43 @@ use lib.ListN.{length, replicate}
 use Rattle.formula.specs.Decode.{clausesOf}
 use Rattle.formula.specs.Tables.{zeros}
 use Rattle.dependency.specs.Scratch.{scratchBound, smallBound}
-use Rattle.checker.specs.Rules.{Rules, resized, plainRules, smallRules}
-use Rattle.checker.specs.Words.{Words}
-use Rattle.checker.specs.Steps.{Scope, Step, statedBy, sizeOf, readStep, Judged, right, wrong, judgeFirst, turn, less-one, Outcome, ended, refused, run}
+use Rattle.inference.specs.declared.read.Family.{Family}
+use Rattle.inference.specs.Rules.{Rules, resized, plainRules, smallRules}
+use Rattle.inference.specs.Words.{Words}
+use Rattle.inference.specs.Steps.{Scope, Step, familyOf, statedBy, sizeOf, readStep, Judged, right, wrong, judgeFirst, turn, less-one, Outcome, ended, refused, run}
 use Rattle.checker.specs.declared.verdict.Verdict.{Verdict}
 use Rattle.checker.specs.declared.verdict.Verdict.the-variants.{Accepted}
-use Rattle.checker.specs.Rules.Laws.{resized-kinds}
 use Rattle.checker.specs.Verdict.Accuracy.{accepted-refutation}
-use Rattle.checker.specs.Verdict.{scopeOf, conclude, sizedVerdict, verdictOf, Checked}
+use Rattle.checker.specs.Verdict.{conclude, sizedVerdict, verdictOf, Checked}
+use Rattle.inference.specs.Scope.{scopeOf}
 
-module _ (n : ℕ) (rules : Rules) (S : Scope) (room : ℕ) where
-  first-resized : (known : List Words) (ws : Words) → judgeFirst (resized n rules) S room known ws ≡ judgeFirst rules S room known ws
+module _ (n : ℕ) (rules : Rules) (family : Family) (S : Scope) (room : ℕ) where
+  first-resized : (known : List Words) (ws : Words) → judgeFirst (resized n rules) family S room known ws ≡ judgeFirst rules family S room known ws
   unfolding judgeFirst readStep
   first-resized known [] = refl
   first-resized known (w ∷ ws) = refl
 
   -- The run asks for no scratch.
-  pub run-resized : (known : List Words) (skip : ℕ) (ws : Words) → run (resized n rules) S room known skip ws ≡ run rules S room known skip ws
+  pub run-resized : (known : List Words) (skip : ℕ) (ws : Words) → run (resized n rules) family S room known skip ws ≡ run rules family S room known skip ws
   unfolding run
   run-resized known skip [] = refl
   run-resized known (suc skip) (w ∷ ws) = run-resized known skip ws
   run-resized known zero (w ∷ ws) =
-      ap (λ (j : Judged). turn known j (λ s. run (resized n rules) S room (known ++ (statedBy s ∷ [])) (less-one (sizeOf s)) ws)) (first-resized known (w ∷ ws))
-      ∙ go (judgeFirst rules S room known (w ∷ ws)) (λ s. run-resized (known ++ (statedBy s ∷ [])) (less-one (sizeOf s)) ws)
+      ap (λ (j : Judged). turn known j (λ s. run (resized n rules) family S room (known ++ (statedBy s ∷ [])) (less-one (sizeOf s)) ws)) (first-resized known (w ∷ ws))
+      ∙ go (judgeFirst rules family S room known (w ∷ ws)) (λ s. run-resized (known ++ (statedBy s ∷ [])) (less-one (sizeOf s)) ws)
     where
       go :
           (j : Judged)
-          → ((s : Step) → run (resized n rules) S room (known ++ (statedBy s ∷ [])) (less-one (sizeOf s)) ws ≡ run rules S room (known ++ (statedBy s ∷ [])) (less-one (sizeOf s)) ws)
-          → turn known j (λ s. run (resized n rules) S room (known ++ (statedBy s ∷ [])) (less-one (sizeOf s)) ws) ≡ turn known j (λ s. run rules S room (known ++ (statedBy s ∷ [])) (less-one (sizeOf s)) ws)
+          → ((s : Step) → run (resized n rules) family S room (known ++ (statedBy s ∷ [])) (less-one (sizeOf s)) ws ≡ run rules family S room (known ++ (statedBy s ∷ [])) (less-one (sizeOf s)) ws)
+          → turn known j (λ s. run (resized n rules) family S room (known ++ (statedBy s ∷ [])) (less-one (sizeOf s)) ws) ≡ turn known j (λ s. run rules family S room (known ++ (statedBy s ∷ [])) (less-one (sizeOf s)) ws)
       go (right s) h = h s
       go (wrong r) h = refl
 
   -- Nor does what it concludes with.
   pub conclude-resized :
       (inputs : ℕ) (known : List Words) (ws : Words)
-      → conclude (resized n rules) inputs (run (resized n rules) S room known zero ws) ≡ conclude rules inputs (run rules S room known zero ws)
-  conclude-resized inputs known ws = ap (conclude (resized n rules) inputs) (run-resized known zero ws) ∙ go (run rules S room known zero ws)
+      → conclude (resized n rules) inputs (run (resized n rules) family S room known zero ws) ≡ conclude rules inputs (run rules family S room known zero ws)
+  conclude-resized inputs known ws = ap (conclude (resized n rules) inputs) (run-resized known zero ws) ∙ go (run rules family S room known zero ws)
     where
       go : (o : Outcome) → conclude (resized n rules) inputs o ≡ conclude rules inputs o
       go (ended final) = refl
@@ -56,7 +57,7 @@ pub resized-verdict :
     → verdictOf rules prefix clauses steps scratch room ≡ verdictOf (resized n rules) prefix clauses steps scratch-n room
 unfolding verdictOf sizedVerdict
 resized-verdict n rules prefix clauses steps scratch scratch-n room h k =
-    rw (le-leb (rules .scratch) scratch h, le-leb n scratch-n k, conclude-resized n rules (scopeOf prefix clauses) room (zeros clauses) (clausesOf clauses) steps)
+    rw (le-leb (rules .scratch) scratch h, le-leb n scratch-n k, conclude-resized n rules (familyOf steps) (scopeOf prefix clauses) room (zeros clauses) (clausesOf clauses) steps)
 
 -- So the two entries answer the same wherever both have their scratch.
 pub small-verdict :
@@ -70,7 +71,7 @@ pub small-accepted :
     (prefix clauses steps : List ℤ) (scratch room empty count : ℕ) → verdictOf smallRules prefix clauses steps scratch room ≡ Accepted (record { 0 = empty }) count
     → verdictOf plainRules prefix clauses steps scratchBound room ≡ Accepted (record { 0 = empty }) count
 small-accepted prefix clauses steps scratch room empty count h =
-    let r = accepted-refutation smallRules (resized-kinds smallBound) prefix clauses steps scratch room empty count h in
+    let r = accepted-refutation smallRules prefix clauses steps scratch room empty count h in
     small-verdict prefix clauses steps scratchBound scratch room (omega arith) (r .scratch-fits) ∙ h
 
 module _ (prefix clauses steps : List ℤ) (scratch scratch-s offsets : List ℕ) (room : scratchBound ≤ length scratch) (room-s : smallBound ≤ length scratch-s)

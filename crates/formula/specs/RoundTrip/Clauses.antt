@@ -19,7 +19,7 @@ use Rattle.formula.specs.Tables.{isIn, zeros, literalWord, clauseWord, c
 use Rattle.formula.specs.Tables.Laws.{Kind, kind, closing, large, signed, clause-word-large, clause-word-literal}
 use Rattle.formula.specs.Write.Stream.{wordText, clausesText}
 use Rattle.formula.specs.Decimal.{decimal}
-use Rattle.formula.specs.Token.{isBlank, IsRun, same, aText, eText, numberOf}
+use Rattle.scanner.specs.Token.{isBlank, IsRun, same, aText, eText, numberOf}
 use Rattle.formula.specs.Text.{State, betweenSets, clauses, openClause, isOpen, literalReason, closingReason, clausesToken, step, tablesEnding, ending}
 use Rattle.formula.specs.Text.Clauses.Laws.{open-literal, open-closing, zeros-literal, zeros-closing}
 use Rattle.formula.specs.RoundTrip.Scan.{Takes, takes-none, takes-append, takes-token, decimal-run, decimal-number, minus-number, decimal-unlike}

@@ -31,7 +31,7 @@ use Rattle.formula.specs.Write.{written, headerText, largest, ifRoom, wr
 use Rattle.formula.specs.Write.Stream.{clausesText}
 use Rattle.formula.specs.Write.Lines.{written-stream}
 use Rattle.formula.specs.Write.Length.{largest-bounded, written-fits}
-use Rattle.formula.specs.Token.{isBlank, leadFrom, tokensFrom, tokens}
+use Rattle.scanner.specs.Token.{isBlank, leadFrom, tokensFrom, tokens}
 use Rattle.formula.specs.Text.Admits.{read-admitted}
 use Rattle.formula.specs.Text.{read, wantsP, betweenSets, openFrom, run, ending, reading, ReadPost}
 use Rattle.formula.specs.RoundTrip.{ReadBack}

@@ -31,7 +31,7 @@ use Rattle.formula.specs.Tables.Laws.{is-in-absent}
 use Rattle.formula.specs.Decimal.{decimal}
 use Rattle.formula.specs.Write.{headerText, letterOf}
 use Rattle.formula.specs.Write.Stream.{lineEnd, lineTurn, entryText, prefixText}
-use Rattle.formula.specs.Token.{isBlank, IsRun, same, numberOf}
+use Rattle.scanner.specs.Token.{isBlank, IsRun, same, numberOf}
 use Rattle.formula.specs.Text.{State, wantsP, wantsCnf, wantsV, wantsC, betweenSets, inSet, variableReason, step}
 use Rattle.formula.specs.RoundTrip.Scan.{decimal-run, decimal-number, Takes, takes-none, takes-append, takes-token}
 

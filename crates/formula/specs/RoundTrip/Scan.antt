@@ -13,9 +13,9 @@ use lib.ListN.{length, length-append}
 use Rattle.qbf.specs.Connectives.{and-both, both-and}
 use Rattle.formula.specs.Decimal.{decimal}
 use Rattle.formula.specs.Decimal.Laws.{decimal-induction}
-use Rattle.formula.specs.Position.{lineFeed}
-use Rattle.formula.specs.Token.{isDigit, isBlank, AllSolid, IsRun, Token, tokensFrom, same, natural, negative, allDigits, valueFrom, isNumeral, numberOf}
-use Rattle.formula.specs.Token.Numbers.{all-snoc, value-snoc}
+use Rattle.scanner.specs.Position.{lineFeed}
+use Rattle.scanner.specs.Token.{isDigit, isBlank, AllSolid, IsRun, Token, tokensFrom, same, natural, negative, allDigits, valueFrom, isNumeral, numberOf}
+use Rattle.scanner.specs.Token.Numbers.{all-snoc, value-snoc}
 use Rattle.formula.specs.Text.{State, step, run}
 
 solid-append : (xs ys : List ℕ) → AllSolid xs → AllSolid ys → AllSolid (xs ++ ys)

@@ -29,7 +29,7 @@ use Rattle.formula.specs.Tables.{
   Admitted,
 }
 use Rattle.formula.specs.Tables.Laws.{words-pass}
-use Rattle.formula.specs.Token.{Token, same, pText, cnfText, aText, eText, Number, natural, negative, noNumber, numberOf, tokens}
+use Rattle.scanner.specs.Token.{Token, same, pText, cnfText, aText, eText, Number, natural, negative, noNumber, numberOf, tokens}
 use Rattle.formula.specs.Text.{Reading, read, refused, State, wantsP, wantsCnf, wantsV, wantsC, betweenSets, inSet, clauses, stopped, openClause, openFrom, isOpen, headerNumber, opens, setToken, putLiteral, clauseToken, clausesToken, atEnd, clausesEnding, tablesEnding, step, run, ending, reading}
 use Rattle.formula.specs.Text.Laws.{variable-fine, literal-fine, closing-fine}
 use Rattle.formula.specs.Text.Distinct.{PrefixFine, prefix-empty, prefix-more, completed-fine, fine-ranged, fine-few, apart-distinct}

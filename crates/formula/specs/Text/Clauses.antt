@@ -12,7 +12,7 @@ use lib.Dec.{ltb, eqb}
 use Rattle.qbf.specs.Formula.{Prefix, listed}
 use Rattle.formula.specs.Bounds.{variableBound}
 use Rattle.formula.specs.Refusal.{refusedAt, require, unless}
-use Rattle.formula.specs.Position.{positionAt}
+use Rattle.scanner.specs.Position.{positionAt}
 use Rattle.formula.specs.Free.{occurs, isFree, completed}
 use Rattle.formula.specs.Free.Complete.{isListed, isFreeMark}
 use Rattle.formula.specs.Tables.{isIn, zeros}
@@ -20,8 +20,8 @@ use Rattle.formula.specs.Word.{signed}
 use Rattle.formula.specs.Text.{refused, clauses, stopped, openClause, isOpen, literalReason, closingReason, clauseToken, completing, readingFrom}
 use Rattle.formula.specs.declared.refusal.Reason.the-variants.{Unfinished, Miscount}
 use Rattle.formula.specs.declared.refusal.Reason.{Reason}
-use Rattle.formula.specs.Token.{Number}
-use Rattle.formula.specs.declared.position.Position.{Position}
+use Rattle.scanner.specs.Token.{Number}
+use Rattle.scanner.specs.declared.position.Position.{Position}
 use Rattle.formula.specs.declared.clauses.ClauseStep.{ClauseStep}
 use Rattle.formula.specs.declared.clauses.ClauseStep.the-variants.{Literal, Closed, Refused as NoStep}
 use Rattle.formula.specs.declared.clauses.ClausesAnswer.{ClausesAnswer}

@@ -11,9 +11,9 @@ use Rattle.formula.specs.declared.refusal.Refusal.{Refusal}
 use Rattle.formula.specs.Prefix.{wordsFrom, entryWords, entryFits}
 use Rattle.formula.specs.Prefix.Examples.{e, a}
 use Rattle.formula.specs.Tables.{isIn, zeros}
-use Rattle.formula.specs.Position.{feeds, sinceFeed}
+use Rattle.scanner.specs.Position.{feeds, sinceFeed}
 use Rattle.formula.specs.Free.{occurs, passing}
-use Rattle.formula.specs.Token.{isDigit, isBlank, leadFrom, tokensFrom, same, allDigits, valueFrom, numberOf}
+use Rattle.scanner.specs.Token.{isDigit, isBlank, leadFrom, tokensFrom, same, allDigits, valueFrom, numberOf}
 use Rattle.formula.specs.Text.{
   Reading,
   read,

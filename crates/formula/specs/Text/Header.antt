@@ -6,16 +6,16 @@ use mathlib.Core.Bool.{Bool, true, false}
 use mathlib.Core.List.{List, [], _∷_}
 use lib.ListN.{length}
 use Rattle.formula.specs.Bounds.{variableBound, countBound}
-use Rattle.formula.specs.Position.{positionAt}
-use Rattle.formula.specs.Position.Cursor.{PositionIn}
+use Rattle.scanner.specs.Position.{positionAt}
+use Rattle.scanner.specs.Position.Cursor.{PositionIn}
 use Rattle.formula.specs.Refusal.{refusedAt}
-use Rattle.formula.specs.Token.{Token, same, pText, cnfText, numberOf}
-use Rattle.formula.specs.Token.Scan.{shown}
+use Rattle.scanner.specs.Token.{Token, same, pText, cnfText, numberOf}
+use Rattle.scanner.specs.Token.Scan.{shown}
 use Rattle.formula.specs.Text.{refused, State, betweenSets, atEnd, readingFrom}
-use Rattle.formula.specs.declared.position.Position.{Position}
+use Rattle.scanner.specs.declared.position.Position.{Position}
 use Rattle.formula.specs.declared.refusal.Reason.the-variants.{Headless}
-use Rattle.formula.specs.declared.token.Token.{Token as Shown}
-use Rattle.formula.specs.declared.token.Token.the-variants.{Natural, Negative, NoNumber}
+use Rattle.scanner.specs.declared.token.Token.{Token as Shown}
+use Rattle.scanner.specs.declared.token.Token.the-variants.{Natural, Negative, NoNumber}
 use Rattle.formula.specs.declared.header.Wanted.{Wanted}
 use Rattle.formula.specs.declared.header.Wanted.the-variants.{P, Cnf, Number as WantsNumber}
 use Rattle.formula.specs.declared.header.FieldValue.{FieldValue}

@@ -9,14 +9,14 @@ use lib.Dec.{ltb, leb}
 use Rattle.qbf.specs.Connectives.{and-both}
 use Rattle.formula.specs.Refusal.Laws.{require-none}
 use Rattle.formula.specs.Bounds.{matrixBound}
-use Rattle.formula.specs.Position.Cursor.{PositionIn}
+use Rattle.scanner.specs.Position.Cursor.{PositionIn}
 use Rattle.formula.specs.Refusal.{inText, refusedAt}
-use Rattle.formula.specs.Token.{Token, tokensAt}
-use Rattle.formula.specs.Token.Laws.{Finds}
+use Rattle.scanner.specs.Token.{Token, tokensAt}
+use Rattle.scanner.specs.Token.Laws.{Finds}
 use Rattle.formula.specs.Text.{refused, State, stopped, variableReason, literalReason, closingReason, step, run, ending, readingFrom}
-use Rattle.formula.specs.declared.position.Position.{Position}
+use Rattle.scanner.specs.declared.position.Position.{Position}
 use Rattle.formula.specs.declared.refusal.Reason.{Reason}
-use Rattle.formula.specs.declared.token.Token.{Token as Shown}
+use Rattle.scanner.specs.declared.token.Token.{Token as Shown}
 
 -- A variable that is listed.
 pub record VariableFine (v n : ℕ) (known fits : Bool) : Type 0 where

@@ -18,8 +18,8 @@ use Rattle.formula.specs.Text.{refused, betweenSets, inSet, clauses, sto
 use Rattle.formula.specs.Text.Distinct.{PrefixFine}
 use Rattle.formula.specs.declared.refusal.Reason.the-variants.{BadToken}
 use Rattle.formula.specs.declared.refusal.Reason.{Reason}
-use Rattle.formula.specs.Token.{Number}
-use Rattle.formula.specs.Position.Cursor.{PositionIn}
+use Rattle.scanner.specs.Token.{Number}
+use Rattle.scanner.specs.Position.Cursor.{PositionIn}
 use Rattle.formula.specs.declared.sets.SetStep.{SetStep}
 use Rattle.formula.specs.declared.sets.SetStep.the-variants.{Listed as Lists, Closed as Closes, Refused as NoListing}
 use Rattle.formula.specs.declared.sets.SetsAnswer.{SetsAnswer}

@@ -11,17 +11,17 @@ use lib.ListN.{length, length-append}
 use lib.Seq.{drop-at}
 use Rattle.qbf.specs.Formula.{Prefix}
 use Rattle.formula.specs.Bounds.{textBound}
-use Rattle.formula.specs.Position.{lineFeed}
+use Rattle.scanner.specs.Position.{lineFeed}
 use Rattle.formula.specs.Prefix.{prefixWords}
 use Rattle.formula.specs.Refusal.{refusal, number, inText, require}
 use Rattle.formula.specs.Tables.{zeros}
 use Rattle.formula.specs.Free.{completed}
-use Rattle.formula.specs.Token.{isBlank, lineStep, leadStep, leadPlace, leadFrom, firstToken, emit, ended, joined, tokensFrom, tokens}
+use Rattle.scanner.specs.Token.{isBlank, lineStep, leadStep, leadPlace, leadFrom, firstToken, emit, ended, joined, tokensFrom, tokens}
 use Rattle.formula.specs.Text.{read, refused, State, wantsP, wantsCnf, wantsV, wantsC, betweenSets, inSet, clauses, stopped, openClause, isOpen, run, atEnd, clausesEnding, tablesEnding, ending, reading}
 use Rattle.formula.specs.declared.refusal.Reason.{Reason}
 use Rattle.formula.specs.declared.refusal.Reason.the-variants.{Headless, Oversized, NoRoom, Unfinished, Miscount}
-use Rattle.formula.specs.declared.token.Lead.{Lead}
-use Rattle.formula.specs.declared.token.Lead.the-variants.{LineStart, InLine, Comment, Over}
+use Rattle.scanner.specs.declared.token.Lead.{Lead}
+use Rattle.scanner.specs.declared.token.Lead.the-variants.{LineStart, InLine, Comment, Over}
 use Rattle.layout.specs.Blanks.{SameOrBlanks, same-byte, blanks, Reblanked, Alike}
 
 -- Both bytes are blank, or neither is and they are the same.

@@ -17,13 +17,13 @@ use Rattle.formula.specs.Bounds.{textBound}
 use Rattle.formula.specs.Decimal.{digits, decimal}
 use Rattle.formula.specs.Decode.Laws.{positive-magnitude}
 use Rattle.formula.specs.Free.{occurs, passing}
-use Rattle.formula.specs.Position.{lineFeed}
+use Rattle.scanner.specs.Position.{lineFeed}
 use Rattle.formula.specs.Prefix.{wordsFrom}
 use Rattle.formula.specs.Prefix.Examples.{e}
 use Rattle.formula.specs.Tables.{isIn}
 use Rattle.formula.specs.Tables.Laws.{absent-is-in}
 use Rattle.formula.specs.Text.Examples.{bytes}
-use Rattle.formula.specs.Token.{isBlank, AllSolid}
+use Rattle.scanner.specs.Token.{isBlank, AllSolid}
 use Rattle.formula.specs.Write.{letterOf, literalText}
 use Rattle.layout.specs.Layout.{AllBlank, Piece, laid, Parted, tokensIn, NoFeed, IsComment, LeadLines, leadText, QuantifierSet, Sets, Clauses, tokensOf, Layout, entriesOf, wordsOf, LaidOut}
 

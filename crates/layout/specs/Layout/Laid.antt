@@ -40,7 +40,7 @@ use Rattle.formula.specs.Text.{
 }
 use Rattle.formula.specs.Text.Clauses.Laws.{signed-magnitude}
 use Rattle.formula.specs.Text.Laws.{literal-fine, closing-fine}
-use Rattle.formula.specs.Token.{Token, same, pText, cnfText, eText, aText, Number, natural, negative, noNumber, numberOf}
+use Rattle.scanner.specs.Token.{Token, same, pText, cnfText, eText, aText, Number, natural, negative, noNumber, numberOf}
 use Rattle.formula.specs.Word.{signed}
 use Rattle.formula.specs.Write.{letterOf, literalText}
 use Rattle.formula.specs.declared.refusal.Reason.{Reason}

@@ -22,7 +22,7 @@ use Rattle.formula.specs.Prefix.Laws.{words-length, words-rise}
 use Rattle.formula.specs.Refusal.{refusal, require}
 use Rattle.formula.specs.Tables.{zeros, Admitted}
 use Rattle.formula.specs.Tables.Laws.{zeros-clauses, admitted-tables}
-use Rattle.formula.specs.Token.{isBlank, firstToken, tokensFrom, tokens, pText, cnfText}
+use Rattle.scanner.specs.Token.{isBlank, firstToken, tokensFrom, tokens, pText, cnfText}
 use Rattle.formula.specs.Text.{
   read,
   refused,
@@ -52,7 +52,7 @@ use Rattle.formula.specs.RoundTrip.Laws.{written-read}
 use Rattle.formula.specs.Write.{literalText, written}
 use Rattle.formula.specs.declared.refusal.Reason.the-variants.{Oversized, NoRoom}
 use Rattle.formula.specs.declared.refusal.Refusal.{Refusal}
-use Rattle.formula.specs.declared.token.Lead.the-variants.{LineStart}
+use Rattle.scanner.specs.declared.token.Lead.the-variants.{LineStart}
 use Rattle.layout.specs.Layout.{AllBlank, Piece, laid, tokensIn, leadText, HasTokens, QuantifierSet, setTokens, clauseTokens, tokensOf, Layout, entriesOf, closed, wordsOf, prefixOfSets, Regular, Fits, LaidOut}
 use Rattle.layout.specs.Layout.Pieces.{bytesOf, Split, split, laid-tokens}
 use Rattle.layout.specs.Layout.Lead.{lead-first, LeadFound, leads-back}

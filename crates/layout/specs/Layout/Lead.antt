@@ -8,11 +8,11 @@ use native.Mathlib.Omega.{arith}
 use borrow.Author.Tests.{eqb-true, eqb-false, ne-eqb}
 use lib.Dec.{eqb}
 use lib.ListN.{length, length-append}
-use Rattle.formula.specs.Position.{lineFeed}
-use Rattle.formula.specs.Token.{isBlank, lineStep, leadPlace, leadFrom}
-use Rattle.formula.specs.Token.Laws.{solid-no-feed}
-use Rattle.formula.specs.declared.token.Lead.{Lead}
-use Rattle.formula.specs.declared.token.Lead.the-variants.{LineStart, InLine, Comment, Over}
+use Rattle.scanner.specs.Position.{lineFeed}
+use Rattle.scanner.specs.Token.{isBlank, lineStep, leadPlace, leadFrom}
+use Rattle.scanner.specs.Token.Laws.{solid-no-feed}
+use Rattle.scanner.specs.declared.token.Lead.{Lead}
+use Rattle.scanner.specs.declared.token.Lead.the-variants.{LineStart, InLine, Comment, Over}
 use Rattle.layout.specs.Layout.{AllBlank, NoFeed, IsComment, LeadLines, leadText}
 
 -- A comment, and blanks of one line, up to the LF that ends them.

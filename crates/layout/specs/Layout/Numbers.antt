@@ -9,7 +9,7 @@ use lib.Dec.{eqb, leb, ltb}
 use Rattle.qbf.specs.Connectives.{and-both}
 use Rattle.formula.specs.Decimal.{decimal}
 use Rattle.formula.specs.Decimal.Laws.{decimal-small, decimal-large}
-use Rattle.formula.specs.Token.{isDigit, same, Number, natural, negative, noNumber, allDigits, valueFrom, isNumeral, negativeOf, numberOf}
+use Rattle.scanner.specs.Token.{isDigit, same, Number, natural, negative, noNumber, allDigits, valueFrom, isNumeral, negativeOf, numberOf}
 
 pub same-bytes : (bs cs : List ℕ) → same bs cs ≡ true → bs ≡ cs
 unfolding same

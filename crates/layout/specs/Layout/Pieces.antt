@@ -5,7 +5,7 @@ use mathlib.Core.Bool.{Bool, true, false}
 use mathlib.Core.List.{List, [], _∷_, _++_, map, append-assoc, append-nil}
 use native.Mathlib.Omega.{arith}
 use lib.ListN.{length}
-use Rattle.formula.specs.Token.{isBlank, AllSolid, IsRun, Token, emit, tokensFrom}
+use Rattle.scanner.specs.Token.{isBlank, AllSolid, IsRun, Token, emit, tokensFrom}
 use Rattle.layout.specs.Layout.{AllBlank, Piece, laid, Parted, tokensIn}
 
 abbrev pub bytesOf : List Token → List (List ℕ)

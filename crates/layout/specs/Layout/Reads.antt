@@ -23,7 +23,7 @@ use Rattle.formula.specs.Tables.{isIn, zeros}
 use Rattle.formula.specs.Tables.Laws.{is-in-absent}
 use Rattle.formula.specs.Text.{State, wantsP, wantsCnf, wantsV, wantsC, betweenSets, inSet, clauses, openClause, variableReason, literalReason, closingReason, step, run}
 use Rattle.formula.specs.Text.Clauses.Laws.{open-closing, zeros-closing}
-use Rattle.formula.specs.Token.{Token, same, pText, cnfText}
+use Rattle.scanner.specs.Token.{Token, same, pText, cnfText}
 use Rattle.formula.specs.Write.{letterOf, literalText}
 use Rattle.layout.specs.Layout.{QuantifierSet, setTokens, Sets, clauseTokens, Clauses, setEntries, entriesOf, closed, wordsOf}
 use Rattle.layout.specs.Layout.Pieces.{bytesOf}

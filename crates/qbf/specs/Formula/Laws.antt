@@ -75,14 +75,20 @@ pub after-other : (v : ℕ) (x : Entry) (xs : Prefix) → x .variable ≢ v → 
 unfolding after
 after-other v x xs n = rw (refuted (ℕ-discrete (x .variable) v) n) refl
 
-pub after-within : (v : ℕ) (P : Prefix) {w : ℕ} → RightOf P v w → List·Memᴰ w (listed P)
+-- What stands right of a variable stands in the prefix.
+pub after-member : (v : ℕ) (P : Prefix) {x : Entry} → List·Memᴰ x (after v P) → List·Memᴰ x P
 unfolding after
-after-within v [] m = m
-after-within v (x ∷ xs) {w} m = go (ℕ-discrete (x .variable) v) (λ m′. after-within v xs m′)
+after-member v [] m = m
+after-member v (y ∷ P) {x} m = go (ℕ-discrete (y .variable) v) (λ k. after-member v P k)
   where
-    go : Dec (x .variable ≡ v) → (RightOf xs v w → List·Memᴰ w (listed xs)) → List·Memᴰ w (listed (x ∷ xs))
-    go (yes e) later = List·Memᴰ·tail (subst (λ (Q : Prefix). List·Memᴰ w (listed Q)) (after-own v x xs e) m)
-    go (no n) later = List·Memᴰ·tail (later (subst (λ (Q : Prefix). List·Memᴰ w (listed Q)) (after-other v x xs n) m))
+    go : Dec (y .variable ≡ v) → (List·Memᴰ x (after v P) → List·Memᴰ x P) → List·Memᴰ x (y ∷ P)
+    go (yes e) later = List·Memᴰ·tail (subst (λ (Q : Prefix). List·Memᴰ x Q) (after-own v y P e) m)
+    go (no n) later = List·Memᴰ·tail (later (subst (λ (Q : Prefix). List·Memᴰ x Q) (after-other v y P n) m))
+
+pub after-within : (v : ℕ) (P : Prefix) {w : ℕ} → RightOf P v w → List·Memᴰ w (listed P)
+after-within v P m =
+    let k = Memᴰ·of-map (λ (y : Entry). y .variable) (after v P) m in
+    Memᴰ·cast (sym (k .2)) (Memᴰ·map (λ (y : Entry). y .variable) (after-member v P (k .1)))
 
 -- After the variable whose turn it is stand the entries that are left.
 pub after-entry :

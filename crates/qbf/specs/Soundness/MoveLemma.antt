@@ -9,7 +9,7 @@ use mathlib.Core.List.{_∷_, _++_, List·Memᴰ, List·Memᴰ·head, List·Mem�
 use native.Mathlib.Decide.{ℕ-discrete}
 use Rattle.qbf.specs.Literal.{Literal, literal, neg}
 use Rattle.qbf.specs.Formula.{Formula, existential, universal, Entry, entry, Prefix, listed, Distinct, Proper, after, Existential, Universal, RightOf, existentials}
-use Rattle.qbf.specs.Formula.Laws.{neg-neg, literal-not-neg, same-or-opposite, one-literal, after-entry, right-asymmetric, existential-not-universal, quantifiers-exclusive, quantifier-of-rest, existentials-member, member-existentials}
+use Rattle.qbf.specs.Formula.Laws.{neg-neg, literal-not-neg, same-or-opposite, one-literal, after-member, after-entry, right-asymmetric, existential-not-universal, quantifiers-exclusive, quantifier-of-rest, existentials-member, member-existentials}
 use Rattle.qbf.specs.Play.{Values}
 use Rattle.qbf.specs.Path.{Path, one, more}
 use Rattle.qbf.specs.Dependency.{passable, Depends}
@@ -34,7 +34,7 @@ module _ (F : Formula) (proper : Proper F) (rest : Prefix) (τ : Values) where
   exclusive e a = quantifiers-exclusive (F .prefix) (proper .prefix-distinct) e a
 
   -- No existential has both signs in a derived clause.
-  existential-one-sign :
+  pub existential-one-sign :
       (t : Derivation) → ValidAt F rest τ t → (m : Literal) → Existential (F .prefix) (m .variable) → ConcludesAt rest t m →
       ConcludesAt rest t (neg m) → ⊥
   existential-one-sign (leaf C) v m e c c′ =
@@ -48,8 +48,8 @@ module _ (F : Formula) (proper : Proper F) (rest : Prefix) (τ : Values) where
       opposed :
           (b : Bool) → ConcludesAt rest (t b) m → m ≢ literal x b → ConcludesAt rest (t (not b)) (neg m) →
           neg m ≢ literal x (not b) → ⊥
-      opposed true k n k′ n′ = exclusive e (v .3 m k n k′ .0)
-      opposed false k n k′ n′ = exclusive e (v .3 (neg m) k′ n′ (subst (ConcludesAt rest (t false)) (sym (neg-neg m)) k) .0)
+      opposed true k n k′ n′ = exclusive e (after-member x (F .prefix) (v .3 m k n k′))
+      opposed false k n k′ n′ = exclusive e (after-member x (F .prefix) (v .3 (neg m) k′ n′ (subst (ConcludesAt rest (t false)) (sym (neg-neg m)) k)))
   existential-one-sign (reduce t u) v m e c c′ = existential-one-sign t (v .0) m e (c .0) (c′ .0)
 
   -- What a premise passes on is of another variable than the pivot.
@@ -187,7 +187,7 @@ module _ (F : Formula) (proper : Proper F) (rest : Prefix) (τ : Values) where
             gone-blocks (not s) (t false) (v .0 false) g (literal x false) (v .2 false) (v .1)
             (subst (λ (a : Literal). Reaches a (literal x true)) (sym (neg-neg (literal u s))) to-pivot)
         merged (inl c) (inl c′) =
-            right-asymmetric (F .prefix) (proper .prefix-distinct) u x pivot-right (v .3 (literal u s) c (pivot-other t x v s true) c′ .1)
+            right-asymmetric (F .prefix) (proper .prefix-distinct) u x pivot-right (Memᴰ·map (λ (y : Entry). y .variable) (v .3 (literal u s) c (pivot-other t x v s true) c′))
 
     not-both-occur :
         Unset rest u → (t : Derivation) → ValidAt F rest τ t → Occurs t (literal u true) → Occurs t (literal u false) → ⊥

@@ -14,10 +14,9 @@ use Rattle.formula.specs.Text.{Reading, read, refused, reading}
 use Rattle.formula.specs.Refusal.{refusal, require}
 use Rattle.formula.specs.declared.refusal.Refusal.{Refusal}
 use Rattle.formula.specs.declared.refusal.Reason.the-variants.{Oversized}
-use Rattle.checker.specs.File.{ProofReading, proofReading}
-use Rattle.checker.specs.File.{read as readSteps, refused as refusedFile}
-use Rattle.checker.specs.Rules.{plainRules}
-use Rattle.checker.specs.Rules.Laws.{plain-kinds}
+use Rattle.prooffile.specs.File.{ProofReading, proofReading}
+use Rattle.prooffile.specs.File.{read as readSteps, refused as refusedFile}
+use Rattle.inference.specs.Rules.{plainRules}
 use Rattle.checker.specs.Verdict.{verdictOf}
 use Rattle.checker.specs.Verdict.Accuracy.{accepted-lost}
 use Rattle.checker.specs.declared.verdict.Verdict.{Verdict}
@@ -143,5 +142,5 @@ accepted-denotes-lost room formula proof n h =
       clauses = m .clauses;
       count = m .count;
       denotes = m .formula-read;
-      lost = accepted-lost plainRules plain-kinds (m .prefix) (m .clauses) (m .words) (room .scratch) (room .offsets) (m .empty) (m .steps) (m .accepted);
+      lost = accepted-lost plainRules (m .prefix) (m .clauses) (m .words) (room .scratch) (room .offsets) (m .empty) (m .steps) (m .accepted);
     }

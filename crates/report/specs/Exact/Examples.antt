@@ -17,10 +17,9 @@ use Rattle.formula.specs.Tables.{zeros, Admitted}
 use Rattle.formula.specs.Write.{written}
 use Rattle.formula.specs.Write.Examples.{written-example}
 use Rattle.formula.specs.RoundTrip.Laws.{written-read}
-use Rattle.checker.specs.File.Layout.{fileOf}
-use Rattle.checker.specs.File.Layout.Laws.{file-of-length}
-use Rattle.checker.specs.Rules.{plainRules}
-use Rattle.checker.specs.Rules.Laws.{plain-kinds}
+use Rattle.prooffile.specs.File.Layout.{fileOf}
+use Rattle.prooffile.specs.File.Layout.Laws.{file-of-length}
+use Rattle.inference.specs.Rules.{plainRules}
 use Rattle.checker.specs.Refutation.Examples.{example-refutation}
 use Rattle.checker.specs.Verdict.Accuracy.{accepted-refutation}
 use Rattle.checker.specs.Verdict.Examples.{examplePrefix, exampleClauses, exampleSteps, positions}
@@ -52,7 +51,7 @@ all-small-fit (w ∷ words) h zero = small-fits w (leb-true (natAbs w) 9 (and-bo
 all-small-fit (w ∷ words) h (suc i) = all-small-fit words (and-both (leb (natAbs w) 9) (allSmall words) h .1) i
 
 example-admitted : Admitted examplePrefix exampleClauses
-example-admitted = accepted-refutation plainRules plain-kinds examplePrefix exampleClauses (exampleSteps (pos 4)) 8200 9 9 5 (positions .0) .admitted
+example-admitted = accepted-refutation plainRules examplePrefix exampleClauses (exampleSteps (pos 4)) 8200 9 9 5 (positions .0) .admitted
 
 pub example-refuting : Refuting programRoom exampleText exampleFile
 unfolding allSmall zeros

@@ -15,19 +15,18 @@ use Rattle.formula.specs.Text.{read}
 use Rattle.formula.specs.Text.Admits.{read-admitted}
 use Rattle.formula.specs.declared.refusal.Refusal.{Refusal}
 use Rattle.dependency.specs.Scratch.{scratchBound}
-use Rattle.checker.specs.File.{trailerStart, distance, proofReading}
-use Rattle.checker.specs.File.{read as readSteps}
-use Rattle.checker.specs.File.Passed.{Bytes}
-use Rattle.checker.specs.File.Laws.{read-fits}
-use Rattle.checker.specs.File.Layout.Laws.{file-of-length, layout-read, read-layout}
+use Rattle.prooffile.specs.File.{trailerStart, distance, proofReading}
+use Rattle.prooffile.specs.File.{read as readSteps}
+use Rattle.prooffile.specs.File.Passed.{Bytes}
+use Rattle.prooffile.specs.File.Laws.{read-fits}
+use Rattle.prooffile.specs.File.Layout.Laws.{file-of-length, layout-read, read-layout}
 use Rattle.checker.specs.declared.verdict.Verdict.the-variants.{Accepted}
-use Rattle.checker.specs.Lawful.{numberedClauses}
+use Rattle.inference.specs.Lawful.{numberedClauses}
 use Rattle.checker.specs.Refutation.{FirstEmpty}
 use Rattle.checker.specs.Refutation.Ending.{ends-some, unended-first, accepting-refutation}
 use Rattle.checker.specs.Refutation.FirstEmptyClause.{empty-first}
 use Rattle.checker.specs.Refutation.Laws.{words-within}
-use Rattle.checker.specs.Rules.{plainRules}
-use Rattle.checker.specs.Rules.Laws.{plain-kinds}
+use Rattle.inference.specs.Rules.{plainRules}
 use Rattle.checker.specs.Verdict.{verdictOf}
 use Rattle.checker.specs.Verdict.Accuracy.{accepted-refutation, refutation-accepted}
 use Rattle.report.specs.Line.{acceptedLine, refusedLine, fileBound, settled}
@@ -60,7 +59,7 @@ accepted-refuting room formula proof bytes a =
         laid-out = read-layout proof (m .count) (room .steps) (m .words) bytes (m .proof-read);
         refutation =
             accepting-refutation (m .prefix) (m .clauses) (m .words) (room .scratch) (room .offsets) (m .empty) (m .steps)
-            (accepted-refutation plainRules plain-kinds (m .prefix) (m .clauses) (m .words) (room .scratch) (room .offsets) (m .empty) (m .steps) (m .accepted));
+            (accepted-refutation plainRules (m .prefix) (m .clauses) (m .words) (room .scratch) (room .offsets) (m .empty) (m .steps) (m .accepted));
       },
     )
 
@@ -79,7 +78,7 @@ module _ (room : Room) (formula proof : List ℕ) (within : FilesWithin room for
       let file : settledProof (room .file) proof (r .count) (room .steps) ≡ readSteps (r .words) =
       rw (le-leb (length proof) (room .file) (within .proof-fits), steps) in
       let verdict : verdictOf plainRules (r .prefix) (r .clauses) (r .words) (room .scratch) (room .offsets) ≡ Accepted (record { 0 = suc place }) (length (r .refutation .steps)) =
-      refutation-accepted plainRules plain-kinds (r .prefix) (r .clauses) (r .words) (room .scratch) (room .offsets) (suc place) (length (r .refutation .steps))
+      refutation-accepted plainRules (r .prefix) (r .clauses) (r .words) (room .scratch) (room .offsets) (suc place) (length (r .refutation .steps))
       (record {
         admitted = read-admitted formula (room .prefix) (room .clauses) (r .prefix) (r .clauses) (r .count) (r .reads) .admitted;
         sized = fits .1 .sized;
@@ -87,6 +86,8 @@ module _ (room : Room) (formula proof : List ℕ) (within : FilesWithin room for
         steps = r .refutation .steps;
         written = r .refutation .written;
         lawful = r .refutation .lawful;
+        family = r .refutation .family;
+        of-family = r .refutation .of-family;
         allowed = λ q. r .refutation .unended;
         offsets-fit = fits .1 .offsets-fit (r .refutation .steps) (r .refutation .written);
         place = place;

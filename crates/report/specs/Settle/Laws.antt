@@ -16,10 +16,10 @@ use Rattle.formula.specs.declared.read.ReadAnswer.{ReadAnswer}
 use Rattle.formula.specs.declared.read.ReadAnswer.the-variants.{Read, Refused}
 use Rattle.formula.specs.declared.refusal.Refusal.{Refusal}
 use Rattle.formula.specs.declared.refusal.Reason.the-variants.{Oversized}
-use Rattle.checker.specs.File.{ProofReading, proofReading, proofAnswer, stepTable, ProofRead}
-use Rattle.checker.specs.File.{read as readSteps, refused as refusedFile}
-use Rattle.checker.specs.declared.file.ProofAnswer.{ProofAnswer}
-use Rattle.checker.specs.declared.file.ProofAnswer.the-variants.{Read as ReadSteps, Refused as RefusedFile}
+use Rattle.prooffile.specs.File.{ProofReading, proofReading, proofAnswer, stepTable, ProofRead}
+use Rattle.prooffile.specs.File.{read as readSteps, refused as refusedFile}
+use Rattle.prooffile.specs.declared.file.ProofAnswer.{ProofAnswer}
+use Rattle.prooffile.specs.declared.file.ProofAnswer.the-variants.{Read as ReadSteps, Refused as RefusedFile}
 use Rattle.report.specs.Line.{settled}
 use Rattle.report.specs.Settle.{fileFit, tablesRead, FormulaSettled, stepsRead, ProofSettled}
 use Rattle.report.specs.Check.{settledProof}

@@ -13,7 +13,7 @@ use Rattle.qbf.specs.Connectives.{and-both}
 use Rattle.formula.specs.Refusal.{number, Named, named, table, rowAt, word, TaggedNumber}
 use Rattle.formula.specs.declared.refusal.Reason.{Reason}
 use Rattle.formula.specs.declared.refusal.Reason.the-variants.{Headless}
-use Rattle.formula.specs.Token.{same}
+use Rattle.scanner.specs.Token.{same}
 use Rattle.report.specs.Word.{wordIn, beforeDot, filled}
 
 -- A word filled up with dots, from a place on: at a dot it ends, any other byte is one of it.

@@ -8,8 +8,9 @@ use Rattle.formula.specs.Word.{wordOf, ordinal}
 use Rattle.formula.specs.Prefix.{prefixOf, wordsFrom, prefixWords}
 use Rattle.formula.specs.Prefix.Examples.{e, a}
 use Rattle.formula.specs.Tables.{isIn, zeros, prefixRefusal, clausesRefusal, wordsRefusal, tablesRefusal, Admitted}
-use Rattle.checker.specs.Rules.{plainRules}
-use Rattle.checker.specs.Verdict.{scopeIn, scopeVerdict}
+use Rattle.inference.specs.Rules.{plainRules}
+use Rattle.checker.specs.Verdict.{scopeVerdict}
+use Rattle.inference.specs.Scope.{scopeIn}
 use Rattle.checker.specs.Verdict.Examples.{examplePrefix, exampleClauses, exampleSteps, positions}
 use Rattle.checker.specs.declared.verdict.Verdict.the-variants.{Accepted}
 use Rattle.signed.specs.Signed.{signedPrefix, signedWords, signedFormula}

@@ -20,8 +20,9 @@ use Rattle.formula.specs.Tables.Laws.{admitted-tables, tables-admitted, admitte
 use Rattle.formula.specs.Write.{textOf, written, ifRoom, writingRefusal}
 use Rattle.formula.specs.declared.refusal.Reason.the-variants.{Oversized}
 use Rattle.dependency.specs.Answer.{askedRefusal, rowRefusal, rowBuffer}
-use Rattle.checker.specs.Rules.{Rules}
-use Rattle.checker.specs.Verdict.{ifAdmitted, scopeIn, scopeVerdict, sizedVerdict, verdictOf}
+use Rattle.inference.specs.Rules.{Rules}
+use Rattle.checker.specs.Verdict.{ifAdmitted, scopeVerdict, sizedVerdict, verdictOf}
+use Rattle.inference.specs.Scope.{scopeIn}
 use Rattle.evaluator.specs.Evaluation.{gameBound, verdict, afterTables, unset, evaluationOf}
 use Rattle.evaluator.specs.declared.evaluation.Evaluation.the-variants.{Refused}
 use Rattle.signed.specs.Signed.{signedEntry, signedPrefix, signedBy, entryWord, signedWords, signedFormula, SignedTables}

@@ -3,8 +3,7 @@ use Prim.Native.Nat.{ℕ}
 use mathlib.Core.Path.{ap, _∙_}
 use lib.ListN.{length, replicate}
 use borrow.Author.Needs.{needs}
-use Rattle.checker.specs.Rules.{resized, plainRules}
-use Rattle.checker.specs.Rules.Laws.{resized-kinds}
+use Rattle.inference.specs.Rules.{resized, plainRules}
 use Rattle.checker.specs.Verdict.Accuracy.{accepted-lost}
 use Rattle.checker.proofs.proof.check_with.Statement.{statement}
 use Rattle.checker.proofs.proof.check_with.Tie as tie
@@ -21,7 +20,7 @@ returns c =
       verdict = judged .judge-proof .ensures;
       scratch-cleared = cleared .clear-lent .ensures .0 ∙ ap (λ (n : ℕ). replicate {A = ℕ} n 0) (judged .judge-proof .kept .1 .1 .1 .0);
       offsets-cleared = cleared .clear-lent .ensures .1 ∙ ap (λ (n : ℕ). replicate {A = ℕ} n 0) (judged .judge-proof .kept .1 .1 .1 .1 .0);
-      lost = λ empty count e. accepted-lost (resized (start .args .bytes) plainRules) (resized-kinds (start .args .bytes)) prefix clauses steps (length (start .args .scratch .now)) (length (start .args .offsets .now)) (empty .0) count (rw (judged .judge-proof .ensures) at e);
+      lost = λ empty count e. accepted-lost (resized (start .args .bytes) plainRules) prefix clauses steps (length (start .args .scratch .now)) (length (start .args .offsets .now)) (empty .0) count (rw (judged .judge-proof .ensures) at e);
     }
 
 pub check-with-spec : {M : Type 1} → statement M

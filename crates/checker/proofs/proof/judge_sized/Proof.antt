@@ -12,8 +12,10 @@ use Rattle.formula.specs.Decode.{clausesOf}
 use Rattle.formula.specs.Tables.{zeros}
 use borrow.Author.Needs.{needs}
 use borrow.Rule.Slice.PartMut.{same-len-mid}
-use Rattle.checker.specs.Rules.{plainRules}
-use Rattle.checker.specs.Verdict.{scopeOf, sizedVerdict}
+use Rattle.inference.specs.Rules.{plainRules}
+use Rattle.inference.specs.Steps.{familyOf}
+use Rattle.checker.specs.Verdict.{sizedVerdict}
+use Rattle.inference.specs.Scope.{scopeOf}
 use Rattle.checker.specs.Verdict.Sizes.{conclude-resized}
 use Rattle.formula.specs.Bounds.Laws.{fit-made, fit-refused}
 use Rattle.checker.proofs.proof.judge_sized.Statement.{statement}
@@ -56,7 +58,7 @@ returns-4 c =
     let called = c .before .before .before .before in
     let start = called .before .before .before .before .before .before .before .before .before .before in
     let enough : zeros (start .args .clauses .now) ≤ length (start .args .offsets .now) = omega (arith, called .before .before .before .if2 .left, start .pre .1 .0) in
-    rw (within-at (called .before .before .before .before .before), le-leb (start .args .bytes) (length (start .args .scratch .now)) (called .before .before .before .before .if1 .left), le-leb (zeros (start .args .clauses .now)) (length (start .args .offsets .now)) enough, ← start .pre .1 .0, conclude-resized (start .args .bytes) plainRules (scopeOf (start .args .prefix .now) (start .args .clauses .now)) (length (start .args .offsets .now)) (start .args .inputs) (clausesOf (start .args .clauses .now)) (start .args .steps .now))
+    rw (within-at (called .before .before .before .before .before), le-leb (start .args .bytes) (length (start .args .scratch .now)) (called .before .before .before .before .if1 .left), le-leb (zeros (start .args .clauses .now)) (length (start .args .offsets .now)) enough, ← start .pre .1 .0, conclude-resized (start .args .bytes) plainRules (familyOf (start .args .steps .now)) (scopeOf (start .args .prefix .now) (start .args .clauses .now)) (length (start .args .offsets .now)) (start .args .inputs) (clausesOf (start .args .clauses .now)) (start .args .steps .now))
     (called .judge-steps .ensures)
 
 pub judge-sized-spec : {M : Type 1} → statement M

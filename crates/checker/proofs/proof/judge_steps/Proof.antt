@@ -10,11 +10,12 @@ use Rattle.formula.specs.Tables.Laws.{admitted-entries, admitted-clauses-length
 use Rattle.checker.specs.declared.run.Run.the-variants.{Ended}
 use Rattle.checker.specs.Step.{Ready}
 use Rattle.checker.specs.Step.Laws.{filled-ready}
-use Rattle.checker.specs.Rules.{plainRules}
-use Rattle.checker.specs.Numbered.{stored}
-use Rattle.checker.specs.Numbered.Laws.{stored-length}
+use Rattle.inference.specs.Rules.{plainRules}
+use Rattle.inference.specs.Steps.{familyOf}
+use Rattle.inference.specs.Numbered.{stored}
+use Rattle.inference.specs.Numbered.Laws.{stored-length}
 use Rattle.checker.specs.Run.{RunDone}
-use Rattle.checker.specs.Verdict.{scopeOf}
+use Rattle.inference.specs.Scope.{scopeOf}
 use Rattle.checker.specs.Verdict.Conclusion.{concluded-run}
 use Rattle.checker.proofs.proof.judge_steps.Statement.{statement}
 use Rattle.checker.proofs.proof.judge_steps.Tie as tie
@@ -28,13 +29,13 @@ cleared-size c = c .clear-lent .kept .0 ∙ c .before .before .before .before .b
 
 -- the scratch before the run
 abbrev filled-at : (c : tie.After-fill-offsets) → List ℕ
-filled-at c = let cleared = c .before .before .before .before .before .before .before .before .before .before .clear-lent .last .0 in take 384 cleared ++ (c .before .before .before .before .fill-existentials .last .1 .0 ++ drop 128 (drop 384 cleared))
+filled-at c = let cleared = c .before .before .before .before .before .before .before .before .before .before .clear-lent .last .0 in take 384 cleared ++ (c .before .before .before .before .fill-quantified .last .1 .1 .1 .0 ++ drop 128 (drop 384 cleared))
 
 ready-at : (c : tie.After-fill-offsets) → Ready (c .before .before .before .before .before .before .before .before .before .before .before .before .before .before .before .args .prefix .now) (filled-at c)
 ready-at c =
     let filled = c .before .before .before .before in
     let cleared = c .before .before .before .before .before .before .before .before .before .before in
-    filled-ready (c .before .before .before .before .before .before .before .before .before .before .before .before .before .before .before .args .prefix .now) (cleared .clear-lent .last .0) (filled .fill-existentials .last .1 .0) (cleared-size cleared) (filled .fill-existentials .kept .1 .0) (ap (take 256) (cleared-at cleared)) (filled .fill-existentials .ensures)
+    filled-ready (c .before .before .before .before .before .before .before .before .before .before .before .before .before .before .before .args .prefix .now) (cleared .clear-lent .last .0) (filled .fill-quantified .last .1 .1 .1 .0) (cleared-size cleared) (filled .fill-quantified .kept .1 .1 .1 .0) (ap (take 256) (cleared-at cleared)) (filled .fill-quantified .ensures)
 
 -- the scratch and the offsets keep their lengths
 scratch-at : (c : tie.After-run-steps) → length (c .run-steps .last .1 .1 .1 .1 .1 .1 .0) ≡ length (c .before .before .before .before .before .before .before .before .before .before .before .before .before .before .before .before .before .before .before .before .args .scratch .now)
@@ -47,8 +48,8 @@ room-at c = c .run-steps .kept .1 .1 .1 .1 .1 .1 .1 .0 ∙ c .before .before .be
 ended-at : (c : tie.After-known-told2) → let start = c .before .before .before .before .before .before .before .before .before .before .before .before .before .before .before .before .before .before .before .before .before .before .before .before .before .before .before in RunDone true (start .args .prefix .now) (start .args .clauses .now) (start .args .steps .now) (start .args .inputs) (Ended (c .before .numbered .given .0 .0) (c .before .numbered .given .0 .1 .0)) (c .before .before .before .before .before .before .before .run-steps .last .1 .1 .1 .1 .1 .1 .0) (c .before .before .before .before .before .before .before .run-steps .last .1 .1 .1 .1 .1 .1 .1 .0)
 ended-at c = rw (c .before .numbered .given .1) at (c .before .before .before .before .before .before .before .run-steps .ensures)
 
-fill-existentials-requires : tie.Need-fill-existentials-requires
-fill-existentials-requires c κs =
+fill-quantified-requires : tie.Need-fill-quantified-requires
+fill-quantified-requires c κs =
     let start = c .before .before .before .before .before .before .before .before .before .before in
     (admitted-entries (start .args .prefix .now) (start .args .clauses .now) (start .pre .0), ap (λ (l : List ℕ). take 128 (drop 384 l)) (cleared-at (c .before .before .before .before .before)))
 
@@ -102,7 +103,7 @@ returns-2 c =
     let numbered = told .before .numbered .given .0 .0 in
     let outcome = rw (room-at ran) at (ended-at told .outcome) in
     c .conclude-run .ensures
-    ∙ concluded-run plainRules (scopeOf (a .prefix .now) (a .clauses .now)) (length (a .offsets .now)) (clausesOf (a .clauses .now)) (a .steps .now) (stored (a .inputs) (a .clauses .now) (a .steps .now) offsets numbered) (a .inputs) numbered (told .before .numbered .given .0 .1 .0) (inputs-at start) outcome (stored-length (a .inputs) (a .clauses .now) (a .steps .now) offsets numbered) (ended-at told .empty-told)
+    ∙ concluded-run plainRules (familyOf (a .steps .now)) (scopeOf (a .prefix .now) (a .clauses .now)) (length (a .offsets .now)) (clausesOf (a .clauses .now)) (a .steps .now) (stored (a .inputs) (a .clauses .now) (a .steps .now) offsets numbered) (a .inputs) numbered (told .before .numbered .given .0 .1 .0) (inputs-at start) outcome (stored-length (a .inputs) (a .clauses .now) (a .steps .now) offsets numbered) (ended-at told .empty-told)
 
 pub judge-steps-spec : {M : Type 1} → statement M
 judge-steps-spec =
@@ -112,7 +113,7 @@ judge-steps-spec =
     (λ c. omega arith)
     (λ c. omega arith)
     (λ c. let e = cleared-size (c .before .before .before .before) in omega arith)
-    fill-existentials-requires
+    fill-quantified-requires
     fill-offsets-requires
     run-steps-requires
     (λ c. c .match .keys1)

@@ -6,9 +6,9 @@ use mir.Syntax.{w32}
 use mir.Val.{toZ, ofZ}
 use borrow.Author.Needs.{needs}
 use Rattle.formula.specs.Decode.{clauseAt}
-use Rattle.checker.specs.Steps.{judgeReduction}
-use Rattle.checker.specs.Numbered.{numberOf, storedAt}
-use Rattle.checker.specs.Numbered.Laws.{number-range, number-antecedent, number-no-antecedent}
+use Rattle.inference.specs.Steps.{judgeReduction}
+use Rattle.inference.specs.Numbered.{numberOf, storedAt}
+use Rattle.inference.specs.Numbered.Laws.{number-range, number-antecedent, number-no-antecedent}
 use Rattle.checker.specs.Step.Laws.{none-kept, stored-in-range, stored-by-number}
 use Rattle.checker.proofs.reduce.check_reduction.Statement.{statement}
 use Rattle.checker.proofs.reduce.check_reduction.Tie as tie

@@ -11,8 +11,8 @@ use Rattle.formula.specs.Bounds.{inRange}
 use Rattle.formula.specs.Bounds.Laws.{literal-made, literal-refused}
 use Rattle.formula.specs.Tables.Laws.{admitted-entries}
 use Rattle.formula.specs.Word.Laws.{variable-magnitude}
-use Rattle.checker.specs.Steps.{judgeReduction}
-use Rattle.checker.specs.Existentials.Laws.{universal-outside}
+use Rattle.inference.specs.Steps.{judgeReduction}
+use Rattle.inference.specs.Existentials.Laws.{universal-outside}
 use Rattle.checker.specs.Step.Laws.{none-kept}
 use Rattle.checker.proofs.reduce.reduce_fields.Statement.{statement}
 use Rattle.checker.proofs.reduce.reduce_fields.Tie as tie

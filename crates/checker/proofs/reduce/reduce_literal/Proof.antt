@@ -10,9 +10,9 @@ use Rattle.formula.specs.Bounds.{variableFit}
 use Rattle.formula.specs.Decode.{clauseAt}
 use Rattle.formula.specs.Prefix.{prefixOf, quantifies}
 use Rattle.formula.specs.Tables.Laws.{admitted-entries}
-use Rattle.checker.specs.Words.{holds}
-use Rattle.checker.specs.Steps.{judgeReduction}
-use Rattle.checker.specs.Existentials.Laws.{fit-found, fit-missed}
+use Rattle.inference.specs.Words.{holds}
+use Rattle.inference.specs.Steps.{judgeReduction}
+use Rattle.inference.specs.Existentials.Laws.{listed-ranged, fit-found, fit-missed}
 use Rattle.checker.specs.Step.Laws.{none-kept}
 use Rattle.checker.proofs.reduce.reduce_literal.Statement.{statement}
 use Rattle.checker.proofs.reduce.reduce_literal.Tie as tie
@@ -40,7 +40,7 @@ reduce-on-requires : tie.Need-reduce-on-requires
 reduce-on-requires c κs =
     let start = c .before .before .before .before .before .before .before .before .before in
     let found = found-at (c .before .before .before) in
-    (start .pre .0, (start .pre .1 .0, (rw (found .0) (found .1), start .pre .1 .1)))
+    (start .pre .0, (start .pre .1 .0, (rw (found .0) (found .1), (listed-ranged (start .args .prefix .now) (admitted-entries (start .args .prefix .now) (start .args .clauses .now) (start .pre .1 .0)) universal (natAbs (start .args .literal .0)) (found .1), start .pre .1 .1))))
 
 returns : tie.Need-returns
 unfolding judgeReduction

@@ -10,10 +10,10 @@ use Rattle.formula.specs.declared.refusal.Blocker.{Blocker}
 use Rattle.formula.specs.declared.refusal.Reason.the-variants.{Blocked}
 use borrow.Author.Needs.{needs}
 use borrow.Rule.Slice.PartMut.{same-len-mid}
-use Rattle.checker.specs.Steps.{blocked}
-use Rattle.checker.specs.Verdict.{scopeOf}
-use Rattle.checker.specs.Blocked.Laws.{row-blocked, row-blocker}
-use Rattle.checker.specs.declared.result.Judgement.the-variants.{Wrong}
+use Rattle.inference.specs.Steps.{blocked}
+use Rattle.inference.specs.Scope.{scopeOf}
+use Rattle.inference.specs.Blocked.Laws.{row-blocked, row-blocker}
+use Rattle.inference.specs.declared.result.Judgement.the-variants.{Wrong}
 use Rattle.checker.specs.Step.Laws.{none-kept, row-kept, kept-again, front-judged}
 use Rattle.checker.proofs.reduce.reduce_on.Statement.{statement}
 use Rattle.checker.proofs.reduce.reduce_on.Tie as tie
@@ -24,7 +24,7 @@ blocked-at c =
     let made = c .before .before .before .before in
     let start = made .before .before .before in
     c .row-touches .ensures
-    ∙ row-blocked (start .args .prefix .now) (start .args .clauses .now) (start .args .variable .0) (rowIn (made .row-for .last .1 .1 .1 .1 .0)) (made .row-for .ensures .row) (clauseAt (start .args .words .now) (start .args .from)) (start .pre .1 .1 .1)
+    ∙ row-blocked (start .args .prefix .now) (start .args .clauses .now) (start .args .variable .0) (rowIn (made .row-for .last .1 .1 .1 .1 .0)) (made .row-for .ensures .row) (clauseAt (start .args .words .now) (start .args .from)) (start .pre .1 .1 .1 .1)
 
 -- the marks are whole
 front-at : (c : tie.After-row-for) → length (take 256 (c .row-for .last .1 .1 .1 .1 .0)) ≡ 256
@@ -63,7 +63,7 @@ returns-2 c =
     let prefix = start .args .prefix .now in
     let clauses = start .args .clauses .now in
     let scratch = made .row-for .last .1 .1 .1 .1 .0 in
-    let answers = front-judged scratch (judged .judge-reduct .last .1 .1 .1 .1 .1 .0) (judged .judge-reduct .kept .1 .1 .1 .1 .1 .0 ∙ front-at made) (judged .judge-reduct .ensures) in
+    let answers = front-judged scratch (judged .judge-reduct .last .1 .1 .1 .1 .1 .1 .0) (judged .judge-reduct .kept .1 .1 .1 .1 .1 .1 .0 ∙ front-at made) (made .row-for .ensures .ready .size) (judged .judge-reduct .ensures) in
     rw (← blocked-at touched, judged .before .before .if1 .left) (record { answer = answers .answer; ready = kept-again prefix clauses scratch (row-kept prefix clauses scratch (made .row-for .ensures)) answers })
 
 pub reduce-on-spec : {M : Type 1} → statement M
@@ -78,5 +78,5 @@ reduce-on-spec =
     (λ c. let e = c .before .before .before .before .before .row-for .ensures .ready .size in omega arith)
     (λ c. sym (front-at (c .before .before .before .before .before .before)))
     judge-reduct-requires
-    (λ c. same-len-mid 0 256 (c .before .before .before .before .before .before .before .before .before .row-for .last .1 .1 .1 .1 .0) (c .before .before .judge-reduct .last .1 .1 .1 .1 .1 .0) (c .before .before .judge-reduct .kept .1 .1 .1 .1 .1 .0) ∙ c .before .before .before .before .before .before .before .before .before .row-for .kept .1 .1 .1 .1 .0)
+    (λ c. same-len-mid 0 256 (c .before .before .before .before .before .before .before .before .before .row-for .last .1 .1 .1 .1 .0) (c .before .before .judge-reduct .last .1 .1 .1 .1 .1 .1 .0) (c .before .before .judge-reduct .kept .1 .1 .1 .1 .1 .1 .0) ∙ c .before .before .before .before .before .before .before .before .before .row-for .kept .1 .1 .1 .1 .0)
     returns-2)

@@ -7,7 +7,7 @@ use borrow.Author.Needs.{needs}
 use borrow.Rule.Slice.PartMut.{same-len-mid}
 use Rattle.qbf.specs.Formula.{universal}
 use Rattle.formula.specs.Tables.Laws.{admitted-entries}
-use Rattle.checker.specs.Existentials.Laws.{listed-ranged}
+use Rattle.inference.specs.Existentials.Laws.{listed-ranged}
 use Rattle.checker.specs.Step.Laws.{kept-row, filled-ready, filled-row}
 use Rattle.checker.proofs.reduce.row_for.Statement.{statement}
 use Rattle.checker.proofs.reduce.row_for.Tie as tie
@@ -19,8 +19,8 @@ made-size c = c .make-row .kept .1 .1 .1 .0 ∙ c .before .before .before .befor
 make-row-requires : tie.Need-make-row-requires
 make-row-requires c κs = let p = c .before .before .before .before .pre in (p .1 .0, (p .1 .1, p .0 .ready .size))
 
-fill-existentials-requires : tie.Need-fill-existentials-requires
-fill-existentials-requires c κs =
+fill-quantified-requires : tie.Need-fill-quantified-requires
+fill-quantified-requires c κs =
     let made = c .before .before .before in
     let start = made .before .before .before .before .before in
     (admitted-entries (start .args .prefix .now) (start .args .clauses .now) (start .pre .1 .0), ap (take 128) (made .make-row .ensures .rest))
@@ -29,7 +29,7 @@ same-length : tie.Need-same-length
 same-length c =
     let filled = c .before .before in
     let made = filled .before .before .before .before in
-    same-len-mid 384 128 (made .make-row .last .1 .1 .1 .0) (filled .fill-existentials .last .1 .0) (filled .fill-existentials .kept .1 .0)
+    same-len-mid 384 128 (made .make-row .last .1 .1 .1 .0) (filled .fill-quantified .last .1 .1 .1 .0) (filled .fill-quantified .kept .1 .1 .1 .0)
     ∙ made .make-row .kept .1 .1 .1 .0
 
 returns : tie.Need-returns
@@ -46,11 +46,11 @@ returns-2 c =
     let made = filled .before .before .before .before in
     let start = made .before .before .before .before .before in
     let scratch = made .make-row .last .1 .1 .1 .0 in
-    let bytes = filled .fill-existentials .last .1 .0 in
-    let part = filled .fill-existentials .kept .1 .0 in
+    let bytes = filled .fill-quantified .last .1 .1 .1 .0 in
+    let part = filled .fill-quantified .kept .1 .1 .1 .0 in
     record {
       row = filled-row (start .args .prefix .now) scratch bytes (made-size made) part ∙ made .make-row .ensures .row;
-      ready = filled-ready (start .args .prefix .now) scratch bytes (made-size made) part (made .make-row .ensures .front) (filled .fill-existentials .ensures);
+      ready = filled-ready (start .args .prefix .now) scratch bytes (made-size made) part (made .make-row .ensures .front) (filled .fill-quantified .ensures);
     }
 
 pub row-for-spec : {M : Type 1} → statement M
@@ -62,6 +62,6 @@ row-for-spec =
     (λ c. search needs)
     (λ c. search needs)
     (λ c. let e = made-size (c .before .before) in omega arith)
-    fill-existentials-requires
+    fill-quantified-requires
     same-length
     returns-2)

@@ -9,7 +9,7 @@ use Rattle.qbf.specs.Connectives.{and-both}
 use Rattle.formula.specs.Bounds.{variableFit, inRange}
 use Rattle.formula.specs.Word.{wordOf, variableOf}
 use Rattle.formula.specs.Word.Laws.{variable-within}
-use Rattle.checker.specs.Existentials.Laws.{fit-found, fit-missed, universal-outside, variable-ranged}
+use Rattle.inference.specs.Existentials.Laws.{fit-found, fit-missed, universal-outside, variable-ranged}
 use Rattle.checker.proofs.reduce.universal_of.Statement.{statement}
 use Rattle.checker.proofs.reduce.universal_of.Tie as tie
 

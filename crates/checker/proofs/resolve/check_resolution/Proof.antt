@@ -5,8 +5,8 @@ use native.Mathlib.Omega.{arith}
 use mir.Syntax.{w32}
 use mir.Val.{toZ, ofZ}
 use borrow.Author.Needs.{needs}
-use Rattle.checker.specs.Numbered.{numberOf}
-use Rattle.checker.specs.Numbered.Laws.{number-range, number-antecedent, number-no-antecedent}
+use Rattle.inference.specs.Numbered.{numberOf}
+use Rattle.inference.specs.Numbered.Laws.{number-range, number-antecedent, number-no-antecedent}
 use Rattle.checker.specs.Step.Laws.{stored-in-range}
 use Rattle.checker.proofs.resolve.check_resolution.Statement.{statement}
 use Rattle.checker.proofs.resolve.check_resolution.Tie as tie
@@ -47,14 +47,17 @@ resolve-fields-requires c κs =
     let range = stored-in-range (start .args .inputs) (start .args .clauses .now) (start .args .steps .now) (start .args .offsets .now) (start .args .numbered) in (
       start .pre .0,
       (
-        left .0,
+        start .pre .1 .0,
         (
-          omega (arith, left .1, start .pre .1 .0),
+          left .0,
           (
-            right .0,
+            omega (arith, left .1, start .pre .1 .1 .0),
             (
-              omega (arith, right .1, start .pre .1 .0),
-              (range _ (left .0) (left .1) (start .pre .1 .1), range _ (right .0) (right .1) (start .pre .1 .1)),
+              right .0,
+              (
+                omega (arith, right .1, start .pre .1 .1 .0),
+                (range _ (left .0) (left .1) (start .pre .1 .1 .1), range _ (right .0) (right .1) (start .pre .1 .1 .1)),
+              ),
             ),
           ),
         ),
@@ -65,7 +68,7 @@ returns : tie.Need-returns
 returns c =
     let start = c .before .before .before .before .before .before in
     let e = number-no-antecedent (start .args .inputs) (start .args .clauses .now) (start .args .steps .now) (start .args .offsets .now) (start .args .numbered) (start .args .step .first) (sym (c .enum-told .given .1) ∙ first-at (c .before .before)) in
-    rw e (record { answer = refl; marks = start .pre .0 .marks; kept = refl })
+    rw e (record { answer = refl; size = refl; marks = start .pre .0 .marks; kept = refl })
 
 returns-2 : tie.Need-returns-2
 returns-2 c =
@@ -74,7 +77,7 @@ returns-2 c =
     let start = first .before .before .before .before in
     let d = number-antecedent (start .args .inputs) (start .args .clauses .now) (start .args .steps .now) (start .args .offsets .now) (start .args .numbered) (start .args .step .first) (second .before .before .before .left .given .0 .0) (sym (second .before .before .before .left .given .1) ∙ first-at first) in
     let e = number-no-antecedent (start .args .inputs) (start .args .clauses .now) (start .args .steps .now) (start .args .offsets .now) (start .args .numbered) (start .args .step .second) (sym (c .enum-told2 .given .1) ∙ second-at second) in
-    rw (d, e) (record { answer = refl; marks = start .pre .0 .marks; kept = refl })
+    rw (d, e) (record { answer = refl; size = refl; marks = start .pre .0 .marks; kept = refl })
 
 returns-3 : tie.Need-returns-3
 returns-3 c =

@@ -1,18 +1,15 @@
--- `resolve_fields` asks whether the pivot is existential and lends the marks. Assumes nothing.
+-- `resolve_fields` asks whether the pivot is existential. Assumes nothing.
 use mathlib.Core.Path.{_≡_, refl, sym, _∙_}
 use native.Mathlib.Omega.{arith}
-use lib.ListN.{length, take}
-use lib.Seq.{length-take-le}
 use mir.Syntax.{w32}
 use mir.Val.{toZ, ofZ}
 use Rattle.formula.specs.Word.{wordOf}
 use Rattle.formula.specs.declared.literal.VariableFit.the-variants.{Within}
 use borrow.Author.Needs.{needs}
-use borrow.Rule.Slice.PartMut.{same-len-mid, mid-len}
-use Rattle.checker.specs.Existentials.{existentialOf}
-use Rattle.checker.specs.Existentials.Laws.{existential-bound}
+use borrow.Rule.Slice.PartMut.{mid-len}
+use Rattle.inference.specs.Existentials.{existentialOf}
+use Rattle.inference.specs.Existentials.Laws.{existential-bound}
 use Rattle.checker.specs.Step.{existentialsIn}
-use Rattle.checker.specs.Step.Laws.{front-judged}
 use Rattle.checker.proofs.resolve.resolve_fields.Statement.{statement}
 use Rattle.checker.proofs.resolve.resolve_fields.Tie as tie
 
@@ -24,20 +21,16 @@ fit-at c =
     let e : toZ w32 (ofZ w32 word) ≡ word = search needs in
     rw e at (c .existential-of .ensures)
 
--- the marks are whole
-front-at : (c : tie.Start) → length (take 256 (c .args .scratch .now)) ≡ 256
-front-at c = length-take-le 256 (c .args .scratch .now) (let e = c .pre .0 .size in omega arith)
-
 resolve-numbered-requires : tie.Need-resolve-numbered-requires
 resolve-numbered-requires c κs =
     let start = c .before .before .before .before .before .before .before .before .before .before in
     let fit = sym (c .before .before .pivot .given .1) ∙ fit-at (c .before .before .before .before) in
-    (front-at start, (start .pre .0 .marks, (existential-bound _ _ (c .before .before .pivot .given .0 .0) fit, start .pre .1)))
+    (start .pre .0, (start .pre .1 .0, (existential-bound _ _ (c .before .before .pivot .given .0 .0) fit, start .pre .1 .1)))
 
 returns : tie.Need-returns
 returns c =
     let fit = sym (c .enum-told .given .1) ∙ fit-at (c .before .before) in
-    rw (← fit) (record { answer = refl; marks = c .before .before .before .before .before .before .before .before .pre .0 .marks; kept = refl })
+    rw (← fit) (record { answer = refl; size = refl; marks = c .before .before .before .before .before .before .before .before .pre .0 .marks; kept = refl })
 
 returns-2 : tie.Need-returns-2
 returns-2 c =
@@ -45,7 +38,7 @@ returns-2 c =
     let found = called .before .before .before .before .before in
     let start = found .before .before .before .before .before .before in
     let fit : Within (called .before .before .before .pivot .given .0 .0) ≡ existentialOf (existentialsIn (start .args .scratch .now)) (wordOf (start .args .step .pivot)) = sym (called .before .before .before .pivot .given .1) ∙ fit-at found in
-    rw (← fit) (front-judged (start .args .scratch .now) _ (called .resolve-numbered .kept .1 .1 .1 .1 .1 .1 .1 .1 .0 ∙ front-at start) (called .resolve-numbered .ensures))
+    rw (← fit) (called .resolve-numbered .ensures)
 
 pub resolve-fields-spec : {M : Type 1} → statement M
 resolve-fields-spec =
@@ -57,10 +50,8 @@ resolve-fields-spec =
     (λ c κs. let start = c .before .before .before .before .before in mid-len 384 512 (start .args .scratch .now) (let e = start .pre .0 .size in omega arith))
     (λ c. c .match .keys1)
     (λ c. c .match .keys2)
-    (λ c. let e = c .before .before .before .before .before .before .before .before .before .pre .0 .size in omega arith)
-    (λ c. sym (front-at (c .before .before .before .before .before .before .before .before .before .before)))
     resolve-numbered-requires
     (λ c. refl)
     returns
-    (λ c. same-len-mid 0 256 (c .before .before .before .before .before .before .before .before .before .before .before .before .before .args .scratch .now) (c .before .before .resolve-numbered .last .1 .1 .1 .1 .1 .1 .1 .1 .0) (c .before .before .resolve-numbered .kept .1 .1 .1 .1 .1 .1 .1 .1 .0))
+    (λ c. search needs)
     returns-2)

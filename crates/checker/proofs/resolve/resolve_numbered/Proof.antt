@@ -3,7 +3,7 @@ use Prim.Native.Nat.{_-_}
 use mathlib.Core.Path.{_≡_, ap₂, sym, _∙_}
 use borrow.Author.Needs.{needs}
 use Rattle.formula.specs.Decode.{clauseAt}
-use Rattle.checker.specs.Numbered.{storedAt}
+use Rattle.inference.specs.Numbered.{storedAt}
 use Rattle.checker.specs.Step.Laws.{stored-by-number}
 use Rattle.checker.proofs.resolve.resolve_numbered.Statement.{statement}
 use Rattle.checker.proofs.resolve.resolve_numbered.Tie as tie

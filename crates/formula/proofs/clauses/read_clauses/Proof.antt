@@ -4,9 +4,9 @@ use mathlib.Core.Path.{sym, _∙_}
 use mathlib.Core.List.{[]}
 use native.Mathlib.Omega.{arith}
 use lib.ListN.{length}
-use Rattle.formula.specs.Position.Cursor.{PositionIn}
-use Rattle.formula.specs.Token.{numberOf}
-use Rattle.formula.specs.Token.Laws.{Finds, no-token, token-found}
+use Rattle.scanner.specs.Position.Cursor.{PositionIn}
+use Rattle.scanner.specs.Token.{numberOf}
+use Rattle.scanner.specs.Token.Laws.{Finds, no-token, token-found}
 use Rattle.formula.specs.Text.Clauses.Laws.{ClausesSoFar, clauses-begin, clauses-end, clauses-over, clauses-refuse, clauses-literal, clauses-closed}
 use borrow.Author.Needs.{needs}
 use Rattle.formula.proofs.clauses.read_clauses.Statement.{statement}

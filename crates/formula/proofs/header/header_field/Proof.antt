@@ -1,6 +1,6 @@
 -- `header_field` answers by the next token and its value. Assumes nothing.
 use mathlib.Core.Path.{_≡_, sym, _∙_}
-use Rattle.formula.specs.Token.Laws.{Finds, no-token, token-found}
+use Rattle.scanner.specs.Token.Laws.{Finds, no-token, token-found}
 use Rattle.formula.specs.Text.Header.{fieldFound}
 use Rattle.formula.specs.Text.Header.Laws.{field-found}
 use borrow.Author.Needs.{needs}

@@ -1,6 +1,6 @@
 -- `read_header` reads `p` and `cnf`, then the numbers. Assumes nothing.
 use mathlib.Core.Path.{sym, _∙_}
-use Rattle.formula.specs.Position.Cursor.{PositionIn}
+use Rattle.scanner.specs.Position.Cursor.{PositionIn}
 use Rattle.formula.specs.Text.Header.Laws.{p-read, cnf-read, header-before}
 use borrow.Author.Needs.{needs}
 use Rattle.formula.proofs.header.read_header.Statement.{statement}

@@ -4,9 +4,9 @@ use mathlib.Core.Path.{sym, _∙_}
 use mathlib.Core.List.{[]}
 use native.Mathlib.Omega.{arith}
 use lib.ListN.{length}
-use Rattle.formula.specs.Position.Cursor.{PositionIn}
-use Rattle.formula.specs.Token.{numberOf}
-use Rattle.formula.specs.Token.Laws.{Finds, no-token, token-found}
+use Rattle.scanner.specs.Position.Cursor.{PositionIn}
+use Rattle.scanner.specs.Token.{numberOf}
+use Rattle.scanner.specs.Token.Laws.{Finds, no-token, token-found}
 use Rattle.formula.specs.Text.Sets.Laws.{SetSoFar, set-begins, set-ends, set-closes, set-refuses, set-lists}
 use borrow.Author.Needs.{needs}
 use Rattle.formula.specs.Prefix.{quantifierOf}

@@ -4,9 +4,9 @@ use mathlib.Core.Path.{_≡_, sym, _∙_}
 use mathlib.Core.List.{[]}
 use native.Mathlib.Omega.{arith}
 use lib.ListN.{length}
-use Rattle.formula.specs.Position.Cursor.{PositionIn}
-use Rattle.formula.specs.Token.{same, aText, eText}
-use Rattle.formula.specs.Token.Laws.{Finds, no-token, token-found}
+use Rattle.scanner.specs.Position.Cursor.{PositionIn}
+use Rattle.scanner.specs.Token.{same, aText, eText}
+use Rattle.scanner.specs.Token.Laws.{Finds, no-token, token-found}
 use Rattle.formula.specs.Text.Sets.Laws.{SetsSoFar, sets-begin, sets-end, sets-over, sets-refuse, sets-on}
 use borrow.Author.Needs.{needs}
 use Rattle.formula.proofs.sets.read_sets.Statement.{statement}

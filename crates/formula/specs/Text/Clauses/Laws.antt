@@ -39,16 +39,16 @@ use Rattle.formula.specs.Text.Clauses.{
   ClausesPost,
 }
 use Rattle.formula.specs.Text.Laws.{literal-fine, closing-fine, from-end, from-token, from-refused}
-use Rattle.formula.specs.Position.{positionAt}
-use Rattle.formula.specs.Token.{tokensAt, Number, natural, negative, numberOf}
-use Rattle.formula.specs.Token.Scan.{tooLarge, shown}
-use Rattle.formula.specs.Token.Laws.{Finds}
-use Rattle.formula.specs.Token.Numbers.{shown-natural, shown-negative, shown-no-number}
+use Rattle.scanner.specs.Position.{positionAt}
+use Rattle.scanner.specs.Token.{tokensAt, Number, natural, negative, numberOf}
+use Rattle.scanner.specs.Token.Scan.{tooLarge, shown}
+use Rattle.scanner.specs.Token.Laws.{Finds}
+use Rattle.scanner.specs.Token.Numbers.{shown-natural, shown-negative, shown-no-number}
 use Rattle.formula.specs.declared.refusal.Reason.the-variants.{BadToken, Miscount}
 use Rattle.formula.specs.declared.refusal.Reason.{Reason}
-use Rattle.formula.specs.declared.position.Position.{Position}
-use Rattle.formula.specs.declared.token.Token.{Token as Shown}
-use Rattle.formula.specs.declared.token.Token.the-variants.{Natural, Negative, NoNumber}
+use Rattle.scanner.specs.declared.position.Position.{Position}
+use Rattle.scanner.specs.declared.token.Token.{Token as Shown}
+use Rattle.scanner.specs.declared.token.Token.the-variants.{Natural, Negative, NoNumber}
 use Rattle.formula.specs.declared.clauses.ClauseStep.{ClauseStep}
 use Rattle.formula.specs.declared.clauses.ClauseStep.the-variants.{Literal, Closed, Refused as NoStep}
 use Rattle.formula.specs.declared.clauses.ClausesAnswer.the-variants.{Refused as NoClauses}

@@ -21,7 +21,7 @@ use Rattle.formula.specs.Prefix.{prefixWords, entryWords, entriesIn}
 use Rattle.formula.specs.Prefix.Laws.{words-length, entries-length}
 use Rattle.formula.specs.Refusal.{refusal, inText}
 use Rattle.formula.specs.Tables.{isIn}
-use Rattle.formula.specs.Token.{firstToken}
+use Rattle.scanner.specs.Token.{firstToken}
 use Rattle.formula.specs.Text.{Reading, padded, refused, wantsP, completing, reading, readingFrom, ReadPost}
 use Rattle.formula.specs.Text.Distinct.{PrefixFine, prefix-empty, completed-fine}
 use Rattle.formula.specs.Text.Sets.{Listed}

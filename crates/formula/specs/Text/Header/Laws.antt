@@ -8,17 +8,17 @@ use borrow.Author.Tests.{leb-true, leb-false, lt-leb}
 use lib.ListN.{length}
 use lib.Dec.{leb}
 use Rattle.formula.specs.Bounds.{variableBound, countBound}
-use Rattle.formula.specs.Position.Cursor.{PositionIn}
+use Rattle.scanner.specs.Position.Cursor.{PositionIn}
 use Rattle.formula.specs.Refusal.{inText, require}
-use Rattle.formula.specs.Token.{Token, tokensAt, same, pText, cnfText, Number, natural, negative, noNumber, numberOf}
-use Rattle.formula.specs.Token.Scan.{tooLarge, shown, nextOf}
-use Rattle.formula.specs.Token.Laws.{Finds, token-found}
+use Rattle.scanner.specs.Token.{Token, tokensAt, same, pText, cnfText, Number, natural, negative, noNumber, numberOf}
+use Rattle.scanner.specs.Token.Scan.{tooLarge, shown, nextOf}
+use Rattle.scanner.specs.Token.Laws.{Finds, token-found}
 use Rattle.formula.specs.Text.{refused, State, wantsP, wantsCnf, wantsV, wantsC, betweenSets, stopped, headerWord, headerNumber, step, ending, atEnd, readingFrom}
 use Rattle.formula.specs.Text.Laws.{from-end, from-token, from-stopped, from-refused}
 use Rattle.formula.specs.Text.Header.{wordValue, numberValue, valueOf, fieldOr, fieldFound, HeaderPost}
-use Rattle.formula.specs.declared.position.Position.{Position}
+use Rattle.scanner.specs.declared.position.Position.{Position}
 use Rattle.formula.specs.declared.refusal.Reason.the-variants.{Headless, Oversized}
-use Rattle.formula.specs.declared.token.Token.{Token as Shown}
+use Rattle.scanner.specs.declared.token.Token.{Token as Shown}
 use Rattle.formula.specs.declared.header.Wanted.{Wanted}
 use Rattle.formula.specs.declared.header.Wanted.the-variants.{P, Cnf, Number as WantsNumber}
 use Rattle.formula.specs.declared.header.FieldValue.{FieldValue}

@@ -19,11 +19,11 @@ use Rattle.formula.specs.Refusal.{refusedAt, unless}
 use Rattle.formula.specs.Prefix.{entriesIn, entryWords, entryFits, quantifierOf}
 use Rattle.formula.specs.Prefix.Laws.{entries-none, entries-length, put-entries, put-within}
 use Rattle.formula.specs.Tables.{isIn, zeros}
-use Rattle.formula.specs.Position.Cursor.{PositionIn}
-use Rattle.formula.specs.Token.{tokensAt, same, aText, eText, Number, natural, numberOf}
-use Rattle.formula.specs.Token.Scan.{tooLarge, shown}
-use Rattle.formula.specs.Token.Laws.{Finds}
-use Rattle.formula.specs.Token.Numbers.{shown-natural, shown-negative, shown-no-number}
+use Rattle.scanner.specs.Position.Cursor.{PositionIn}
+use Rattle.scanner.specs.Token.{tokensAt, same, aText, eText, Number, natural, numberOf}
+use Rattle.scanner.specs.Token.Scan.{tooLarge, shown}
+use Rattle.scanner.specs.Token.Laws.{Finds}
+use Rattle.scanner.specs.Token.Numbers.{shown-natural, shown-negative, shown-no-number}
 use Rattle.formula.specs.Text.{betweenSets, inSet, clauses, stopped, atEnd, opens, openFrom, variableReason, setToken, clausesToken, step, ending, readingFrom}
 use Rattle.formula.specs.Text.Distinct.{or-no, prefix-more}
 use Rattle.formula.specs.Text.Laws.{variable-fine, from-end, from-token, from-refused}
@@ -31,9 +31,9 @@ use Rattle.formula.specs.Text.Sets.{Listed, listing, ListingPost, setClo
 use Rattle.formula.specs.declared.refusal.Reason.the-variants.{BadToken, Unfinished}
 use Rattle.formula.specs.declared.refusal.Reason.{Reason}
 use Rattle.formula.specs.declared.refusal.Refusal.{Refusal}
-use Rattle.formula.specs.declared.position.Position.{Position}
-use Rattle.formula.specs.declared.token.Token.{Token as Shown}
-use Rattle.formula.specs.declared.token.Token.the-variants.{Natural, Negative, NoNumber}
+use Rattle.scanner.specs.declared.position.Position.{Position}
+use Rattle.scanner.specs.declared.token.Token.{Token as Shown}
+use Rattle.scanner.specs.declared.token.Token.the-variants.{Natural, Negative, NoNumber}
 use Rattle.formula.specs.declared.sets.SetStep.{SetStep}
 use Rattle.formula.specs.declared.sets.SetStep.the-variants.{Listed as Lists, Closed as Closes, Refused as NoListing}
 use Rattle.formula.specs.declared.sets.SetsAnswer.the-variants.{Sets, Refused as NoSets}

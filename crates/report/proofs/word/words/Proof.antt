@@ -1,6 +1,6 @@
 -- `words` lists the words of the table: by computing. Assumes nothing.
 use mathlib.Core.Path.{refl}
-use Rattle.formula.specs.Token.{same}
+use Rattle.scanner.specs.Token.{same}
 use Rattle.report.specs.Word.{wordIn, filled}
 use Rattle.report.proofs.word.words.Statement.{statement}
 use Rattle.report.proofs.word.words.Tie as tie

@@ -1,0 +1,2 @@
+-- Laws that several proofs of this crate and of the checker cite.
+pub mod Signed
