@@ -5,6 +5,7 @@
 mod drawn;
 mod ends;
 mod expected;
+mod pairs;
 #[cfg(proved)]
 mod proved;
 mod seen;
@@ -129,11 +130,21 @@ fn compare_one(
     filling: &mut Random,
     seen: &mut Seen,
 ) -> Result<Answer, Box<Difference>> {
+    let (number, found) = judged(library, case, filling)?;
+    seen.count(case, number);
+    Ok(found)
+}
+
+/// The number of the reference's answer and the library's answer, which is the same.
+pub fn judged(
+    library: impl Fn(&Case, &mut Random) -> Answer,
+    case: &Case,
+    filling: &mut Random,
+) -> Result<(usize, Answer), Box<Difference>> {
     let (number, expected) = reference_answer(case);
     let found = library(case, filling);
-    seen.count(case, number);
     agreed(REFERENCE_AND_LIBRARY, case, expected, &found)?;
-    Ok(found)
+    Ok((number, found))
 }
 
 /// Whether there is scratch enough for both sizes, so that their answers are to be the same, and are.
@@ -380,6 +391,23 @@ mod tests {
                 }
             }
         }));
+    }
+
+    /// A library that refuses a pair that is allowed, lets one pass that is not, or a step of the other family, is found out.
+    #[test]
+    fn faults_about_pairs_are_found() {
+        let allowed = pairs::ALLOWED.map(|kind| (kind, 16));
+        let wrong = pairs::WRONG.map(|kind| (kind, 19));
+        let others = pairs::OTHERS.map(|kind| (kind, 19));
+        for (kind, returned) in [&allowed[..], &wrong, &others].concat() {
+            let is_other = |answer: &Answer| answer.returned != returned;
+            assert!(is_found(|case, answer| {
+                let drawn = || drawn::drawn(case, answer.returned as usize);
+                if is_check(case) && is_other(answer) && drawn().contains(&kind) {
+                    answer.returned = returned;
+                }
+            }));
+        }
     }
 
     /// A library with a fault in one size alone, or at one length of the scratch, is found out.

@@ -9,6 +9,7 @@ pub mod ends;
 mod files;
 mod lines;
 pub mod long;
+pub mod pairs;
 mod prefixes;
 pub mod proofs;
 pub mod scratch;
@@ -391,7 +392,7 @@ impl fmt::Display for Tables {
 
 /// Some inputs of one kind, drawn together where they share a formula.
 pub fn batch(random: &mut Random) -> Vec<Case> {
-    match random.below(24) {
+    match random.below(26) {
         0 | 1 => tables::tables_batch(random),
         2 => texts::cut_texts(random),
         3..=6 => texts::text_batch(random),
@@ -402,6 +403,7 @@ pub fn batch(random: &mut Random) -> Vec<Case> {
         16 => blocked::blocked_batch(random),
         17 | 18 => ends::ends_batch(random),
         19..=22 => lines::line_batch(random),
+        23 | 24 => pairs::pairs_batch(random),
         _ => tables::game_batch(random),
     }
 }

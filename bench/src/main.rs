@@ -1,14 +1,18 @@
 //! A second implementation of every entry beside the proved one. `compare` sets the two against each other,
-//! `inputs` tells what the same inputs draw from the reference alone, `time`, `hostile` and
-//! `reductions` measure both, `long` writes a long refutation, and `reference` and `full` print the two programs' lines by the reference.
+//! `inputs` tells what the same inputs draw from the reference alone, `saturate` has both judge every long-distance step on
+//! small formulas, `time`, `hostile` and `reductions` measure both, `long` writes a long refutation, and `reference` and
+//! `full` print the two programs' lines by the reference.
 
 mod compare;
 #[cfg(proved)]
 mod ffi;
 mod generate;
 mod hostile;
+mod pairs;
 mod reductions;
 mod reference;
+#[cfg(any(proved, test))]
+mod saturate;
 mod time;
 
 use std::env;
@@ -24,6 +28,7 @@ use reference::{MAX_STEP_WORDS, MAX_TEXT};
 const USAGE: &str = "\
 bench compare [seed] [inputs]
 bench inputs [seed] [inputs]
+bench saturate [seed] [formulas]
 bench time
 bench hostile
 bench reductions
@@ -37,18 +42,14 @@ fn main() -> ExitCode {
     let arguments: Vec<String> = env::args().skip(1).collect();
     let arguments: Vec<&str> = arguments.iter().map(|argument| &**argument).collect();
     match arguments[..] {
-        ["compare" | "inputs", ref numbers @ ..] if numbers.len() <= 2 => {
-            let number = |place: usize, usual: &str| {
-                let given: &&str = numbers.get(place).unwrap_or(&usual);
-                given.parse::<u32>().ok()
-            };
-            match (number(0, "1"), number(1, "100000")) {
-                (Some(seed), Some(inputs)) => {
-                    compare_all(arguments[0] == "compare", seed.into(), inputs as usize)
-                }
-                _ => usage(),
-            }
-        }
+        ["compare" | "inputs", ref numbers @ ..] => match seed_and_count(numbers, 100_000) {
+            Some((seed, inputs)) => compare_all(arguments[0] == "compare", seed, inputs),
+            None => usage(),
+        },
+        ["saturate", ref numbers @ ..] => match seed_and_count(numbers, 4_000) {
+            Some((seed, formulas)) => saturate_all(seed, formulas),
+            None => usage(),
+        },
         ["time"] => {
             time::time();
             ExitCode::SUCCESS
@@ -72,6 +73,18 @@ fn main() -> ExitCode {
         ["full", "deps", formula] => deps(Room::FULL, formula),
         _ => usage(),
     }
+}
+
+/// A seed, or else 1, and a count, or else the usual one.
+fn seed_and_count(numbers: &[&str], usual: u32) -> Option<(u64, usize)> {
+    let number = |given: &str| given.parse::<u32>().ok();
+    let (seed, count) = match *numbers {
+        [] => (1, usual),
+        [seed] => (number(seed)?, usual),
+        [seed, count] => (number(seed)?, number(count)?),
+        _ => return None,
+    };
+    Some((seed.into(), count as usize))
 }
 
 fn usage() -> ExitCode {
@@ -120,14 +133,41 @@ fn long(words: &str, folder: &str, damage: bool) -> ExitCode {
     ExitCode::SUCCESS
 }
 
+#[cfg(not(proved))]
+fn no_library() -> ExitCode {
+    eprintln!("no static library: make it with 'rt staticlib capi' and build again");
+    ExitCode::FAILURE
+}
+
+/// Has every long-distance step on so many formulas judged by the library and the reference.
+#[cfg(proved)]
+fn saturate_all(seed: u64, formulas: usize) -> ExitCode {
+    let tally = match saturate::saturate(compare::proved_answer, seed, formulas) {
+        Ok(tally) => tally,
+        Err(trouble) => {
+            println!("{trouble}");
+            return ExitCode::FAILURE;
+        }
+    };
+    println!("{tally}{formulas} formulas, no difference, seed {seed}");
+    let faults = tally.faults();
+    if faults.is_empty() {
+        return ExitCode::SUCCESS;
+    }
+    println!("{}", faults.join("\n"));
+    ExitCode::FAILURE
+}
+
+#[cfg(not(proved))]
+fn saturate_all(_: u64, _: usize) -> ExitCode {
+    no_library()
+}
+
 /// Compares the reference with the library, or with itself where only the inputs are of interest.
 fn compare_all(with_library: bool, seed: u64, inputs: usize) -> ExitCode {
     let outcome = if with_library {
         #[cfg(not(proved))]
-        {
-            eprintln!("no static library: make it with 'rt staticlib capi' and build again");
-            return ExitCode::FAILURE;
-        }
+        return no_library();
         #[cfg(proved)]
         compare::compare(compare::proved_answer, seed, inputs)
     } else {

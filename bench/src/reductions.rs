@@ -3,7 +3,7 @@
 //! reference that keeps its last row too. The run on one variable must take less than a quarter of the other.
 
 use crate::generate::{Random, Size, Tables};
-use crate::reference::prefix::Entry;
+use crate::reference::prefix::{places, Entry};
 use crate::reference::program::Room;
 use crate::reference::row::row;
 use crate::reference::steps::{check, Rows};
@@ -97,10 +97,7 @@ fn with_existentials(tables: &Tables) -> Option<Run> {
 /// whose second is leftmost in the prefix.
 fn leftmost(tables: &Tables, asked: impl Fn(&[Entry]) -> bool) -> Option<Run> {
     let entries = tables.entries();
-    let mut places = [0; ROW_BYTES];
-    for (place, entry) in entries.iter().enumerate() {
-        places[entry.variable as usize] = place;
-    }
+    let places = places(&entries);
     let place = |literal: &i32| places[literal.unsigned_abs() as usize];
     let clauses = tables.clauses.split(|&word| word == 0).zip(1..);
     let sorted = clauses.filter_map(|(clause, number)| {

@@ -6,12 +6,13 @@ use std::time::{Duration, Instant};
 
 use crate::generate::derive::long_derivation;
 use crate::generate::long::refutation;
+use crate::generate::proofs::in_family;
 use crate::generate::{Random, Shape, Size, Tables};
 use crate::reference::file::{read_proof, write_proof};
 use crate::reference::play::{evaluate, evaluate_by_words};
 use crate::reference::program::{check_line, dependency_lines, Room};
 use crate::reference::row::{row, row_by_passes};
-use crate::reference::steps::{check, Rows, Verdict};
+use crate::reference::steps::{check, Family, Rows, Verdict};
 use crate::reference::tables::check_tables;
 use crate::reference::text::read;
 use crate::reference::write::write;
@@ -315,7 +316,9 @@ fn time_proof_file(random: &mut Random) {
 }
 
 fn time_checks(random: &mut Random, full: &Tables) {
-    for (name, tables, steps, kinds) in timed_proofs(random, full, MAX_STEP_WORDS) {
+    let plain = timed_proofs(random, full, MAX_STEP_WORDS);
+    let long_distance = long_distance_proofs(&plain, MAX_STEP_WORDS);
+    for (name, tables, steps, kinds) in plain.into_iter().chain(long_distance) {
         time_both_checks(name, &tables, &steps, kinds);
     }
 }
@@ -323,10 +326,11 @@ fn time_checks(random: &mut Random, full: &Tables) {
 /// A proof under its name, with the references that it is timed against.
 type TimedProof = (&'static str, Tables, Vec<i32>, &'static [Rows]);
 
+/// One reduction in so many draws is none.
+const NEVER: usize = u32::MAX as usize;
+
 /// Derivations that fill so many step words but for a few.
 fn timed_proofs(random: &mut Random, full: &Tables, words: usize) -> [TimedProof; 3] {
-    // One reduction in so many draws is none.
-    const NEVER: usize = u32::MAX as usize;
     let shape = Shape {
         variables: 60,
         largest: 60,
@@ -336,9 +340,10 @@ fn timed_proofs(random: &mut Random, full: &Tables, words: usize) -> [TimedProof
         longest: 6,
     };
     let tables = shape.tables(random);
-    let resolutions = long_derivation(random, &tables, words, 14, NEVER);
-    let mixed = long_derivation(random, &tables, words, 14, 2);
-    let few = long_derivation(random, full, words, 20, 200);
+    let plain = Family::Plain;
+    let resolutions = long_derivation(random, &tables, plain, words, 14, NEVER);
+    let mixed = long_derivation(random, &tables, plain, words, 14, 2);
+    let few = long_derivation(random, full, plain, words, 20, 200);
     let name = "resolutions, 1,048,576 step words";
     let every = &[Rows::Kept, Rows::Last, Rows::LastByPasses, Rows::Anew];
     [
@@ -348,6 +353,38 @@ fn timed_proofs(random: &mut Random, full: &Tables, words: usize) -> [TimedProof
             "few reductions, 65,536 clause words",
             full.clone(),
             few,
+            every,
+        ),
+    ]
+}
+
+/// Derivations of the long-distance family: the plain resolutions by its kind, which have no pair; others on the formula
+/// with its universals innermost, so that all may be merged; and reductions between resolutions, with existentials
+/// behind the universals. What is drawn here changes nothing that is drawn for other lines.
+fn long_distance_proofs(plain: &[TimedProof; 3], words: usize) -> [TimedProof; 3] {
+    let random = &mut Random::new(7);
+    let family = Family::LongDistance;
+    let [(_, tables, resolutions, _), ..] = plain;
+    let [mut innermost, mut inner] = [tables.clone(), tables.clone()];
+    innermost.quantify(|place| place >= 25);
+    inner.quantify(|place| (25..50).contains(&place));
+    let merges = long_derivation(random, &innermost, family, words, 20, NEVER);
+    let mixed = long_derivation(random, &inner, family, words, 20, 2);
+    let same = in_family(resolutions, family);
+    let kept = &[Rows::Kept];
+    let every = &[Rows::Kept, Rows::LastByPasses];
+    [
+        (
+            "the first resolutions as kind 3",
+            tables.clone(),
+            same,
+            kept,
+        ),
+        ("resolutions with merges, kind 3", innermost, merges, kept),
+        (
+            "resolutions and reductions, kinds 3 and 4",
+            inner,
+            mixed,
             every,
         ),
     ]
@@ -513,20 +550,53 @@ fn time_lines(full: &Tables) {
 #[cfg(test)]
 mod tests {
     use super::*;
-    use crate::generate::proofs::step_places;
+    use crate::generate::proofs::{numbered, step_places};
+    use crate::pairs::{pairs, signs};
 
     /// None of the derivations is cut short, by an empty clause or otherwise, and each has the words asked for but for a few.
     #[test]
     fn timed_proofs_are_right_to_the_end() {
         let random = &mut Random::new(3);
         let full = full_tables(random);
-        for (name, tables, steps, _) in timed_proofs(random, &full, 200_000) {
+        let plain = timed_proofs(random, &full, 200_000);
+        let long_distance = long_distance_proofs(&plain, 200_000);
+        for (name, tables, steps, _) in plain.into_iter().chain(long_distance) {
             let Tables { prefix, clauses } = &tables;
             let answer = check(prefix, clauses, &steps, 640, 640, 60_000, Rows::Kept);
             let last = tables.count() + step_places(&steps).len();
             assert_eq!(answer, Err(Reason::NoConclusion.at(last)), "{name}");
             assert!(steps.len() + 25 > 200_000, "{name}");
         }
+    }
+
+    /// Of the long-distance lines the first has no pair, the second many and none reduced, the third many that are.
+    #[test]
+    fn timed_pairs() {
+        let random = &mut Random::new(3);
+        let full = full_tables(random);
+        let proofs = long_distance_proofs(&timed_proofs(random, &full, 200_000), 200_000);
+        let [none, merged, reduced] = proofs.map(|(_, tables, steps, _)| {
+            let clauses = numbered(&tables, &steps);
+            let clause = |number: i32| clauses[number as usize - 1];
+            let (mut with_pairs, mut of_both) = (0, 0);
+            for at in step_places(&steps) {
+                match steps[at..] {
+                    [3, i, j, pivot, ..] => {
+                        let found = pairs(clause(i), clause(j), pivot);
+                        with_pairs += usize::from(!found.is_empty());
+                    }
+                    [4, i, literal, ..] => {
+                        let both = signs(clause(i), literal) == [true; 2];
+                        of_both += usize::from(both);
+                    }
+                    _ => panic!("a kind of the other family"),
+                }
+            }
+            (with_pairs, of_both)
+        });
+        assert_eq!(none, (0, 0));
+        assert!(merged.0 > 5000 && merged.1 == 0, "{merged:?}");
+        assert!(reduced.0 > 1000 && reduced.1 > 200, "{reduced:?}");
     }
 
     #[test]

@@ -1,7 +1,8 @@
 //! What inputs draw beyond the numbers of refusals, and must: the word of an entry that is at fault, the words that a
-//! set's variable found left, which of several dependents blocks a reduction, and what `ends` knows of.
+//! set's variable found left, which of several dependents blocks a reduction, and what `ends` and `pairs` know of.
 
 use super::ends::{Proof, AHEAD, ENDS};
+use super::pairs::{self, ALLOWED, ANSWERS, OTHERS, WRONG};
 use crate::generate::proofs::{numbered, step_places};
 use crate::generate::{Case, Tables};
 use crate::reference::file::read_proof;
@@ -46,11 +47,18 @@ const BLOCKED: [&str; 6] = [
 pub fn due(case: &Case) -> Vec<&'static str> {
     match case {
         Case::Read { .. } | Case::DependencyLines { .. } => ROOM.to_vec(),
-        Case::CheckLine { .. } => [&ROOM[..], &BLOCKED, &ENDS, &AHEAD[..2]].concat(),
-        Case::Check { .. } => [&TABLES[..], &BLOCKED, &ENDS, &AHEAD].concat(),
+        Case::CheckLine { .. } => [&ROOM[..], &of_proofs(), &AHEAD[..2]].concat(),
+        Case::Check { .. } => [&TABLES[..], &of_proofs(), &AHEAD].concat(),
         Case::ReadProof { .. } => vec![],
         _ => TABLES.to_vec(),
     }
+}
+
+/// What every entry that checks proofs must draw.
+fn of_proofs() -> Vec<&'static str> {
+    let [plain, long_distance] = &ANSWERS;
+    let of_families = [&plain[..], long_distance, &OTHERS, &ALLOWED, &WRONG];
+    [&BLOCKED[..], &ENDS, &of_families.concat()].concat()
 }
 
 /// What an input draws, the reference having answered with this number.
@@ -110,12 +118,13 @@ fn of_line(formula: &[u8], proof: &[u8], room: &Room, number: usize) -> Vec<&'st
     }
 }
 
-/// How the dependents of a blocked reduction lie, or what stands at the proof's end.
+/// How the dependents of a blocked reduction lie, or what stands at the proof's end; and what `pairs` knows of.
 fn of_proof(proof: &Proof, number: usize) -> Vec<&'static str> {
-    match number {
+    let of_number = match number {
         17 => of_blocked(proof.tables, proof.steps),
         _ => proof.drawn(number),
-    }
+    };
+    [of_number, pairs::drawn(proof, number)].concat()
 }
 
 fn formula_and_steps(formula: &[u8], proof: &[u8], room: &Room) -> Option<(Tables, Vec<i32>)> {
@@ -189,7 +198,7 @@ fn of_blocked(tables: &Tables, steps: &[i32]) -> Vec<&'static str> {
 pub fn dependents(tables: &Tables, steps: &[i32]) -> Vec<Entry> {
     let clauses = numbered(tables, steps);
     let blocked = step_places(steps).into_iter().find_map(|at| {
-        let [2, i, literal, ..] = steps[at..] else {
+        let [2 | 4, i, literal, ..] = steps[at..] else {
             return None;
         };
         let clause = clauses.get(usize::try_from(i).ok()?.checked_sub(1)?)?;

@@ -3,7 +3,7 @@
 
 use crate::generate::proofs::{numbered, step_places};
 use crate::generate::Tables;
-use crate::reference::steps::is_right;
+use crate::reference::steps::{is_right, Family};
 use crate::reference::tables::check_tables;
 
 /// The step that 23 refuses, and acceptance without steps.
@@ -69,7 +69,8 @@ impl Proof<'_> {
             before.is_empty().then_some(ENDS[4]),
             (self.starts <= known.len()).then_some(ENDS[5]),
         ];
-        let step = match is_right(prefix, clauses, known, words) {
+        let family = Family::of_steps(before);
+        let step = match is_right(prefix, clauses, known, words, family) {
             Some(true) => 0,
             Some(false) => 1,
             None if words.len() > 1 => 2,
@@ -113,7 +114,7 @@ mod tests {
             (&[2, 4, 2, 0], 1),
             (&[1, 1, 2, 1, 2, 0], 1),
             (&[2, 3, 2], 2),
-            (&[3, 3, 2, 0], 2),
+            (&[5, 3, 2, 0], 2),
             (&[0], 3),
             (&[2], 3),
         ] {

@@ -2,9 +2,9 @@
 //! clauses to be reduced hold some of them, in any order and under any numbers, beside variables that do not depend
 //! on it.
 
-use super::derive::derivation;
-use super::proofs::{check_case, numbered, step_places};
+use super::proofs::{check_case, numbered, unended, wild_reduction};
 use super::{scratch, Case, Random, Tables};
+use crate::reference::steps::Family;
 use crate::reference::{MAX_VARIABLE, ROW_BYTES};
 
 pub fn blocked_batch(random: &mut Random) -> Vec<Case> {
@@ -34,14 +34,12 @@ pub fn blocked(random: &mut Random) -> (Tables, Vec<i32>) {
     (tables, steps)
 }
 
-/// A few lawful steps, and the reduction of a universal literal of some clause, its result rightly stated or not.
+/// A few lawful steps of either family, and the reduction of a universal literal of some clause, its result rightly
+/// stated or not.
 fn blocked_steps(random: &mut Random, tables: &Tables) -> Vec<i32> {
     let count = random.pick(&[0, 1, 3, 8]);
-    let mut steps = derivation(random, tables, count, 30);
-    if let (Some([]), Some(&last)) = (numbered(tables, &steps).last(), step_places(&steps).last()) {
-        // Behind an empty clause the reduction would not be looked at.
-        steps.truncate(last);
-    }
+    let family = random.pick(&Family::BOTH);
+    let mut steps = unended(random, tables, family, count, 30);
     let clauses = numbered(tables, &steps);
     let universals = tables.universals();
     let choices = [0; 3].map(|_| random.below(clauses.len()));
@@ -54,12 +52,10 @@ fn blocked_steps(random: &mut Random, tables: &Tables) -> Vec<i32> {
         [] => random.pick(&universals),
         _ => random.pick(&held),
     };
-    let mut step = vec![2, at as i32 + 1, reduced];
-    step.extend(clauses[at].iter().filter(|&&l| l != reduced));
-    if random.one_in(6) {
-        step.pop();
+    let mut step = wild_reduction(random, family, (at as i32 + 1, clauses[at]), reduced);
+    if random.one_in(6) && step.len() > 4 {
+        step.remove(3);
     }
-    step.push(0);
     steps.extend(step);
     steps
 }

@@ -1,23 +1,76 @@
-//! Lawful derivations, drawn by resolving and reducing the clauses known so far.
+//! Lawful derivations of either family, drawn by resolving and reducing the clauses known so far; and what the two rules
+//! make of clauses, lawfully or not.
 
 use super::proofs::numbered;
 use super::{Random, Tables};
+use crate::reference::prefix::places;
 use crate::reference::row::{row, Row};
+use crate::reference::steps::Family;
 use crate::reference::tables::check_tables;
 use crate::reference::{ROW_BYTES, SCRATCH_BYTES};
 
+/// The literals of both clauses but for those of the pivot's variable, each once.
+pub fn resolvent(left: &[i32], right: &[i32], pivot: i32) -> Vec<i32> {
+    let mut result = without(left, pivot);
+    for literal in without(right, pivot) {
+        if !result.contains(&literal) {
+            result.push(literal);
+        }
+    }
+    result
+}
+
+/// The clause without either sign of a literal's variable.
+pub fn without(clause: &[i32], literal: i32) -> Vec<i32> {
+    let is_other = |other: &&i32| other.unsigned_abs() != literal.unsigned_abs();
+    clause.iter().filter(is_other).copied().collect()
+}
+
+/// A clause and its number, from 1.
+pub type Numbered<'a> = (i32, &'a [i32]);
+
+/// The resolution of two clauses on a literal of the first, its result stated, lawful or not.
+pub fn resolution(family: Family, [one, other]: [Numbered; 2], literal: i32) -> Vec<i32> {
+    let (i, j) = if literal > 0 {
+        (one.0, other.0)
+    } else {
+        (other.0, one.0)
+    };
+    let mut step = vec![family.resolution(), i, j, literal.wrapping_abs()];
+    step.extend(resolvent(one.1, other.1, literal));
+    step.push(0);
+    step
+}
+
+/// The reduction of a literal, its result stated, lawful or not.
+pub fn reduction(family: Family, (number, clause): Numbered, literal: i32) -> Vec<i32> {
+    let mut step = vec![family.reduction(), number, literal];
+    step.extend(without(clause, literal));
+    step.push(0);
+    step
+}
+
 /// The numbered clauses of a derivation as it grows.
 struct Derivation {
+    family: Family,
     known: Vec<Vec<i32>>,
     steps: Vec<i32>,
     /// The row of each universal variable.
     rows: Vec<Option<Row>>,
+    /// Where each variable stands in the prefix.
+    places: [usize; ROW_BYTES],
 }
 
 /// A lawful derivation of so many steps at most, no clause longer than `longest`. It prefers short
 /// antecedents, and ends with the empty clause; where an input clause is empty it has no steps.
-pub fn derivation(random: &mut Random, tables: &Tables, count: usize, longest: usize) -> Vec<i32> {
-    let mut derivation = Derivation::new(tables);
+pub fn derivation(
+    random: &mut Random,
+    tables: &Tables,
+    family: Family,
+    count: usize,
+    longest: usize,
+) -> Vec<i32> {
+    let mut derivation = Derivation::new(tables, family);
     let mut ended = derivation.known.iter().any(Vec::is_empty);
     let mut tries = 6 * count;
     let mut left = count;
@@ -31,9 +84,41 @@ pub fn derivation(random: &mut Random, tables: &Tables, count: usize, longest: u
     derivation.steps
 }
 
-/// A lawful step behind these, whether or not they have ended; nothing where none was found.
-pub fn next_step(random: &mut Random, tables: &Tables, steps: &[i32], longest: usize) -> Vec<i32> {
-    let mut derivation = Derivation::new(tables);
+/// A lawful derivation by so many tries, three in four of them resolutions, no clause longer than `longest`. Each step
+/// comes to a clause that is new and not empty.
+pub fn varied(
+    random: &mut Random,
+    tables: &Tables,
+    family: Family,
+    tries: usize,
+    longest: usize,
+) -> Vec<i32> {
+    let mut derivation = Derivation::new(tables, family);
+    for _ in 0..tries {
+        let before = derivation.steps.len();
+        let at = random.below(derivation.known.len());
+        let found = match random.below(4) {
+            0 => derivation.try_reduction(random, at),
+            _ => derivation.try_resolution(random, at, longest),
+        };
+        if found && !derivation.has_news() {
+            derivation.known.pop();
+            derivation.steps.truncate(before);
+        }
+    }
+    derivation.steps
+}
+
+/// A step of this family behind these, of whichever family they are, and whether or not they have ended, that is lawful
+/// but for that; nothing where none was found.
+pub fn next_step(
+    random: &mut Random,
+    tables: &Tables,
+    family: Family,
+    steps: &[i32],
+    longest: usize,
+) -> Vec<i32> {
+    let mut derivation = Derivation::new(tables, family);
     let known = numbered(tables, steps).into_iter();
     derivation.known = known.map(<[i32]>::to_vec).collect();
     let mut tries = 30;
@@ -49,15 +134,17 @@ pub fn next_step(random: &mut Random, tables: &Tables, steps: &[i32], longest: u
 pub fn long_derivation(
     random: &mut Random,
     tables: &Tables,
+    family: Family,
     words: usize,
     longest: usize,
     one_reduction_in: usize,
 ) -> Vec<i32> {
-    let mut derivation = Derivation::new(tables);
+    let mut derivation = Derivation::new(tables, family);
     while derivation.steps.len() + longest + 5 <= words {
         let at = random.below(derivation.known.len());
-        if derivation.known[at].len() < 2 {
-            // A longer clause keeps a literal whatever it is resolved with.
+        let clause = &derivation.known[at];
+        if without(clause, *clause.first().unwrap_or(&0)).is_empty() {
+            // A clause of two variables keeps a literal whatever it is resolved with.
             continue;
         }
         if random.one_in(one_reduction_in) {
@@ -70,7 +157,7 @@ pub fn long_derivation(
 }
 
 impl Derivation {
-    fn new(tables: &Tables) -> Derivation {
+    fn new(tables: &Tables, family: Family) -> Derivation {
         let count = check_tables(&tables.prefix, &tables.clauses).map_or(0, |c| c.clauses);
         let known = tables.clauses.split(|&word| word == 0).take(count);
         let mut rows = vec![None; ROW_BYTES];
@@ -86,10 +173,23 @@ impl Derivation {
             rows[variable as usize] = row.ok();
         }
         Derivation {
+            family,
             known: known.map(|clause| clause.to_vec()).collect(),
             steps: Vec::new(),
             rows,
+            places: places(&tables.entries()),
         }
+    }
+
+    /// Whether the last clause is not empty and not one of those before it.
+    fn has_news(&self) -> bool {
+        let Some((last, before)) = self.known.split_last() else {
+            return false;
+        };
+        let same = |other: &Vec<i32>| {
+            other.len() == last.len() && other.iter().all(|literal| last.contains(literal))
+        };
+        !last.is_empty() && !before.iter().any(same)
     }
 
     fn try_step(&mut self, random: &mut Random, longest: usize) -> bool {
@@ -120,10 +220,18 @@ impl Derivation {
             return false;
         }
         let reduced = random.pick(&free);
-        let mut result = clause.clone();
-        result.retain(|&literal| literal != reduced);
-        self.push(random, &[2, at as i32 + 1, reduced], result);
+        let result = without(clause, reduced);
+        let head = [self.family.reduction(), at as i32 + 1, reduced];
+        self.push(random, &head, result);
         true
+    }
+
+    /// Whether one antecedent may hold this literal and the other its opposite.
+    fn may_oppose(&self, literal: i32, pivot: i32) -> bool {
+        let [variable, pivot] = [literal, pivot].map(|l| l.unsigned_abs() as usize);
+        self.family == Family::LongDistance
+            && self.rows[variable].is_some()
+            && self.places[variable] > self.places[pivot]
     }
 
     /// Resolves the clause with some other on some existential literal.
@@ -143,20 +251,17 @@ impl Derivation {
         else {
             return false;
         };
-        let mut result: Vec<i32> = clause.iter().copied().filter(|&l| l != pivot).collect();
-        for &literal in self.known[other].iter().filter(|&&l| l != -pivot) {
-            if result.contains(&-literal) {
-                return false;
-            }
-            if !result.contains(&literal) {
-                result.push(literal);
-            }
+        let mut added = self.known[other].iter().filter(|&&l| l != -pivot);
+        if added.any(|&l| clause.contains(&-l) && !self.may_oppose(l, pivot)) {
+            return false;
         }
+        let result = resolvent(clause, &self.known[other], pivot);
         if result.len() > longest {
             return false;
         }
         let (i, j) = if pivot > 0 { (at, other) } else { (other, at) };
-        let head = [1, i as i32 + 1, j as i32 + 1, pivot.abs()];
+        let [i, j] = [i, j].map(|place| place as i32 + 1);
+        let head = [self.family.resolution(), i, j, pivot.abs()];
         self.push(random, &head, result);
         true
     }

@@ -3,14 +3,16 @@
 use super::chains::{chain, reductions, Order};
 use super::derive::long_derivation;
 use super::ends::{edge_ends, filled};
-use super::lines::{edge_end_lines, edge_lines};
+use super::lines::{edge_end_lines, edge_lines, edge_pair_lines};
+use super::pairs::edge_pairs;
 use super::prefixes::{edge_prefixes, edge_sets, every_room, full_prefix, small_prefixes};
-use super::proofs::numbered;
+use super::proofs::{in_family, numbered};
 use super::scratch::{self, edge_scratch};
 use super::texts::{spell, tokens};
 use super::{push_clause, Case, Random, Shape, Size, Tables};
 use crate::reference::file::write_proof;
 use crate::reference::program::Room;
+use crate::reference::steps::Family;
 use crate::reference::{
     MAX_CLAUSES, MAX_CLAUSE_WORDS, MAX_PREFIX_WORDS, MAX_STEP_WORDS, MAX_TEXT, ROW_BYTES,
     SCRATCH_BYTES, SMALL_SCRATCH_BYTES,
@@ -43,6 +45,8 @@ pub fn edges(random: &mut Random) -> Vec<Case> {
     cases.extend(edge_ends());
     cases.extend(edge_lines(random));
     cases.extend(edge_end_lines(random));
+    cases.extend(edge_pairs());
+    cases.extend(edge_pair_lines(random));
     cases
 }
 
@@ -207,16 +211,18 @@ fn edge_texts() -> Vec<Case> {
         .collect()
 }
 
-/// Rows and reductions on long chains, without a dependent, and with a clause more that makes all of the chain
-/// depend on the first universal.
+/// Rows and reductions, of the two families by turns, on long chains, without a dependent, and with a clause more that
+/// makes all of the chain depend on the first universal.
 fn edge_chains(random: &mut Random) -> Vec<Case> {
     let mut cases = Vec::new();
+    let mut families = Family::BOTH;
     for order in [Order::Near, Order::Far, Order::Shuffled, Order::Zigzag] {
+        families.reverse();
         let free = chain(random, 124, 900, order);
         let mut bound = free.clone();
         bound.clauses.extend([1, -1024, 0]);
-        for tables in [free, bound] {
-            let steps = reductions(&tables, 6);
+        for (tables, family) in [free, bound].into_iter().zip(families) {
+            let steps = in_family(&reductions(&tables, 6), family);
             for scratch_room in [SMALL_SCRATCH_BYTES, SCRATCH_BYTES] {
                 let starts_room = tables.count() + 6;
                 cases.push(scratch::check_case(
@@ -251,6 +257,10 @@ fn edge_proofs(random: &mut Random) -> Vec<Case> {
     let mut wrong = right.clone();
     wrong[MAX_STEP_WORDS - 2] = -2;
     let count = numbered(&tables, &right).len();
+    for steps in [&right, &wrong].map(|steps| in_family(steps, Family::LongDistance)) {
+        let check = |scratch| scratch::check_case(&tables, &steps, scratch, count);
+        cases.push(check(SCRATCH_BYTES));
+    }
     for steps in [right, over, wrong] {
         let check = |scratch, starts| scratch::check_case(&tables, &steps, scratch, starts);
         for starts_room in [MAX_STEP_WORDS, count, count - 1, 2] {
@@ -264,14 +274,11 @@ fn edge_proofs(random: &mut Random) -> Vec<Case> {
     shape.longest = 9;
     shape.clauses = 6000;
     let tables = shape.tables(random);
-    let steps = long_derivation(random, &tables, 60_000, 30, 12);
-    for scratch_room in [SMALL_SCRATCH_BYTES, SCRATCH_BYTES] {
-        cases.push(scratch::check_case(
-            &tables,
-            &steps,
-            scratch_room,
-            MAX_CLAUSES + 15_000,
-        ));
+    for family in Family::BOTH {
+        let steps = long_derivation(random, &tables, family, 60_000, 30, 12);
+        let starts = MAX_CLAUSES + 15_000;
+        let check = |scratch| scratch::check_case(&tables, &steps, scratch, starts);
+        cases.extend([SMALL_SCRATCH_BYTES, SCRATCH_BYTES].map(check));
     }
     cases
 }

@@ -2,10 +2,11 @@
 //! what is refused ahead of such words.
 
 use super::derive::{derivation, next_step};
-use super::proofs::{check_case, numbered, step_places, wild_step};
+use super::proofs::{check_case, family_behind, in_family, numbered, wild_step};
 use super::scratch::{self, refused_tables, ROOMS, SHORT};
 use super::tables::{damaged_tables, odd_word};
 use super::{Case, Random, Shape, Tables};
+use crate::reference::steps::Family;
 use crate::reference::{MAX_STEP_WORDS, SCRATCH_BYTES};
 
 const LONGEST: usize = 16;
@@ -45,7 +46,8 @@ pub fn ended(random: &mut Random) -> (Tables, Vec<i32>) {
                 insert_empty(random, &mut tables.clauses);
             }
         }
-        let steps = derivation(random, &tables, 60, LONGEST);
+        let family = random.pick(&Family::BOTH);
+        let steps = derivation(random, &tables, family, 60, LONGEST);
         let has_ended = |clause: &&[i32]| clause.is_empty();
         if numbered(&tables, &steps).iter().any(has_ended) {
             return (tables, steps);
@@ -60,12 +62,13 @@ fn insert_empty(random: &mut Random, clauses: &mut Vec<i32>) {
     clauses.insert(random.pick(&places), 0);
 }
 
-/// The steps, and behind them a right step, another, a broken one, a lone word, or more than one step.
+/// The steps, and behind them a right step, another, a broken one, one of the other family, a lone word, or more than one
+/// step.
 pub fn gone_on(random: &mut Random, tables: &Tables, steps: &[i32]) -> Vec<i32> {
-    let derived = step_places(steps).len();
+    let family = family_behind(random, steps);
     let mut words = match random.below(3) {
-        0 => wild_step(random, tables, derived),
-        _ => next_step(random, tables, steps, LONGEST),
+        0 => wild_step(random, tables, steps),
+        _ => next_step(random, tables, family, steps, LONGEST),
     };
     match random.below(7) {
         0 => words = vec![odd_word(random)],
@@ -74,10 +77,10 @@ pub fn gone_on(random: &mut Random, tables: &Tables, steps: &[i32]) -> Vec<i32> 
         }
         2 => {
             if let Some(kind) = words.first_mut() {
-                *kind = random.pick(&[0, 3, -1, i32::MIN]);
+                *kind = random.pick(&[0, 5, -1, i32::MIN]);
             }
         }
-        3 => words.extend(wild_step(random, tables, derived + 1)),
+        3 => words.extend(wild_step(random, tables, &[steps, &words].concat())),
         _ => {}
     }
     [steps, &words].concat()
@@ -119,7 +122,8 @@ pub fn edge_ends() -> Vec<Case> {
     cases
 }
 
-/// Refutations of one step and of two, and formulas with an empty clause first, last and alone.
+/// Refutations of one step and of two by either family, formulas with an empty clause first, last and alone, and a pair
+/// merged and reduced.
 pub fn short_ends() -> Vec<(Tables, Vec<i32>)> {
     let ends: [(&[i32], &[i32]); 5] = [
         (&[1, 0, -1, 0, 2, 0], &[1, 1, 2, 1, 0]),
@@ -129,13 +133,19 @@ pub fn short_ends() -> Vec<(Tables, Vec<i32>)> {
         (&[0], &[]),
     ];
     let tables = |clauses: &[i32]| Tables::new(&[1, -2], clauses.to_vec());
-    ends.map(|(clauses, steps)| (tables(clauses), steps.to_vec()))
-        .to_vec()
+    let of_family =
+        |family| ends.map(|(clauses, steps)| (tables(clauses), in_family(steps, family)));
+    let merged = Tables::new(&[1, -2], vec![1, 2, 0, -1, -2, 0]);
+    let of_both = vec![3, 1, 2, 1, 2, -2, 0, 4, 3, -2, 0];
+    let mut all = Family::BOTH.map(of_family).concat();
+    all.push((merged, of_both));
+    all
 }
 
-/// The steps of a short end with nothing behind them, and with lone words, right steps, broken ones and wrong ones.
+/// The steps of a short end with nothing behind them, and with lone words, right steps of either family, broken ones and
+/// wrong ones.
 pub fn with_each_tail(steps: &[i32]) -> Vec<Vec<i32>> {
-    let tails: [&[i32]; 9] = [
+    let tails: [&[i32]; 12] = [
         &[],
         &[0],
         &[9],
@@ -143,7 +153,10 @@ pub fn with_each_tail(steps: &[i32]) -> Vec<Vec<i32>> {
         &[1, 1, 2, 1, 0],
         &[2, 3, 2, 0],
         &[2, 3, 2],
-        &[3, 1, 2, 0],
+        &[3, 1, 2, 1, 0],
+        &[4, 3, 2, 0],
+        &[4, 3, 2],
+        &[5, 1, 2, 0],
         &[2, 9, 2, 0],
     ];
     tails.map(|tail| [steps, tail].concat()).to_vec()

@@ -4,20 +4,26 @@
 use super::blocked::blocked;
 use super::ends::{ended, filled, gone_on, short_ends, with_each_tail};
 use super::files::{damage_file, note};
+use super::pairs::{paired, short_pairs};
 use super::prefixes::prefix_room;
-use super::proofs::{damage_steps, lawful, step_places};
+use super::proofs::{damage_steps, in_family, lawful, numbered, step_places};
 use super::tables::{damaged_tables, room};
 use super::texts::{damage_bytes, damage_tokens, spell, tokens};
 use super::{Case, Random, Tables};
 use crate::reference::file::write_proof;
 use crate::reference::program::{check_line, dependency_lines, printed, Room, LINES_BYTES};
+use crate::reference::steps::Family;
 use crate::reference::write::write;
 use crate::reference::{MAX_STEP_WORDS, MAX_TEXT, SCRATCH_BYTES, SMALL_SCRATCH_BYTES};
 
+/// The bytes that hold every line of the first program.
+const LONGEST_LINE: usize = 160;
+
 pub fn line_batch(random: &mut Random) -> Vec<Case> {
-    let (tables, steps) = match random.below(6) {
+    let (tables, steps) = match random.below(8) {
         0 | 1 => blocked(random),
         2 => ended(random),
+        3 | 4 => paired(random),
         _ => lawful(random),
     };
     let mut cases = Vec::new();
@@ -128,7 +134,10 @@ pub fn edge_lines(random: &mut Random) -> Vec<Case> {
     for words in [16_384, 16_388, MAX_STEP_WORDS, MAX_STEP_WORDS + 4] {
         let (tables, mut steps) = filled(words);
         let formula = write(&tables.prefix, &tables.clauses, MAX_TEXT).unwrap_or_default();
-        pairs.push((formula.clone(), write_proof(b"", &steps, 3)));
+        for family in Family::BOTH {
+            let proof = write_proof(b"", &in_family(&steps, family), 3);
+            pairs.push((formula.clone(), proof));
+        }
         steps[words - 2] = -2;
         pairs.push((formula, write_proof(b"", &steps, 3)));
         // Ended at once, and words up to the bound behind it.
@@ -155,35 +164,57 @@ pub fn edge_lines(random: &mut Random) -> Vec<Case> {
     cases
 }
 
-/// Short proofs that have ended, with words of each kind behind them: with all the room they need, without a start for the
-/// last input clause or for a step behind the empty clause, and with little scratch.
+/// Short proofs that have ended, with words of each kind behind them.
 pub fn edge_end_lines(random: &mut Random) -> Vec<Case> {
     let mut cases = Vec::new();
     for (tables, steps) in short_ends() {
-        let Tables { prefix, clauses } = &tables;
-        let formula = write(prefix, clauses, MAX_TEXT).unwrap_or_default();
-        let inputs = tables.count();
-        let last = inputs + step_places(&steps).len();
+        let last = numbered(&tables, &steps).len();
         for words in with_each_tail(&steps) {
-            let proof = write_proof(b"", &words, inputs as u32);
-            for (scratch, starts) in [
-                (SCRATCH_BYTES, last + 1),
-                (SCRATCH_BYTES, last),
-                (SCRATCH_BYTES, inputs - 1),
-                (SCRATCH_BYTES - 1, last + 1),
-            ] {
-                let room = Room {
-                    file: usize::MAX,
-                    prefix: prefix.len(),
-                    clauses: clauses.len(),
-                    steps: words.len(),
-                    scratch,
-                    starts,
-                };
-                cases.push(check_case(random, &formula, &proof, room));
-            }
+            cases.extend(in_short_rooms(random, &tables, &words, last));
         }
     }
+    cases
+}
+
+/// Short proofs about pairs.
+pub fn edge_pair_lines(random: &mut Random) -> Vec<Case> {
+    let (tables, proofs) = short_pairs();
+    let mut cases = Vec::new();
+    for steps in proofs {
+        let last = numbered(&tables, &steps).len() - 1;
+        cases.extend(in_short_rooms(random, &tables, &steps, last));
+    }
+    cases
+}
+
+/// A proof with all the room it needs, for its line too; and with a line that may not fit, without a start for the last
+/// input clause or for a clause behind the one of this number, and with little scratch.
+fn in_short_rooms(random: &mut Random, tables: &Tables, words: &[i32], last: usize) -> Vec<Case> {
+    let Tables { prefix, clauses } = tables;
+    let formula = write(prefix, clauses, MAX_TEXT).unwrap_or_default();
+    let inputs = tables.count();
+    let proof = write_proof(b"", words, inputs as u32);
+    let rooms = [
+        (SCRATCH_BYTES, last + 1),
+        (SCRATCH_BYTES, last),
+        (SCRATCH_BYTES, inputs - 1),
+        (SCRATCH_BYTES - 1, last + 1),
+    ];
+    let room = |(scratch, starts)| Room {
+        file: usize::MAX,
+        prefix: prefix.len(),
+        clauses: clauses.len(),
+        steps: words.len(),
+        scratch,
+        starts,
+    };
+    let mut cases = vec![Case::CheckLine {
+        formula: formula.clone(),
+        proof: proof.clone(),
+        room: room(rooms[0]),
+        line_room: LONGEST_LINE,
+    }];
+    cases.extend(rooms.map(|lent| check_case(random, &formula, &proof, room(lent))));
     cases
 }
 

@@ -1,8 +1,10 @@
 //! Lengths of the scratch, about what each of the two sizes asks for; and tables that are refused, a row and a proof with
 //! each of these lengths.
 
+use super::proofs::in_family;
 use super::{Case, Random, Size, Tables};
 use crate::reference::prefix::records;
+use crate::reference::steps::Family;
 use crate::reference::{ROW_BYTES, SCRATCH_BYTES, SMALL_SCRATCH_BYTES};
 
 /// None, one byte, a bit for each variable, what either size asks for, and those next to them.
@@ -43,14 +45,14 @@ pub fn room_for_damaged(random: &mut Random) -> usize {
 }
 
 /// Tables refused in each way, and tables of a right refutation, with every length: rows of a universal, of another
-/// variable and with a short row; proofs with and without starts.
+/// variable and with a short row; proofs of either family with and without starts.
 pub fn edge_scratch() -> Vec<Case> {
     let mut cases = Vec::new();
     for tables in refused_tables() {
         for scratch_room in ROOMS {
             cases.push(row_case(&tables, 2, ROW_BYTES, scratch_room));
             cases.push(row_case(&tables, 1, 0, scratch_room));
-            cases.push(check_case(&tables, &[3], scratch_room, 9));
+            cases.push(check_case(&tables, &[5], scratch_room, 9));
             cases.push(check_case(&tables, &[], scratch_room, 0));
         }
     }
@@ -62,8 +64,13 @@ pub fn edge_scratch() -> Vec<Case> {
             cases.push(row_case(&tables, variable, row_room, scratch_room));
         }
         for starts_room in [6, 7, 5, 4, 3, 0] {
-            cases.push(check_case(&tables, &refutation, scratch_room, starts_room));
-            cases.push(check_case(&tables, &blocked, scratch_room, starts_room));
+            for family in Family::BOTH {
+                let check = |steps: &[i32]| {
+                    let steps = in_family(steps, family);
+                    check_case(&tables, &steps, scratch_room, starts_room)
+                };
+                cases.extend([check(&refutation), check(&blocked)]);
+            }
         }
     }
     cases

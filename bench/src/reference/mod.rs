@@ -13,6 +13,8 @@ pub mod text;
 pub mod write;
 
 #[cfg(test)]
+mod long_distance;
+#[cfg(test)]
 mod positions;
 
 pub const MAX_VARIABLE: usize = 1024;

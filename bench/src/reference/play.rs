@@ -1,7 +1,7 @@
 //! The game of a small formula, played in full: every position is settled from the two after it, and a
 //! position with nothing left to set from the clauses.
 
-use super::prefix::{entries, Entry, Quantifier};
+use super::prefix::{entries, places, Entry, Quantifier};
 use super::tables::check_tables;
 use super::{Reason, Refusal, MAX_PLAYED, ROW_BYTES};
 
@@ -11,10 +11,7 @@ pub fn evaluate(prefix: &[i32], clauses: &[i32]) -> Result<bool, Refusal> {
         entries: played(prefix, clauses)?,
         clauses: Vec::new(),
     };
-    let mut depth_of = [0; ROW_BYTES];
-    for (depth, entry) in game.entries.iter().enumerate() {
-        depth_of[entry.variable as usize] = depth;
-    }
+    let depth_of = places(&game.entries);
     let mut masks = Masks::default();
     for &word in clauses {
         let bit = 1 << depth_of[word.unsigned_abs() as usize];

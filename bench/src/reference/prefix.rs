@@ -1,6 +1,6 @@
 //! The prefix as a table of records, from outermost to innermost: an entry is three words, variable, quantifier
 //! (1 existential, 2 universal) and block. Here: the entries of an admitted table, which quantifier binds each
-//! variable, and the table of variables given in short, v existential and -v universal.
+//! variable and where it stands, and the table of variables given in short, v existential and -v universal.
 
 use super::ROW_BYTES;
 
@@ -77,6 +77,15 @@ pub fn bindings(entries: &[Entry]) -> [Option<Quantifier>; ROW_BYTES] {
     bindings
 }
 
+/// Where each variable number, from 0, stands among the entries; 0 for those that are not bound.
+pub fn places(entries: &[Entry]) -> [usize; ROW_BYTES] {
+    let mut places = [0; ROW_BYTES];
+    for (place, entry) in entries.iter().enumerate() {
+        places[entry.variable as usize] = place;
+    }
+    places
+}
+
 #[cfg(test)]
 mod tests {
     use super::*;
@@ -94,5 +103,6 @@ mod tests {
         let bindings = bindings(&entries);
         let bound = [9, 7, 8, 1024, 1].map(|v: usize| bindings[v].map(|q| q as i32));
         assert_eq!(bound, [Some(2), Some(2), Some(1), Some(2), None]);
+        assert_eq!([9, 7, 8, 1024].map(|v| places(&entries)[v]), [0, 1, 2, 3]);
     }
 }

@@ -1,10 +1,57 @@
 //! The check of a proof on tables and step words. A step's result is built by marks, one for each
 //! literal, and ticked off against what the step states; no mark is ever wiped, each step has its own.
+//! Steps come in two families, and a proof is of one of them.
 
-use super::prefix::{bindings, entries, Entry, Quantifier};
+use super::prefix::{bindings, entries, places, Entry, Quantifier};
 use super::row::{made_by_passes, Occurrences, Row};
 use super::tables::{check_tables, Counts};
 use super::{literal_index, Reason, Refusal, LITERALS, MAX_STEP_WORDS, MAX_VARIABLE, ROW_BYTES};
+
+/// Kinds 1 and 2 make up one family and 3 and 4 the other, the resolution first and then the reduction. The family of a
+/// proof is that of its first step.
+#[derive(Clone, Copy, Debug, PartialEq, Eq)]
+pub enum Family {
+    Plain,
+    LongDistance,
+}
+
+impl Family {
+    pub const BOTH: [Family; 2] = [Family::Plain, Family::LongDistance];
+
+    /// The family of a kind of step; none for any other word.
+    pub fn of(kind: i32) -> Option<Family> {
+        match kind {
+            1 | 2 => Some(Family::Plain),
+            3 | 4 => Some(Family::LongDistance),
+            _ => None,
+        }
+    }
+
+    /// The family that the first of these steps fixes.
+    pub fn of_steps(steps: &[i32]) -> Option<Family> {
+        Family::of(*steps.first()?)
+    }
+
+    pub fn other(self) -> Family {
+        match self {
+            Family::Plain => Family::LongDistance,
+            Family::LongDistance => Family::Plain,
+        }
+    }
+
+    /// The kind of this family's resolutions.
+    pub fn resolution(self) -> i32 {
+        match self {
+            Family::Plain => 1,
+            Family::LongDistance => 3,
+        }
+    }
+
+    /// The kind of this family's reductions.
+    pub fn reduction(self) -> i32 {
+        self.resolution() + 1
+    }
+}
 
 #[derive(Clone, Copy, Debug, PartialEq, Eq)]
 pub struct Verdict {
@@ -77,13 +124,15 @@ pub fn check(
         return Err(Reason::NoRoom.at(starts_room + 1));
     }
     let mut run = Run::new(prefix, clauses, steps, counts, rows);
+    let family = Family::of_steps(steps);
     let mut at = 0;
     while at < steps.len() {
         let number = run.known.len() + 1;
         if run.empty.is_some() {
             return Err(Reason::Afterword.at(number));
         }
-        let (step, next) = Step::parse(steps, at).ok_or(Reason::BrokenStep.at(number))?;
+        let parsed = Step::parse(steps, at, family);
+        let (step, next) = parsed.ok_or(Reason::BrokenStep.at(number))?;
         if starts_room < number {
             return Err(Reason::NoRoom.at(number));
         }
@@ -101,14 +150,17 @@ pub fn check(
 }
 
 /// Whether the first step of these words is right behind these numbered clauses of admitted tables, be one of them empty or
-/// not; none where the step is broken. Tells apart what stands behind an empty clause.
+/// not, in a proof of this family, or of either; none where the step is broken or of the other family. Tells apart what
+/// stands behind an empty clause.
 pub fn is_right<'a>(
     prefix: &[i32],
     clauses: &'a [i32],
     known: Vec<&'a [i32]>,
     words: &'a [i32],
+    family: Option<Family>,
 ) -> Option<bool> {
-    let (step, _) = Step::parse(words, 0)?;
+    let family = family.or_else(|| Family::of_steps(words));
+    let (step, _) = Step::parse(words, 0, family)?;
     let counts = check_tables(prefix, clauses).ok()?;
     let mut run = Run::new(prefix, clauses, words, counts, Rows::Kept);
     run.known = known;
@@ -121,21 +173,27 @@ enum Rule {
 }
 
 struct Step<'a> {
+    family: Family,
     rule: Rule,
     stated: &'a [i32],
 }
 
 impl<'a> Step<'a> {
-    /// The step at this word and the place of the next; none where it is broken.
-    fn parse(words: &'a [i32], at: usize) -> Option<(Step<'a>, usize)> {
+    /// The step at this word and the place of the next; none where it is broken or not of the proof's family.
+    fn parse(words: &'a [i32], at: usize, proof: Option<Family>) -> Option<(Step<'a>, usize)> {
+        let family = Family::of(words[at]).filter(|own| Some(*own) == proof)?;
         let (rule, rest) = match words[at..] {
-            [1, i, j, pivot, ..] => (Rule::Resolve { i, j, pivot }, at + 4),
-            [2, i, literal, ..] => (Rule::Reduce { i, literal }, at + 3),
+            [1 | 3, i, j, pivot, ..] => (Rule::Resolve { i, j, pivot }, at + 4),
+            [2 | 4, i, literal, ..] => (Rule::Reduce { i, literal }, at + 3),
             _ => return None,
         };
         let length = words[rest..].iter().position(|&word| word == 0)?;
-        let stated = &words[rest..rest + length];
-        Some((Step { rule, stated }, rest + length + 1))
+        let step = Step {
+            family,
+            rule,
+            stated: &words[rest..rest + length],
+        };
+        Some((step, rest + length + 1))
     }
 }
 
@@ -174,9 +232,15 @@ impl Fault {
     }
 }
 
+/// The marks of a step: for the literals of the left antecedent, or of the one that is reduced; for those of the right
+/// alone; and for those ticked off.
+const MARKS: u32 = 3;
+
 struct Run<'a> {
     entries: Vec<Entry>,
     bindings: [Option<Quantifier>; ROW_BYTES],
+    /// Where each variable stands in the prefix, from the left.
+    places: [usize; ROW_BYTES],
     clauses: &'a [i32],
     occurrences: Occurrences<'a>,
     shelf: Shelf,
@@ -199,6 +263,7 @@ impl<'a> Run<'a> {
         let entries = entries(prefix);
         let mut run = Run {
             bindings: bindings(&entries),
+            places: places(&entries),
             entries,
             clauses,
             occurrences: Occurrences::of(clauses, counts),
@@ -223,11 +288,11 @@ impl<'a> Run<'a> {
     }
 
     fn judge(&mut self, step: &Step) -> Result<(), Fault> {
-        self.mark += 2;
+        self.mark += MARKS;
         let size = match step.rule {
             Rule::Resolve { i, j, pivot } => {
                 let (left, right) = (self.antecedent(i)?, self.antecedent(j)?);
-                self.resolve(left, right, pivot)?
+                self.resolve(left, right, pivot, step.family)?
             }
             Rule::Reduce { i, literal } => {
                 let clause = self.antecedent(i)?;
@@ -252,42 +317,65 @@ impl<'a> Run<'a> {
         *self.bindings.get(variable)?
     }
 
-    /// Marks the resolvent and counts its literals.
-    fn resolve(&mut self, left: &[i32], right: &[i32], pivot: i32) -> Result<usize, Reason> {
+    /// Whether one antecedent may hold this literal and the other its opposite.
+    fn may_oppose(&self, literal: i32, pivot: i32, family: Family) -> bool {
+        let place = |literal: i32| self.places[literal.unsigned_abs() as usize];
+        family == Family::LongDistance
+            && self.binding(literal) == Some(Quantifier::Universal)
+            && place(literal) > place(pivot)
+    }
+
+    /// Gives the literals of a clause that stay the step's first mark, and counts them.
+    fn mark(&mut self, clause: &[i32], stays: impl Fn(i32) -> bool) -> usize {
+        let mut size = 0;
+        for &literal in clause.iter().filter(|&&literal| stays(literal)) {
+            self.marks[literal_index(literal)] = self.mark;
+            size += 1;
+        }
+        size
+    }
+
+    /// Marks the resolvent and counts its literals. What the left antecedent holds has a mark of its own, so that a pair
+    /// that the right one holds whole is none that opposes the left.
+    fn resolve(
+        &mut self,
+        left: &[i32],
+        right: &[i32],
+        pivot: i32,
+        family: Family,
+    ) -> Result<usize, Reason> {
         if pivot <= 0 || self.binding(pivot) != Some(Quantifier::Existential) {
             return Err(Reason::WrongPivot);
         }
-        let mark = self.mark;
-        let (mut left_holds, mut right_holds) = (false, false);
-        let (mut size, mut tautology) = (0, false);
-        for &literal in left {
-            if literal == pivot {
-                left_holds = true;
-            } else {
-                self.marks[literal_index(literal)] = mark;
-                size += 1;
-            }
-        }
+        let (of_left, of_right) = (self.mark, self.mark + 1);
+        let mut size = self.mark(left, |literal| literal != pivot);
+        let left_holds = size < left.len();
+        let (mut right_holds, mut allowed) = (false, true);
         for &literal in right {
             if literal == -pivot {
                 right_holds = true;
                 continue;
             }
-            tautology |= self.marks[literal_index(-literal)] == mark;
+            if self.marks[literal_index(-literal)] == of_left {
+                allowed &= self.may_oppose(literal, pivot, family);
+            }
             let own = &mut self.marks[literal_index(literal)];
-            size += usize::from(*own != mark);
-            *own = mark;
+            if *own != of_left {
+                *own = of_right;
+                size += 1;
+            }
         }
         if !left_holds || !right_holds {
             return Err(Reason::WrongPivot);
         }
-        if tautology {
+        if !allowed {
             return Err(Reason::Tautology);
         }
         Ok(size)
     }
 
-    /// Marks the reduced clause and counts its literals.
+    /// Marks the reduced clause and counts its literals. It holds neither sign of the variable, of which a clause of plain
+    /// steps has one alone.
     fn reduce(&mut self, clause: &[i32], reduced: i32) -> Result<usize, Fault> {
         if self.binding(reduced) != Some(Quantifier::Universal) || !clause.contains(&reduced) {
             return Err(Reason::WrongPivot.into());
@@ -303,15 +391,10 @@ impl<'a> Run<'a> {
         if clause.iter().any(depends) {
             return Err(Fault::blocked(&self.entries, clause, row));
         }
-        for &literal in clause {
-            if literal != reduced {
-                self.marks[literal_index(literal)] = self.mark;
-            }
-        }
-        Ok(clause.len() - 1)
+        Ok(self.mark(clause, |literal| literal != reduced && literal != -reduced))
     }
 
-    /// Whether these are the marked literals, each once. A literal ticked gets the mark's successor.
+    /// Whether these are the marked literals, each once. A literal ticked gets the step's last mark.
     fn states(&mut self, stated: &[i32], size: usize) -> bool {
         stated.len() == size
             && stated.iter().all(|&literal| {
@@ -319,8 +402,8 @@ impl<'a> Run<'a> {
                     return false;
                 }
                 let own = &mut self.marks[literal_index(literal)];
-                let marked = *own == self.mark;
-                *own = self.mark + 1;
+                let marked = *own == self.mark || *own == self.mark + 1;
+                *own = self.mark + MARKS - 1;
                 marked
             })
     }
@@ -457,7 +540,7 @@ mod tests {
             (&[9], Err((13, 4))),
             (&[i32::MIN], Err((13, 4))),
             (&[2, 3, 2], Err((13, 4))),
-            (&[3, 3, 2, 0], Err((13, 4))),
+            (&[5, 3, 2, 0], Err((13, 4))),
             (&[2, 5, 2, 0], Err((14, 4))),
             (&[2, 1, 2, 0], Err((15, 4))),
             (&[2, 3, 2, 1, 0], Err((18, 4))),
@@ -522,13 +605,22 @@ mod tests {
     fn right_steps_wherever_they_stand() {
         let (prefix, clauses) = (records(&[1, -2]), [1, 0, -1, 0, 2, 0]);
         let known = [&[1][..], &[-1], &[2], &[]];
-        let right = |words| is_right(&prefix, &clauses, known.to_vec(), words);
+        let right_in = |words, family| is_right(&prefix, &clauses, known.to_vec(), words, family);
+        let right = |words| right_in(words, None);
         assert_eq!(right(&[1, 1, 2, 1, 0]), Some(true));
         assert_eq!(right(&[2, 3, 2, 0, 9]), Some(true));
         assert_eq!(right(&[2, 4, 2, 0]), Some(false));
         assert_eq!(right(&[2, 3, 2, 1, 0]), Some(false));
         assert_eq!(right(&[2, 3, 2]), None);
         assert_eq!(right(&[9]), None);
+        assert_eq!(right(&[4, 3, 2, 0]), Some(true));
+        for (words, own) in [
+            (&[2, 3, 2, 0], Family::Plain),
+            (&[4, 3, 2, 0], Family::LongDistance),
+        ] {
+            assert_eq!(right_in(words, Some(own)), Some(true));
+            assert_eq!(right_in(words, Some(own.other())), None);
+        }
     }
 
     /// Which of some rows asked for one after the other are made, and that each is the one asked for.
@@ -586,10 +678,11 @@ mod tests {
     fn random_derivations_are_right_and_refute_false_formulas_alone() {
         let mut random = Random::new(11);
         let mut accepted = 0;
-        for _ in 0..4000 {
+        for turn in 0..4000 {
             let tables = Shape::tight(&mut random).tables(&mut random);
             let (prefix, clauses) = (&tables.prefix, &tables.clauses);
-            let steps = derivation(&mut random, &tables, 40, 12);
+            let family = Family::BOTH[turn % 2];
+            let steps = derivation(&mut random, &tables, family, 40, 12);
             let answer = check(prefix, clauses, &steps, 8200, 8200, 9000, Rows::Kept);
             for rows in [Rows::Last, Rows::LastByPasses, Rows::Anew] {
                 let other = check(prefix, clauses, &steps, 8200, 8200, 9000, rows);
