@@ -83,6 +83,11 @@ two_independent : Depends two_reductions 2 2 → ⊥
 unfolding depends member pair reach joined together holds literals existentials after same ℕ_discrete
 two_independent = depends_false two_reductions 2 2 refl
 
+-- What holds of both signs.
+both_signs : (P : Bool → Type 0) → P true → P false → (b : Bool) → P b
+both_signs P t f true = t
+both_signs P t f false = f
+
 three_valid : Valid two_reductions three
 three_valid = (
   Memᴰ.head refl,
@@ -99,17 +104,17 @@ four_valid = (
 
 one_valid : Valid two_reductions one
 one_valid = (
-  λ b. elim b [ true ↦ four_valid | false ↦ Memᴰ.tail (Memᴰ.tail (Memᴰ.head refl)) ],
+  both_signs _ (four_valid) (Memᴰ.tail (Memᴰ.tail (Memᴰ.head refl))),
   Memᴰ.tail (Memᴰ.tail (Memᴰ.tail (Memᴰ.head refl))),
-  λ b. elim b [ true ↦ (Memᴰ.tail (Memᴰ.head refl), λ e. omega arith) | false ↦ Memᴰ.head refl ],
+  both_signs _ ((Memᴰ.tail (Memᴰ.head refl), λ e. omega arith)) (Memᴰ.head refl),
   merges_nothing 4 (Concludes four) (Concludes (leaf (n 4 ∷ p 1 ∷ []))) four_only,
 )
 
 not_one_valid : Valid two_reductions not_one
 not_one_valid = (
-  λ b. elim b [ true ↦ three_valid | false ↦ Memᴰ.tail (Memᴰ.tail (Memᴰ.tail (Memᴰ.head refl))) ],
+  both_signs _ (three_valid) (Memᴰ.tail (Memᴰ.tail (Memᴰ.tail (Memᴰ.head refl)))),
   Memᴰ.tail (Memᴰ.tail (Memᴰ.head refl)),
-  λ b. elim b [ true ↦ (Memᴰ.tail (Memᴰ.head refl), λ e. omega arith) | false ↦ Memᴰ.tail (Memᴰ.head refl) ],
+  both_signs _ ((Memᴰ.tail (Memᴰ.head refl), λ e. omega arith)) (Memᴰ.tail (Memᴰ.head refl)),
   merges_nothing 3 (Concludes three) (Concludes (leaf (n 1 ∷ n 3 ∷ []))) three_only,
 )
 
@@ -119,13 +124,11 @@ differ a b h e = h (ap (λ (l : Literal). l.variable) e)
 
 pub refutation_valid : Valid two_reductions refutation
 refutation_valid = (
-  λ b. elim b [ true ↦ one_valid | false ↦ not_one_valid ],
+  both_signs _ (one_valid) (not_one_valid),
   Memᴰ.head refl,
-  λ b.
-      elim b [
-        | true ↦ (false, Memᴰ.tail (Memᴰ.head refl), differ (p 1) (n 4) (λ e. omega arith))
-        | false ↦ (false, Memᴰ.head refl, differ (n 1) (n 3) (λ e. omega arith))
-      ],
+  both_signs _
+  (false, Memᴰ.tail (Memᴰ.head refl), differ (p 1) (n 4) (λ e. omega arith))
+  (false, Memᴰ.head refl, differ (n 1) (n 3) (λ e. omega arith)),
   merges_nothing 1 (Concludes one) (Concludes not_one) one_only,
 )
 
