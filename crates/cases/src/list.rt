@@ -8,7 +8,7 @@ use caselist::fields::{field, next_field};
 use caselist::words::{first_words, word, words};
 
 // Of a text, how many words its prefix has room for.
-#[derive(Drop)]
+#[derive(Clone, Copy)]
 pub enum Kind {
     Text(usize),
     Tables,

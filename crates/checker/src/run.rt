@@ -13,7 +13,7 @@ use inference::numbered::empty_after;
 use inference::read::family_of;
 
 // How many numbered clauses there are at the end, and which is the first empty one, 0 for none; or the refusal.
-#[derive(Drop)]
+#[derive(Clone, Copy)]
 pub enum Run {
     Ended { numbered: usize, empty: usize },
     Refused(Refusal),

@@ -51,7 +51,7 @@ fn judge_step<'a>(
 }
 
 // Right: where the next step begins, the variable whose row stands in the scratch, 0 for none, and whether the step's clause is empty.
-#[derive(Drop)]
+#[derive(Clone, Copy)]
 pub enum StepAnswer {
     Right {
         next: usize,

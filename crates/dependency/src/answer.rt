@@ -18,7 +18,7 @@ use formula::tables::{TablesAnswer, check_tables_in};
 use formula::word::Word;
 
 // The row was filled, or the refusal.
-#[derive(Drop)]
+#[derive(Clone, Copy)]
 pub enum RowAnswer {
     Filled,
     Refused(Refusal),

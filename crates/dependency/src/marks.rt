@@ -13,7 +13,7 @@ use formula::word::Word;
 pub const VARIABLES: usize = 2_047;
 
 // What is known of a clause's entries, for the search from u and the one from −u.
-#[derive(Drop)]
+#[derive(Clone, Copy)]
 pub struct Seen {
     pub positive: usize,
     pub negative: usize,

@@ -9,7 +9,7 @@ use crate::marks::{reach_word, see_word};
 use formula::word::Word;
 
 // What is known of a clause's entries, for each search, and where the next clause begins if there are none.
-#[derive(Drop)]
+#[derive(Clone, Copy)]
 pub struct ClauseEntries {
     pub positive: usize,
     pub negative: usize,

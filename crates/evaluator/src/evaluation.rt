@@ -12,7 +12,7 @@ use formula::refusal::{Reason, Refusal};
 use formula::tables::{TablesAnswer, check_tables};
 
 // True where the first position is not lost, or the refusal.
-#[derive(Drop)]
+#[derive(Clone, Copy)]
 pub enum Evaluation {
     True,
     False,
@@ -20,10 +20,10 @@ pub enum Evaluation {
 }
 
 // How many variables a game has that is played.
-#[derive(Drop)]
+#[derive(Clone, Copy)]
 pub struct GameLength(pub usize);
 
-#[derive(Drop)]
+#[derive(Clone, Copy)]
 pub enum GameFit {
     Within(GameLength),
     Oversized,

@@ -1,4 +1,5 @@
 // Files for the programs: a file read whole into a buffer or not at all, and bytes printed.
+#![tactic(auto)]
 pub mod reading;
 
 ghost use Rattle.io.specs.Counts.{IsPrefixLen};

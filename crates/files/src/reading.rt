@@ -4,7 +4,7 @@ ghost use Rattle.std.specs.Prelude.{◌≡◌};
 ghost use Rattle.files.specs.Reading.{outcome_of, after_outcome, after_read, placed};
 
 // What a call of `read` came to.
-#[derive(Drop)]
+#[derive(Clone, Copy)]
 pub enum Outcome {
     Moved(usize),
     Interrupted,
@@ -13,7 +13,7 @@ pub enum Outcome {
 
 // How far the reading of a file has come: it goes on at a place with so many tries left for calls that are interrupted, it is
 // whole with so many bytes, or the file is unreadable.
-#[derive(Drop)]
+#[derive(Clone, Copy)]
 pub enum Reading {
     On { at: usize, tries: usize },
     Whole(usize),

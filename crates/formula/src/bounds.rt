@@ -4,10 +4,10 @@ ghost use Rattle.std.specs.Prelude.{◌≡◌};
 ghost use Rattle.formula.specs.Bounds.{text_fit, prefix_fit, matrix_fit, proof_fit, variable_count_fit, clause_count_fit};
 
 // How many bytes a text has.
-#[derive(Drop)]
+#[derive(Clone, Copy)]
 pub struct TextLength(pub usize);
 
-#[derive(Drop)]
+#[derive(Clone, Copy)]
 pub enum TextFit {
     Within(TextLength),
     Oversized,
@@ -29,10 +29,10 @@ impl TextLength {
 }
 
 // How many words a prefix has, three an entry.
-#[derive(Drop)]
+#[derive(Clone, Copy)]
 pub struct PrefixLength(pub usize);
 
-#[derive(Drop)]
+#[derive(Clone, Copy)]
 pub enum PrefixFit {
     Within(PrefixLength),
     Oversized,
@@ -54,10 +54,10 @@ impl PrefixLength {
 }
 
 // How many words a clause table has.
-#[derive(Drop)]
+#[derive(Clone, Copy)]
 pub struct MatrixLength(pub usize);
 
-#[derive(Drop)]
+#[derive(Clone, Copy)]
 pub enum MatrixFit {
     Within(MatrixLength),
     Oversized,
@@ -79,10 +79,10 @@ impl MatrixLength {
 }
 
 // How many words the steps of a proof have.
-#[derive(Drop)]
+#[derive(Clone, Copy)]
 pub struct ProofLength(pub usize);
 
-#[derive(Drop)]
+#[derive(Clone, Copy)]
 pub enum ProofFit {
     Within(ProofLength),
     Oversized,
@@ -104,10 +104,10 @@ impl ProofLength {
 }
 
 // How many variables a prefix lists, or a header announces.
-#[derive(Drop)]
+#[derive(Clone, Copy)]
 pub struct VariableCount(pub usize);
 
-#[derive(Drop)]
+#[derive(Clone, Copy)]
 pub enum VariableCountFit {
     Within(VariableCount),
     Oversized,
@@ -129,10 +129,10 @@ impl VariableCount {
 }
 
 // How many input clauses a table holds, or a header announces.
-#[derive(Drop)]
+#[derive(Clone, Copy)]
 pub struct ClauseCount(pub usize);
 
-#[derive(Drop)]
+#[derive(Clone, Copy)]
 pub enum ClauseCountFit {
     Within(ClauseCount),
     Oversized,

@@ -17,7 +17,7 @@ use scanner::position::Position;
 use scanner::token::{Next, Token, next_token};
 
 // What a token of a clause did, or why it is refused.
-#[derive(Drop)]
+#[derive(Clone, Copy)]
 pub enum ClauseStep {
     Literal,
     Closed,
@@ -25,7 +25,7 @@ pub enum ClauseStep {
 }
 
 // The clause words used, and the text's end.
-#[derive(Drop)]
+#[derive(Clone, Copy)]
 pub enum ClausesAnswer {
     Clauses { used: usize, end: Position },
     Refused(Refusal),

@@ -11,7 +11,7 @@ use crate::literal::{Variable, VariableFit};
 use crate::prefix::{entry_count, entry_words, move_words, number_blocks, put_entry};
 
 // The words of the prefix used when it is completed, or that it has no room for the variables to be added.
-#[derive(Drop)]
+#[derive(Clone, Copy)]
 pub enum Completion {
     Completed(usize),
     NoRoom,

@@ -12,7 +12,7 @@ use scanner::position::Position;
 use scanner::token::{Next, Token, first_token, is_word, next_token};
 
 // What the header wants next: `p`, `cnf`, or a number without minus.
-#[derive(Drop)]
+#[derive(Clone, Copy)]
 pub enum Wanted {
     P,
     Cnf,
@@ -20,21 +20,21 @@ pub enum Wanted {
 }
 
 // The value of a token that is what was wanted, 0 for a word; or it is another.
-#[derive(Drop)]
+#[derive(Clone, Copy)]
 pub enum FieldValue {
     Value(usize),
     Other,
 }
 
 // What was wanted: its value, and the position after it.
-#[derive(Drop)]
+#[derive(Clone, Copy)]
 pub enum FieldAnswer {
     Field { value: usize, next: Position },
     Refused(Refusal),
 }
 
 // V and C, and the position after them.
-#[derive(Drop)]
+#[derive(Clone, Copy)]
 pub enum HeaderAnswer {
     Header {
         variables: VariableCount,

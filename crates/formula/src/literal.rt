@@ -6,11 +6,11 @@ ghost use Rattle.formula.specs.Bounds.{variable_bound, variable_fit, literal_fit
 use crate::word::Word;
 
 // A variable's number, 1 to 1,024.
-#[derive(Drop)]
+#[derive(Clone, Copy)]
 pub struct Variable(pub usize);
 
 // What the constructor of variables answers.
-#[derive(Drop)]
+#[derive(Clone, Copy)]
 pub enum VariableFit {
     Within(Variable),
     Outside,
@@ -50,11 +50,11 @@ impl Variable {
 }
 
 // A clause's number: 1 to C for the input clauses; steps go on from C + 1.
-#[derive(Drop)]
+#[derive(Clone, Copy)]
 pub struct ClauseNumber(pub usize);
 
 // What the constructor of clause numbers answers.
-#[derive(Drop)]
+#[derive(Clone, Copy)]
 pub enum NumberFit {
     Within(ClauseNumber),
     Outside,
@@ -85,11 +85,11 @@ impl ClauseNumber {
 }
 
 // A literal as a word: v for the variable v, −v for its negation.
-#[derive(Drop)]
+#[derive(Clone, Copy)]
 pub struct Literal(pub i32);
 
 // What the constructor of literals answers.
-#[derive(Drop)]
+#[derive(Clone, Copy)]
 pub enum LiteralFit {
     Within(Literal),
     Outside,

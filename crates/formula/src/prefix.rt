@@ -12,7 +12,7 @@ use crate::refusal::Blocker;
 use crate::word::Word;
 
 // A variable with its quantifier.
-#[derive(Drop)]
+#[derive(Clone, Copy)]
 pub enum Entry {
     Existential(Variable),
     Universal(Variable),

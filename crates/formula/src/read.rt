@@ -15,7 +15,7 @@ use crate::sets::{SetsAnswer, read_sets};
 use scanner::position::Position;
 
 // Read: the words used of each table, and C; or the refusal.
-#[derive(Drop)]
+#[derive(Clone, Copy)]
 pub enum ReadAnswer {
     Read {
         prefix_used: usize,

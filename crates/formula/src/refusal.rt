@@ -8,13 +8,13 @@ use crate::literal::Variable;
 use scanner::position::Position;
 
 // What blocks a reduction (02, P6): a variable, and the block of its entry in the prefix.
-#[derive(Drop)]
+#[derive(Clone, Copy)]
 pub struct Blocker {
     pub variable: Variable,
     pub block: usize,
 }
 
-#[derive(Drop)]
+#[derive(Clone, Copy)]
 pub enum Reason {
     Headless,
     Oversized,
@@ -40,7 +40,7 @@ pub enum Reason {
 }
 
 // Bytes and words count from 0; a clause's place is its number. A place in a text has its line and its column, any other has 0 0.
-#[derive(Drop)]
+#[derive(Clone, Copy)]
 pub struct Refusal {
     pub reason: Reason,
     pub place: usize,
@@ -78,7 +78,7 @@ impl Refusal {
 }
 
 // The numbers of a reason: 01's or 02's; of 17, what blocks.
-#[derive(Drop)]
+#[derive(Clone, Copy)]
 pub enum Numbers {
     Alone(u32),
     Blocked(Blocker),

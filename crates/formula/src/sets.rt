@@ -14,7 +14,7 @@ use scanner::position::Position;
 use scanner::token::{Next, Token, is_word, next_token};
 
 // What a token of a set did: listed a variable, so many entries standing then, or closed the set; or why it is refused.
-#[derive(Drop)]
+#[derive(Clone, Copy)]
 pub enum SetStep {
     Listed(usize),
     Closed,
@@ -22,7 +22,7 @@ pub enum SetStep {
 }
 
 // The entries so far, and the position from which to go on.
-#[derive(Drop)]
+#[derive(Clone, Copy)]
 pub enum SetsAnswer {
     Sets { entries: usize, next: Position },
     Refused(Refusal),

@@ -20,28 +20,28 @@ use crate::refusal::{Reason, Refusal};
 use crate::word::Word;
 
 // Admitted, with the number of variables and of clauses; or the refusal.
-#[derive(Drop)]
+#[derive(Clone, Copy)]
 pub enum TablesAnswer {
     Admitted { variables: usize, clauses: usize },
     Refused(Refusal),
 }
 
 // What a part of the check answers.
-#[derive(Drop)]
+#[derive(Clone, Copy)]
 enum Check {
     Passed,
     Refused(Refusal),
 }
 
 // What the check of an entry answers: its quantifier's number and its block, or the refusal.
-#[derive(Drop)]
+#[derive(Clone, Copy)]
 enum EntryCheck {
     Passed { quantifier: usize, block: usize },
     Refused(Refusal),
 }
 
 // What the check of one clause answers: the place after its closing 0, or the refusal.
-#[derive(Drop)]
+#[derive(Clone, Copy)]
 enum ClauseCheck {
     Closed(usize),
     Refused(Refusal),

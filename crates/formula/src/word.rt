@@ -7,7 +7,7 @@ ghost use Rattle.formula.specs.Word.{word_of, is_zero, variable_of, ordinal, slo
 use crate::literal::{Variable, VariableFit};
 
 // What a word of a table is, by its sign and its range.
-#[derive(Drop)]
+#[derive(Clone, Copy)]
 pub enum Word {
     Zero,
     TooLarge,

@@ -5,7 +5,7 @@ ghost use Rattle.std.specs.Prelude.{◌≡◌, drop};
 ghost use Rattle.formula.specs.Words.{word_at, place_after, close_from};
 
 // A word other than 0, the 0 that closes a clause, or the end of the words.
-#[derive(Drop)]
+#[derive(Clone, Copy)]
 pub enum ClauseWord {
     Word(i32),
     Close,
@@ -36,14 +36,14 @@ pub fn place_after(words: &[i32], at: usize) -> usize
 }
 
 // The lent words and the place in them that is read next.
-#[derive(Drop)]
+#[derive(Clone, Copy)]
 pub struct WordReader<'a> {
     pub words: &'a [i32],
     pub at: usize,
 }
 
 // A reader that has moved on, with the word that it passed.
-#[derive(Drop)]
+#[derive(Clone, Copy)]
 pub struct WordRead<'a> {
     pub words: &'a [i32],
     pub at: usize,

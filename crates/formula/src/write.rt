@@ -15,7 +15,7 @@ use crate::word::Word;
 use crate::{clear, decimal, prefix, tables};
 
 // Written, with the used length; or the refusal.
-#[derive(Drop)]
+#[derive(Clone, Copy)]
 pub enum WriteAnswer {
     Written(usize),
     Refused(Refusal),

@@ -8,14 +8,14 @@ use crate::clause::end_of;
 use crate::words::same;
 
 // The two families of steps: 01's, and the long-distance ones, which may merge (02, P14). A proof is of one family.
-#[derive(Drop)]
+#[derive(Clone, Copy)]
 pub enum Family {
     Ordinary,
     LongDistance,
 }
 
 // What a kind word says in a family.
-#[derive(Drop)]
+#[derive(Clone, Copy)]
 pub enum Kind {
     Resolves,
     Reduces,
@@ -81,7 +81,7 @@ pub fn statement_of(steps: &[i32], at: usize) -> usize
 }
 
 // The place after the 0 that closes a clause, if one does.
-#[derive(Drop)]
+#[derive(Clone, Copy)]
 pub enum Close {
     At(usize),
     Missing,
@@ -99,14 +99,14 @@ pub fn close_of(words: &[i32], from: usize) -> Close
 }
 
 // The two kinds of step.
-#[derive(Drop)]
+#[derive(Clone, Copy)]
 pub enum StepKind {
     Resolution,
     Reduction,
 }
 
 // The fields of a step.
-#[derive(Drop)]
+#[derive(Clone, Copy)]
 pub struct StepRead {
     pub kind: StepKind,
     pub family: Family,
@@ -118,7 +118,7 @@ pub struct StepRead {
 }
 
 // The fields, or that no step of the family stands there: another kind, or words that end before the closing 0.
-#[derive(Drop)]
+#[derive(Clone, Copy)]
 pub enum Reading {
     Broken,
     Step(StepRead),

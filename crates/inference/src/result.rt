@@ -13,7 +13,7 @@ use formula::literal::{Literal, Variable};
 use formula::refusal::Reason;
 
 // Nothing is wrong, or why the step is refused.
-#[derive(Drop)]
+#[derive(Clone, Copy)]
 pub enum Judgement {
     Right,
     Wrong(Reason),

@@ -1,1 +1,2 @@
 // What the two judges promise together: theorems alone, in specs/.
+#![tactic(auto)]

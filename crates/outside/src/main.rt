@@ -1,5 +1,6 @@
 // Refutations by a solver from outside, each beside its formula in data/: the line that the first program prints, and what the
 // evaluator says of the formula, which it plays up to 16 variables. The file stdout holds the line that each must give.
+#![tactic(auto)]
 use evaluator::evaluation::{Evaluation, evaluate};
 use files::{print_first, read_file};
 use formula::read::{ReadAnswer, read_formula};

@@ -1,6 +1,7 @@
 // 01's two programs on the paths of their files: read, settle, print. What is printed is `report::program`'s; here are opening,
 // reading and writing alone. Each buffer is proved long enough: for a file one byte more than is taken, so that a longer one is seen
 // as such, and for what is printed all that can be.
+#![tactic(auto)]
 ghost use Rattle.std.specs.Prelude.{◌<◌, ◌≤◌, length};
 ghost use Rattle.io.specs.Counts.{IsPrefixLen};
 ghost use Rattle.report.specs.Check.{check_line};

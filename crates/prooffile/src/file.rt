@@ -10,7 +10,7 @@ use formula::clear::clear_words;
 use formula::refusal::{Reason, Refusal};
 
 // How many step words were read, or the refusal.
-#[derive(Drop)]
+#[derive(Clone, Copy)]
 pub enum ProofAnswer {
     Read(usize),
     Refused(Refusal),

@@ -1,4 +1,5 @@
 // 01's first program: reads formula.qdimacs and proof.qdr in its working directory and prints one line.
+#![tactic(auto)]
 use programs::check_files;
 
 // The first program on the files that 01 names.

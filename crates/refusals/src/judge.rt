@@ -10,14 +10,14 @@ use checker::verdict::Verdict;
 use dependency::answer::{RowAnswer, dependency_row_small};
 
 // The check of a proof that asks for 8,200 bytes of scratch, or the one that asks for 640.
-#[derive(Drop)]
+#[derive(Clone, Copy)]
 pub enum Check {
     Large,
     Small,
 }
 
 // What the cases of a list are for: proofs, with so many starts lent, or rows by the small entry, with so many bytes lent for the row.
-#[derive(Drop)]
+#[derive(Clone, Copy)]
 pub enum Kind {
     Proof(Check, usize),
     Row(usize),

@@ -3,6 +3,7 @@
 // and long-distance ones (long.rt); and of the entries that ask for 640 bytes of scratch, for a proof and for a row (small.rt). Each line names
 // its case, gives the answer and tells whether the buffers lent were left wholly 0, of a row that was filled the scratch; the file stdout beside
 // src/ was worked out from the specification.
+#![tactic(auto)]
 mod buffers;
 mod file;
 mod judge;

@@ -8,10 +8,10 @@ use formula::refusal::{Reason, Refusal};
 use prooffile::file::{ProofAnswer, read_proof};
 
 // How many bytes a file has.
-#[derive(Drop)]
+#[derive(Clone, Copy)]
 pub struct FileLength(pub usize);
 
-#[derive(Drop)]
+#[derive(Clone, Copy)]
 pub enum FileFit {
     Within(FileLength),
     Oversized,

@@ -6,6 +6,7 @@
 // numbered clauses (3), for a step has at least 4 words, so that there are at most 8,192 + 4,095 of them; and more than 65,536
 // clause words (2), for each takes two bytes of the text. No program asks for a row of anything but a universal (20), 3,072 words hold every
 // completed prefix (3), and no text leaves a variable unbound (7).
+#![tactic(auto)]
 use files::print_first;
 use programs::{check_files, dependency_file};
 

@@ -4,7 +4,7 @@ ghost use Rattle.scanner.specs.Position.{position_at};
 ghost use Rattle.scanner.specs.Position.Cursor.{past, along};
 
 // Bytes count from 0, lines and columns from 1.
-#[derive(Drop)]
+#[derive(Clone, Copy)]
 pub struct Position {
     pub place: usize,
     pub line: usize,

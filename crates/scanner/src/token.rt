@@ -11,7 +11,7 @@ use crate::position::Position;
 const TOO_LARGE: usize = 2_147_483_648;
 
 // Where the bytes before the first token stand: at a line's start, further in a line, in a comment; or they are over.
-#[derive(Drop)]
+#[derive(Clone, Copy)]
 pub enum Lead {
     LineStart,
     InLine,
@@ -20,7 +20,7 @@ pub enum Lead {
 }
 
 // A number without minus, a number with one, or any other run of bytes.
-#[derive(Drop)]
+#[derive(Clone, Copy)]
 pub enum Token {
     Natural(usize),
     Negative(usize),
@@ -28,7 +28,7 @@ pub enum Token {
 }
 
 // What is found from a position on: nothing more, up to the end; or a token with its position and the one from which to go on.
-#[derive(Drop)]
+#[derive(Clone, Copy)]
 pub enum Next {
     End(Position),
     Found {
@@ -40,7 +40,7 @@ pub enum Next {
 
 // Of a run of bytes up to a blank or the end: whether it is digits alone, of which a first 0 stands alone, then their value; and
 // where it ends.
-#[derive(Drop)]
+#[derive(Clone, Copy)]
 pub struct Digits {
     pub plain: bool,
     pub value: usize,

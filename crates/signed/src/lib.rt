@@ -1,1 +1,2 @@
 // The prefix as it was before records, and that tables of records answer as it did: theorems alone, in specs/.
+#![tactic(auto)]

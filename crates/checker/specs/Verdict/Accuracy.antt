@@ -2,7 +2,7 @@
 -- Exact.antt has the wish as its sentence, by the checker's rules. The verdict is blocked only where an existential of the clause depends, and what blocks
 -- is an entry of the prefix. And wish 3 for the checker: an accepted proof makes the game lost. Assumes nothing.
 use Rattle.std.specs.Prelude.{ℕ, zero, suc, ◌+◌, ◌-◌, ◌≤◌, ◌<◌, ◌≡◌, refl, ◌≢◌, Bool, true, leb, length, get_or, ℤ, pos, nat_abs}
-use Rattle.std.proofs.Common.{ap, sym, ◌∙◌, arith, length-append}
+use Rattle.std.proofs.Common.{ap, sym, subst, ◌∙◌, arith, length-append}
 use Rattle.std.proofs.Math.Option.{Option, none, some}
 use mathlib.Core.List.Memᴰ
 use mathlib.Core.List.{List, [], ◌∷◌, ◌++◌, Memᴰ}
@@ -173,7 +173,7 @@ module _ (rules : Rules) (prefix clauses steps : List ℤ) (scratch room : ℕ) 
   own_family : (list : List Step) (f : Family) → OfFamily f list → OfFamily (family_of (step_words list)) list
   unfolding step_words
   own_family [] f o = tt
-  own_family (s ∷ list) f o = rw (family_written s (step_words list), o.0) (refl, o.1)
+  own_family (s ∷ list) f o = subst (λ (g : Family). OfFamily g (s ∷ list)) (sym (family_written s (step_words list) ∙ o.0)) o
 
   -- A refutation whose steps may stand where they do is accepted.
   pub refutation_accepted :
