@@ -1,0 +1,16 @@
+-- `read_digits` reads a run byte by byte; each need is one law of Token.Numbers. Assumes nothing.
+use Prim.Native.Nat.{◌-◌}
+use mathlib.Core.Path.{sym, ◌∙◌}
+use native.Mathlib.Omega.{arith}
+use lib.ListN.{length, get_or}
+use lib.Dec.{eqb}
+use Rattle.scanner.specs.Token.Laws.{solid_blank, solid_end}
+use Rattle.scanner.specs.Token.Numbers.{DigitsSoFar, more_end, digits_begin, digits_more, digits_end}
+use borrow.Author.Rules.{rules}
+use Rattle.scanner.proofs.token.read_digits.Given as goal
+
+abbrev pub invariant-loop-read : goal.invariant-loop-read
+invariant-loop-read l = DigitsSoFar l.text l.from l.read
+
+abbrev pub decreases-loop-read : goal.decreases-loop-read
+decreases-loop-read l = length l.text - l.read.end

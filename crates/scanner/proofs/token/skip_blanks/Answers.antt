@@ -1,0 +1,40 @@
+-- `skip_blanks` passes blanks one by one. Assumes nothing.
+use Prim.Native.Nat.{◌-◌}
+use mathlib.Core.Path.{◌≡◌, refl, sym, ◌∙◌}
+use native.Mathlib.Omega.{arith}
+use lib.ListN.{length}
+use Rattle.scanner.specs.Position.Cursor.{PositionIn}
+use Rattle.scanner.specs.Position.Laws.{past_in, small_in}
+use Rattle.scanner.specs.Token.{tokens_at}
+use Rattle.scanner.specs.Token.Laws.{blank_passed}
+use borrow.Author.Rules.{rules}
+use Rattle.scanner.proofs.token.skip_blanks.Goals as goal
+
+pub past-at-requires : goal.past-at-requires
+past-at-requires c =
+    let l = c.before.before.before.before.before.loop-at in
+    let s = small_in _ l.at l.invariant.0 c.before.before.before.before.before.before.before.requires.1 in
+    (omega (arith, s.0), omega (arith, s.1), omega (arith, s.2))
+
+pub loop-at-smaller : goal.loop-at-smaller
+loop-at-smaller c = rw c.past-at.ensures (omega (arith, c.before.before.before.before.loop-at-test.true))
+
+pub loop-at-preserved : goal.loop-at-preserved
+loop-at-preserved c =
+    let l = c.before.before.before.before.before.before.loop-at in
+    let text = c.before.before.before.before.before.before.before.before.args.text.now in
+    let h = c.before.before.before.before.loop-at-test.true in
+    rw c.past-at.ensures (past_in text l.at l.invariant.0 h, l.invariant.1 ∙ blank_passed text l.at.place h (sym c.before.before.is_blank.ensures ∙ c.before.if-is_blank.true))
+
+pub returns-else-is_blank : goal.returns-else-is_blank
+returns-else-is_blank c =
+    let l = c.before.before.before.before.before.loop-at in
+    record { same_tokens = l.invariant.1; stands = l.invariant.0; no_blank = λ h. sym c.before.is_blank.ensures ∙ c.if-is_blank.false }
+
+pub returns : goal.returns
+returns c =
+    let l = c.before.before.loop-at in
+    record { same_tokens = l.invariant.1; stands = l.invariant.0; no_blank = λ h. absurd (omega (arith, c.loop-at-test.false)) }
+
+pub loop-at-init : goal.loop-at-init
+loop-at-init c = (c.before.requires.0, refl)
