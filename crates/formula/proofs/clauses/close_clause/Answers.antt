@@ -1,0 +1,18 @@
+-- `close_clause` refuses by its tests in order, or writes the 0. Assumes nothing.
+use mathlib.Core.Path.{refl}
+use borrow.Author.Rules.{rules}
+use borrow.Author.Tests.{lt-ltb, le-ltb}
+use Rattle.formula.specs.Text.{closing_reason}
+use Rattle.formula.proofs.clauses.close_clause.Goals as goal
+
+pub returns-then-used-ge-MAX : goal.returns-then-used-ge-MAX
+unfolding closing_reason
+returns-then-used-ge-MAX c = record { answers = simp (le-ltb _ _ c.if-used-ge-MAX.true); stores = tt }
+
+pub returns-then-clauses-used : goal.returns-then-clauses-used
+unfolding closing_reason
+returns-then-clauses-used c = record { answers = simp (lt-ltb _ _ c.if-used-ge-MAX.false, le-ltb _ _ c.if-clauses-used.true); stores = tt }
+
+pub returns : goal.returns
+unfolding closing_reason
+returns c = record { answers = simp (lt-ltb _ _ c.if-used-ge-MAX.false, lt-ltb _ _ c.if-clauses-used.false); stores = refl }

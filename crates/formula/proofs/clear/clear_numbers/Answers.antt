@@ -1,0 +1,27 @@
+-- `clear_numbers` clears what is left: the invariant says that clearing from here on gives the same buffer. Assumes nothing.
+use Prim.Native.Nat.{◌-◌}
+use mathlib.Core.Path.{◌≡◌, refl, ◌∙◌, sym}
+use native.Mathlib.Numerals.{add-one}
+use native.Mathlib.Omega.{arith}
+use borrow.Author.Rules.{rules}
+use lib.ListN.{length, length-set}
+use Rattle.formula.specs.Clear.{clear_from}
+use Rattle.formula.specs.Clear.Laws.{clear_step, clear_end}
+use Rattle.formula.proofs.clear.clear_numbers.Goals as goal
+
+pub loop-i-init : goal.loop-i-init
+loop-i-init c = (refl, refl)
+
+pub loop-i-smaller : goal.loop-i-smaller
+loop-i-smaller c = simp length-set (omega arith)
+
+pub loop-i-preserved : goal.loop-i-preserved
+loop-i-preserved c =
+    let l = c.loop-i in
+    (rw add-one (clear_step 0 l.i l.buffer (search rules) ∙ l.invariant.0), simp length-set l.invariant.1)
+
+pub returns : goal.returns
+returns c = let l = c.loop-i in sym (clear_end 0 l.i l.buffer (search rules)) ∙ l.invariant.0
+
+pub overflow_add-i : goal.overflow_add-i
+overflow_add-i c = omega arith

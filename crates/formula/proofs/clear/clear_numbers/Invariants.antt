@@ -1,0 +1,16 @@
+-- `clear_numbers` clears what is left: the invariant says that clearing from here on gives the same buffer. Assumes nothing.
+use Prim.Native.Nat.{◌-◌}
+use mathlib.Core.Path.{◌≡◌, refl, ◌∙◌, sym}
+use native.Mathlib.Numerals.{add-one}
+use native.Mathlib.Omega.{arith}
+use borrow.Author.Rules.{rules}
+use lib.ListN.{length, length-set}
+use Rattle.formula.specs.Clear.{clear_from}
+use Rattle.formula.specs.Clear.Laws.{clear_step, clear_end}
+use Rattle.formula.proofs.clear.clear_numbers.Given as goal
+
+abbrev pub invariant-loop-i : goal.invariant-loop-i
+invariant-loop-i l = (clear_from 0 l.i l.buffer ≡ clear_from 0 l.from l.initial.buffer) × (length l.buffer ≡ length l.initial.buffer)
+
+abbrev pub decreases-loop-i : goal.decreases-loop-i
+decreases-loop-i l = length l.buffer - l.i

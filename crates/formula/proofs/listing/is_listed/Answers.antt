@@ -1,0 +1,18 @@
+-- `is_listed` reads the variable's bit where there are marks, and goes through the table where there are none. Assumes nothing.
+use mathlib.Core.Path.{◌∙◌}
+use native.Mathlib.Omega.{arith}
+use Rattle.formula.specs.Tables.Scan.{marked}
+use borrow.Author.Rules.{rules}
+use Rattle.formula.proofs.listing.is_listed.Goals as goal
+
+pub is_set-requires : goal.is_set-requires
+is_set-requires c =
+    let s = c in
+    let all = s.requires.listing.size (omega arith) in
+    omega arith
+
+pub returns : goal.returns
+unfolding marked
+returns c =
+    let s = c in
+    c.is_set.ensures ∙ s.requires.listing.says (omega arith) s.args.variable s.requires.le_variable.0 s.requires.le_variable.1

@@ -1,0 +1,87 @@
+-- `entry_at` shows the entry of the words at its place. Assumes nothing.
+use Prim.Native.Nat.{◌+◌, ◌*◌, ◌≤◌, ◌<◌}
+use mathlib.Core.Path.{◌≡◌, ap, sym, ◌∙◌}
+use native.Mathlib.Omega.{arith}
+use borrow.Author.Rules.{rules}
+use borrow.Author.Tests.{eq-eqb, ne_eqb}
+use lib.ListN.{length, get_or}
+use lib.IntN.{ℤ, pos}
+use mir.Syntax.{w32}
+use mir.Val.{to_z, of_z}
+use Rattle.qbf.specs.Formula.{Entry}
+use Rattle.formula.specs.Bounds.{variable_bound, in_range}
+use Rattle.formula.specs.Bounds.Laws.{variable_made, variable_refused, above_range}
+use Rattle.formula.specs.Word.{ordinal}
+use Rattle.formula.specs.Word.Laws.{ordinal_bounded}
+use Rattle.formula.specs.Prefix.{entry_at}
+use Rattle.formula.specs.Prefix.Laws.{entry_count_lem, entry_word_lem, entry_at_ranged}
+use Rattle.formula.proofs.prefix.entry_at.Tie as tie
+use Rattle.formula.proofs.prefix.entry_at.Lts as lts
+use Rattle.formula.proofs.prefix.entry_at.Reads as reads
+use Rattle.formula.proofs.prefix.entry_at.Goals as goal
+
+-- the record is one of the table
+below : (c : lts.Start tie.the-claims reads.Pre reads.Post tie.handed_clauses) → 3 * c.args.place + 2 < length c.args.prefix.now
+below c = omega (arith, entry_count_lem c.args.prefix.now, c.requires.place_bound)
+
+-- its first two words
+abbrev first : (c : lts.Start tie.the-claims reads.Pre reads.Post tie.handed_clauses) → ℤ
+first c = get_or c.args.prefix.now (3 * c.args.place) (pos 0)
+
+abbrev second : (c : lts.Start tie.the-claims reads.Pre reads.Post tie.handed_clauses) → ℤ
+second c = get_or c.args.prefix.now (3 * c.args.place + 1) (pos 0)
+
+told : (c : lts.After-ordinal tie.the-claims reads.Pre reads.Post tie.handed_clauses) → c.ordinal.result ≡ ordinal (first c.before.before)
+told c = let e : to_z w32 (of_z w32 (first c.before.before)) ≡ first c.before.before = search rules in rw e at c.ordinal.ensures
+
+told_2 : (c : lts.After-ordinal2 tie.the-claims reads.Pre reads.Post tie.handed_clauses) → c.ordinal-in-Within.result ≡ ordinal (second c.before.before.before.before.before.before)
+told_2 c =
+    let s = c.before.before.before.before.before.before in
+    let e : to_z w32 (of_z w32 (second s)) ≡ second s = search rules in
+    rw e at c.ordinal-in-Within.ensures
+
+-- the variable made
+made : (c : lts.Past-After-known_told tie.the-claims reads.Pre reads.Post tie.handed_clauses) → ordinal (first c.before.before.before.before) ≡ c.in-Within.v.0
+made c =
+    let n = c.ordinal.result in
+    let m = variable_made (in_range n variable_bound) n c.in-Within.v (sym c.new.ensures ∙ c.in-Within.is) in
+    sym (told c.before.before) ∙ m.1
+
+pub overflow_mul-at : goal.overflow_mul-at
+overflow_mul-at c = let h = below c in search rules
+
+pub offset_bounds-prefix-at : goal.offset_bounds-prefix-at
+offset_bounds-prefix-at c = let h = below c in search rules
+
+pub bounds-prefix-at : goal.bounds-prefix-at
+bounds-prefix-at c = omega (arith, below c)
+
+pub overflow_add-at : goal.overflow_add-at
+overflow_add-at c = let h = below c.before.before.before.before in search rules
+
+pub offset_bounds-prefix-at-in-Within : goal.offset_bounds-prefix-at-in-Within
+offset_bounds-prefix-at-in-Within c = let h = below c.before.before.before.before in search rules
+
+pub bounds-prefix-at-in-Within : goal.bounds-prefix-at-in-Within
+bounds-prefix-at-in-Within c = omega (arith, below c.before.before.before.before)
+
+pub returns-then-ordinal-eq2 : goal.returns-then-ordinal-eq2
+returns-then-ordinal-eq2 c =
+    let s = c.before.before.before.before.before.before.before in
+    let q : ordinal (second s) ≡ 2 = sym (told_2 c.before) ∙ c.if-ordinal-eq2.true in
+    rw (entry_word_lem s.args.prefix.now s.args.place s.requires.place_bound, made c.before.before.before, q)
+
+pub returns-in-Outside : goal.returns-in-Outside
+returns-in-Outside c =
+    let s = c.before.before.before.before.before in
+    let n = c.ordinal.result in
+    let outside = variable_refused (in_range n variable_bound) n (sym c.new.ensures ∙ c.in-Outside.is) in
+    let w : (entry_at s.args.prefix.now s.args.place).variable ≡ ordinal (first s) = ap (λ (x : Entry). x.variable) (entry_word_lem s.args.prefix.now s.args.place s.requires.place_bound) in
+    let least : 1 ≤ n = rw (told c.before.before.before, ← w) (entry_at_ranged s.args.prefix.now s.requires.entries s.args.place s.requires.place_bound).0 in
+    absurd (omega (arith, above_range n variable_bound least outside, told c.before.before.before, ordinal_bounded (first s)))
+
+pub returns-else-ordinal-eq2 : goal.returns-else-ordinal-eq2
+returns-else-ordinal-eq2 c =
+    let s = c.before.before.before.before.before.before.before in
+    let q : ordinal (second s) ≡ 2 → ⊥ = λ e. c.if-ordinal-eq2.false (told_2 c.before ∙ e) in
+    rw (entry_word_lem s.args.prefix.now s.args.place s.requires.place_bound, made c.before.before.before, ne_eqb (ordinal (second s)) 2 q)

@@ -1,0 +1,7 @@
+-- `numbers`: what tells the reason. Assumes nothing.
+use borrow.Author.Rules.{rules}
+use Rattle.formula.specs.Refusal.Laws.{tagged_numbers}
+use Rattle.formula.proofs.refusal.Reason.numbers.Goals as goal
+
+pub returns : goal.returns
+returns c = tagged_numbers _ _ c.tagged.ensures
