@@ -2,5 +2,4 @@
 pub mod Signed
 pub mod Scan
 pub mod Record
-pub mod Lent
 pub mod SignedWord

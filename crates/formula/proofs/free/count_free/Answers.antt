@@ -11,6 +11,7 @@ use Rattle.formula.specs.Free.{passing}
 use Rattle.formula.specs.Free.Complete.{is_free_mark, free_marked}
 use Rattle.formula.specs.Free.Complete.Laws.{free_yes, free_no}
 use Rattle.formula.proofs.free.count_free.Goals as goal
+use Rattle.formula.proofs.free.count_free.Goals.{then-is_free, else-is_free}
 
 pub loop-v-init : goal.loop-v-init
 unfolding passing
@@ -22,10 +23,10 @@ loop-v-preserved c =
     let marks = c.args.marks.now in
     let mark : c.is_free.result ≡ is_free_mark (get_or marks (suc l.v) 0) = rw add-one at c.is_free.ensures in
     rw add-one
-    (⊎_elim
-    (λ b. (omega (arith, l.invariant.0, ap {B = ℕ} (λ (ns : List ℕ). length ns) (free_yes marks l.v (sym mark ∙ b.0.true)), length-append (free_marked marks l.v) (suc l.v ∷ [])), omega (arith, l.invariant.1), search rules))
-    (λ b. (omega (arith, l.invariant.0, ap {B = ℕ} (λ (ns : List ℕ). length ns) (free_no marks l.v (sym mark ∙ b.0.left))), omega (arith, l.invariant.1), search rules))
-    c.if-is_free.branch)
+    (elim c.if-is_free.branch [
+      | then-is_free b ↦ (omega (arith, l.invariant.0, b.n-is, ap {B = ℕ} (λ (ns : List ℕ). length ns) (free_yes marks l.v (sym mark ∙ b.if-is_free.true)), length-append (free_marked marks l.v) (suc l.v ∷ [])), omega (arith, l.invariant.1, b.n-is), search rules)
+      | else-is_free b ↦ (omega (arith, l.invariant.0, b.n-is, ap {B = ℕ} (λ (ns : List ℕ). length ns) (free_no marks l.v (sym mark ∙ b.if-is_free.false))), omega (arith, l.invariant.1, b.n-is), search rules)
+    ])
 
 pub returns : goal.returns
 returns c =

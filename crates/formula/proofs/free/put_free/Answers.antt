@@ -10,6 +10,7 @@ use lib.ListN.{get_or}
 use Rattle.formula.specs.Free.Complete.{is_free_mark}
 use Rattle.formula.specs.Free.Complete.Laws.{PutSoFar, put_begins, put_skips, put_fits, put_adds, put_ends}
 use Rattle.formula.proofs.free.put_free.Goals as goal
+use Rattle.formula.proofs.free.put_free.Goals.{then-is_free, else-is_free}
 
 pub loop-v-init : goal.loop-v-init
 loop-v-init c = put_begins c.args.marks.now c.args.variables c.args.prefix.now
@@ -31,10 +32,10 @@ loop-v-preserved c =
     let h = c.loop-v-test.true in
     let mark : c.is_free.result ≡ is_free_mark (get_or marks (suc l.v) 0) = rw add-one at c.is_free.ensures in
     rw add-one
-    (⊎_elim
-    (λ b. rw (b.4, b.5, rw add-one at b.2.ensures.1, rw add-one at b.2.ensures.0) (put_adds s.requires.2 h l.invariant (sym mark ∙ b.0.true) (omega (arith, h, s.requires.0))))
-    (λ b. rw (b.1, b.2) (put_skips s.requires.2 h l.invariant (sym mark ∙ b.0.left)))
-    c.if-is_free.branch)
+    (elim c.if-is_free.branch [
+      | then-is_free b ↦ rw (b.at-is, b.prefix-is, rw add-one at b.put_variable-at.ensures.1, rw add-one at b.put_variable-at.ensures.0) (put_adds s.requires.2 h l.invariant (sym mark ∙ b.if-is_free.true) (omega (arith, h, s.requires.0)))
+      | else-is_free b ↦ rw (b.at-is, b.prefix-is) (put_skips s.requires.2 h l.invariant (sym mark ∙ b.if-is_free.false))
+    ])
 
 pub returns : goal.returns
 returns c = put_ends c.loop-v-test.false c.loop-v.invariant

@@ -14,6 +14,7 @@ use Rattle.formula.specs.Tables.{zeros}
 use Rattle.formula.proofs.Signed.{bits_zero}
 use Rattle.formula.proofs.Scan.{zeros_at_zero, zeros_at_literal}
 use Rattle.formula.proofs.tables.count_zeros.Goals as goal
+use Rattle.formula.proofs.tables.count_zeros.Goals.{then-clauses-i-eq0, else-clauses-i-eq0}
 
 pub loop-i-init : goal.loop-i-init
 loop-i-init c = (sym (zero-add _), omega arith, omega arith)
@@ -26,10 +27,10 @@ loop-i-preserved c =
     let w = get_or ws l.i (pos 0) in
     let fits : SFits w32 w = search rules in
     rw add-one
-    (⊎_elim
-    (λ b. (omega (arith, zeros_at_zero ws l.i h (bits_zero w fits b.0.true)), omega arith, omega arith))
-    (λ b. (omega (arith, zeros_at_literal ws l.i h (λ e. b.0.left (ap (of_z w32) e))), omega arith, omega arith))
-    c.if-clauses-i-eq0.branch)
+    (elim c.if-clauses-i-eq0.branch [
+      | then-clauses-i-eq0 b ↦ (omega (arith, b.n-is, zeros_at_zero ws l.i h (bits_zero w fits b.if-clauses-i-eq0.true)), omega arith, omega arith)
+      | else-clauses-i-eq0 b ↦ (omega (arith, b.n-is, zeros_at_literal ws l.i h (λ e. b.if-clauses-i-eq0.false (ap (of_z w32) e))), omega arith, omega arith)
+    ])
 
 pub returns : goal.returns
 unfolding zeros
