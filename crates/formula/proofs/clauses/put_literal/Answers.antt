@@ -39,7 +39,7 @@ pub offset_bounds-marks-n : goal.offset_bounds-marks-n
 offset_bounds-marks-n c = omega (arith, small_at c.before)
 
 pub bounds-marks-n : goal.bounds-marks-n
-bounds-marks-n c = omega (arith, small_at c.before)
+bounds-marks-n c = omega (arith, small_at c.before.before)
 
 pub returns-in-Refused : goal.returns-in-Refused
 returns-in-Refused c = record { answers = sym c.in-Refused.is ∙ judged_at c.before; stores = tt }
@@ -51,6 +51,6 @@ pub returns-in-Literal : goal.returns-in-Literal
 returns-in-Literal c =
     let args = c.args in
     record {
-      answers = sym c.in-Literal.is ∙ judged_at c.before.before;
-      stores = (rw (c.signed_word.ensures, signed_back args.positive args.n (small_at c.before)), rw c.mark_of-mark.ensures);
+      answers = sym c.in-Literal.is ∙ judged_at c.before.before.before;
+      stores = (rw (c.signed_word.ensures, signed_back args.positive args.n (small_at c.before.before)), rw c.mark_of-mark.ensures);
     }

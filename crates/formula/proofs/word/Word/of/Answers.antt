@@ -53,14 +53,14 @@ pub overflow_sub-word : goal.overflow_sub-word
 overflow_sub-word c =
     let z = c.args.word in
     let e : to_z w32 (of_z w32 z) ≡ z = search rules in
-    rw (e, zero_sub z) (negative_at c).ranges
+    rw (e, zero_sub z) (negative_at c).fits
 
 -- the opposite, read back from its bits
 opposite_at : (c : lts.Else4 tie.the-claims reads.Pre reads.Post) → to_z w32 (of_z w32 (pos 0 -ℤ to_z w32 (of_z w32 c.args.word))) ≡ neg_ℤ c.args.word
 opposite_at c =
     let z = c.args.word in
     let e : to_z w32 (of_z w32 z) ≡ z = search rules in
-    rw (e, zero_sub z) (to_z-of_z (negative_at c).ranges)
+    rw (e, zero_sub z) (to_z-of_z (negative_at c).fits)
 
 pub overflow_cast-word-else-word-gt0 : goal.overflow_cast-word-else-word-gt0
 overflow_cast-word-else-word-gt0 c = let n = negative_at c in rw (opposite_at c) (n.signed, record { fits = omega (arith, n.small) })
