@@ -33,7 +33,7 @@ returns-in-Within c =
     let e = sym c.in-Field.is ∙ c.header_field.ensures in (
       (λ rp rc.
           let r = c_read rp rc text start.args.at.place start.requires.0.inside _ start.args.variables.0 e in
-          rw (← made.1) (r.0.1 ∙ within_read rp rc text count_bound c.in-Field.value r.0.0 c.in-Field.next.place (λ c.clauses-1.given. between_sets start.args.variables.0 c.clauses-1.given []) made.0)),
+          rw (← made.1) (r.0.1 ∙ within_read rp rc text count_bound c.in-Field.value r.0.0 c.in-Field.next.place (λ k. between_sets start.args.variables.0 k []) made.0)),
       start.requires.2,
       rw (← made.1) (leb-true c.in-Field.value count_bound made.0),
       (c_read 0 0 text start.args.at.place start.requires.0.inside _ start.args.variables.0 e).1,
