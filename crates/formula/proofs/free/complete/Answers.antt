@@ -26,7 +26,7 @@ overflow_add-total c = let h = few c in search rules
 
 -- where the free ones are counted, seen from where there is room
 abbrev counted : (c : lts.Else1 tie.the-claims reads.Pre reads.Post tie.handed_clauses) → lts.After-count_free tie.the-claims reads.Pre reads.Post tie.handed_clauses
-counted c = c.before.before.before
+counted c = c.before.before
 
 -- they have room
 room : (c : lts.Else1 tie.the-claims reads.Pre reads.Post tie.handed_clauses) → entry_words ((counted c).count_free-added.result + (counted c).args.entries) ≤ length (counted c).args.prefix.now
@@ -36,8 +36,7 @@ room c = let h = c.if-entry_count-total.false in omega (arith, c.entry_count.ens
 pub returns-then-entry_count-total : goal.returns-then-entry_count-total
 unfolding entry_words
 returns-then-entry_count-total c =
-    let k = c.before.before.before in
-    rw (← k.count-free.ensures) (let h = c.if-entry_count-total.true in omega (arith, c.entry_count.ensures, entry_count_lem k.args.prefix.now))
+    rw (← c.count_free-added.ensures) (let h = c.if-entry_count-total.true in omega (arith, c.entry_count.ensures, entry_count_lem c.args.prefix.now))
 
 -- a number of entries that are not more has words
 small : (c : lts.After-count_free tie.the-claims reads.Pre reads.Post tie.handed_clauses) (n : ℕ) → n ≤ c.count_free-added.result + c.args.entries → entry_words n < 2 ^ 64
@@ -109,7 +108,7 @@ pub slice_bounds-number_blocks-end-2 : goal.slice_bounds-number_blocks-end-2
 slice_bounds-number_blocks-end-2 c = sym (part_length c.before)
 
 pub number_blocks-requires : goal.number_blocks-requires
-number_blocks-requires c = (part_ranged c.before, (part_few c.before, part_whole c.before))
+number_blocks-requires c = record { entries = part_ranged c.before; prefix_bound = part_few c.before; prefix_len = part_whole c.before }
 
 pub returns : goal.returns
 returns c =
