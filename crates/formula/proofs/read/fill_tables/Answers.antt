@@ -42,7 +42,7 @@ returns-in-NoRoom c =
     let written = c.read_clauses in
     let clauses = rw c.in-Clauses.is at (written.ensures (length args.prefix.now) _ sets.1) in
     let done = rw c.in-NoRoom.is at c.complete.ensures in
-    rw (c.in_text.ensures, clauses.3) (sets.0 args.count (length args.clauses.now) ∙ clauses.0 ∙ fill_crowded (length args.prefix.now) args.text.now args.variables args.count c.in-Sets.entries c.in-Clauses.words read.new.1.1.1.0 c.complete.new.prefix written.new.1.1.1.1.0 written.new.1.1.1.1.1.0 s.requires.variables_le_variable_bound.0 sets.2 (search rules) clauses.1 clauses.2 done)
+    rw (c.in_text.ensures, clauses.3) (sets.0 args.count (length args.clauses.now) ∙ clauses.0 ∙ fill_crowded (length args.prefix.now) args.text.now args.variables args.count c.in-Sets.entries c.in-Clauses.words read.new.prefix c.complete.new.prefix written.new.clauses written.new.marks s.requires.variables_le_variable_bound.0 sets.2 (search rules) clauses.1 clauses.2 done)
 
 pub returns-in-Completed : goal.returns-in-Completed
 returns-in-Completed c =
@@ -53,4 +53,4 @@ returns-in-Completed c =
     let written = c.read_clauses in
     let clauses = rw c.in-Clauses.is at (written.ensures (length args.prefix.now) _ sets.1) in
     let done = rw c.in-Completed.is at c.complete.ensures in
-    rw (sets.0 args.count (length args.clauses.now) ∙ clauses.0) (fill_completed (length args.prefix.now) args.text.now args.variables args.count c.in-Sets.entries c.in-Clauses.words read.new.1.1.1.0 c.complete.new.prefix written.new.1.1.1.1.0 written.new.1.1.1.1.1.0 s.requires.variables_le_variable_bound.0 sets.2 (search rules) clauses.1 clauses.2 c.in-Completed.total (search rules) done)
+    rw (sets.0 args.count (length args.clauses.now) ∙ clauses.0) (fill_completed (length args.prefix.now) args.text.now args.variables args.count c.in-Sets.entries c.in-Clauses.words read.new.prefix c.complete.new.prefix written.new.clauses written.new.marks s.requires.variables_le_variable_bound.0 sets.2 (search rules) clauses.1 clauses.2 c.in-Completed.total (search rules) done)
