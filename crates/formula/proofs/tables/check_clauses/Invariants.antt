@@ -1,12 +1,9 @@
 -- `check_clauses` goes on after each clause: the refusal of all words is that of the words to come. Assumes nothing.
 use Prim.Native.Nat.{◌-◌, ◌≤◌}
-use mathlib.Core.Path.{◌≡◌, refl, ap, sym, ◌∙◌}
+use mathlib.Core.Path.{◌≡◌}
 use mathlib.Core.List.{[]}
-use native.Mathlib.Omega.{arith}
-use borrow.Author.Rules.{rules}
-use lib.ListN.{length, drop, drop_of_length-le}
+use lib.ListN.{length, drop}
 use Rattle.formula.specs.Tables.{clauses_refusal, listed_in}
-use Rattle.formula.specs.Tables.Scan.{check_of, after_clause}
 use Rattle.formula.proofs.tables.check_clauses.Given as goal
 
 abbrev pub invariant-loop-at : goal.invariant-loop-at

@@ -1,17 +1,14 @@
 -- `check_entry` judges the record word by word. Assumes nothing.
 use Prim.Native.Nat.{ℕ, ◌+◌, ◌≤◌, ◌<◌}
 use mathlib.Core.Path.{◌≡◌, refl, ap, sym, ◌∙◌}
-use mathlib.Core.Bool.{true, false, ◌||◌}
+use mathlib.Core.Bool.{Bool, true, false, ◌||◌}
 use mathlib.Core.List.{List, ◌∷◌}
 use native.Mathlib.Omega.{arith}
 use borrow.Author.Rules.{rules}
 use borrow.Author.Tests.{lt-ltb, eq-eqb, ne_eqb}
 use lib.ListN.{get_or, take, drop}
-use lib.Seq.{length-take-le}
 use lib.Dec.{eqb}
-use lib.IntN.{pos}
-use mir.Syntax.{w32}
-use mir.Val.{to_z, of_z}
+use lib.IntN.{ℤ, pos}
 use Rattle.formula.specs.Bounds.{variable_bound}
 use Rattle.formula.specs.Word.{ordinal}
 use Rattle.formula.specs.Word.Laws.{ordinal_bounded}
@@ -21,133 +18,106 @@ use Rattle.formula.specs.Tables.{is_in, listed_in, prefix_refusal}
 use Rattle.formula.specs.Tables.Scan.{Lists}
 use Rattle.formula.proofs.Record.{record_judged, listed_before}
 use Rattle.formula.proofs.Scan.{listing_add}
-use Rattle.formula.proofs.tables.check_entry.Tie as tie
-use Rattle.formula.proofs.tables.check_entry.Lts as lts
-use Rattle.formula.proofs.tables.check_entry.Reads as reads
 use Rattle.formula.proofs.tables.check_entry.Goals as goal
 
--- where the function begins, where the variable was read, and where its quantifier was
-abbrev start : lts.After-ordinal tie.the-claims reads.Pre reads.Post tie.handed_clauses → lts.Start tie.the-claims reads.Pre reads.Post tie.handed_clauses
-start c = c.before.before.before
-
-abbrev first : lts.After-is_listed tie.the-claims reads.Pre reads.Post tie.handed_clauses → lts.After-ordinal tie.the-claims reads.Pre reads.Post tie.handed_clauses
-first c = c.before.before.before.before
-
-abbrev second : lts.After-ordinal2 tie.the-claims reads.Pre reads.Post tie.handed_clauses → lts.After-is_listed tie.the-claims reads.Pre reads.Post tie.handed_clauses
-second c = c.before.before.before
-
-abbrev third : lts.After-ordinal3 tie.the-claims reads.Pre reads.Post tie.handed_clauses → lts.After-ordinal2 tie.the-claims reads.Pre reads.Post tie.handed_clauses
-third c = c.before.before.before.before
-
--- the number that a word of the record is
-abbrev number : lts.Start tie.the-claims reads.Pre reads.Post tie.handed_clauses → ℕ → ℕ
-number s k = ordinal (get_or s.args.prefix.now (s.args.at + k) (pos 0))
-
-abbrev listee : lts.Start tie.the-claims reads.Pre reads.Post tie.handed_clauses → ℕ
-listee s = ordinal (get_or s.args.prefix.now s.args.at (pos 0))
-
-variable : (c : lts.After-ordinal tie.the-claims reads.Pre reads.Post tie.handed_clauses) → c.ordinal-v.result ≡ listee (start c)
-variable c =
-    let w = get_or (start c).args.prefix.now (start c).args.at (pos 0) in
-    let e : to_z w32 (of_z w32 w) ≡ w = search rules in
-    rw e at c.ordinal-v.ensures
-
-quantifier : (c : lts.After-ordinal2 tie.the-claims reads.Pre reads.Post tie.handed_clauses) → c.ordinal-quantifier.result ≡ number (start (first (second c))) 1
-quantifier c =
-    let s = start (first (second c)) in
-    let w = get_or s.args.prefix.now (s.args.at + 1) (pos 0) in
-    let e : to_z w32 (of_z w32 w) ≡ w = search rules in
-    rw e at c.ordinal-quantifier.ensures
-
-block : (c : lts.After-ordinal3 tie.the-claims reads.Pre reads.Post tie.handed_clauses) → c.ordinal.result ≡ number (start (first (second (third c)))) 2
-block c =
-    let s = start (first (second (third c))) in
-    let w = get_or s.args.prefix.now (s.args.at + 2) (pos 0) in
-    let e : to_z w32 (of_z w32 w) ≡ w = search rules in
-    rw e at c.ordinal.ensures
+-- the number that a word is
+abbrev number : List ℤ → ℕ → ℕ
+number ws k = ordinal (get_or ws k (pos 0))
 
 -- the variable is in range
-bounded : (c : lts.After-ordinal tie.the-claims reads.Pre reads.Post tie.handed_clauses) → c.ordinal-v.result ≤ variable_bound
-bounded c = omega (arith, variable c, ordinal_bounded (get_or (start c).args.prefix.now (start c).args.at (pos 0)))
+bounded : (ws : List ℤ) (at v : ℕ) → v ≡ number ws at → v ≤ variable_bound
+bounded ws at v e = omega (arith, e, ordinal_bounded (get_or ws at (pos 0)))
 
-pub slice_bounds-is_listed-end : goal.slice_bounds-is_listed-end
-slice_bounds-is_listed-end c = let s = start c.before.before in sym (length-take-le s.args.at s.args.prefix.now (omega arith))
-
-pub is_listed-requires : goal.is_listed-requires
-is_listed-requires c = let v = c.before.before.before in record { le_variable = (search rules, bounded v); listing = (start v).requires.listing }
-
--- what was found of the variable, said of the variables seen
-seen_before : (c : lts.After-is_listed tie.the-claims reads.Pre reads.Post tie.handed_clauses) (seen : List ℕ) → Lists (take (start (first c)).args.at (start (first c)).args.prefix.now) seen → c.is_listed.result ≡ is_in (listee (start (first c))) seen
-seen_before c seen m = rw (variable (first c)) at c.is_listed.ensures ∙ sym (m.says (listee (start (first c))))
+-- a word read back from its bits
+read : (w v : ℤ) (n : ℕ) → n ≡ ordinal v → v ≡ w → n ≡ ordinal w
+read w v n e p = e ∙ ap ordinal p
 
 pub returns-then-v-lt1 : goal.returns-then-v-lt1
 returns-then-v-lt1 c seen m =
-    let v = c.before.before.before in
-    let s = start v in
-    let none : listee s ≡ 0 = omega (arith, variable v, c.if-v-lt1.true) in
-    record_judged s.args.prefix.now s.args.at s.requires.at_in_bounds.0 seen s.args.last s.args.block ∙ rw (none, c.new.ensures)
+    let a = c.args in
+    let ws = a.prefix.now in
+    let v : c.ordinal-v.result ≡ number ws a.at = read _ _ _ c.ordinal-v.ensures (search rules) in
+    let none : number ws a.at ≡ 0 = omega (arith, v, c.if-v-lt1.true) in
+    record_judged ws a.at c.requires.at_in_bounds.0 seen a.last a.block ∙ rw (none, c.new.ensures)
+
+pub is_listed-requires-clause-le_variable : goal.is_listed-requires-clause-le_variable
+is_listed-requires-clause-le_variable c =
+    let a = c.args in
+    (search rules, bounded a.prefix.now a.at _ (read _ _ _ c.ordinal-v.ensures (search rules)))
+
+pub mark-requires-clause-le_variable : goal.mark-requires-clause-le_variable
+mark-requires-clause-le_variable c =
+    let a = c.args in
+    (search rules, bounded a.prefix.now a.at _ (read _ _ _ c.ordinal-v.ensures (search rules)))
+
+-- a variable that was looked for among those listed, said of the variables seen
+looked_for :
+    (ws : List ℤ) (at v : ℕ) (r : Bool) (seen : List ℕ) → v ≡ number ws at → r ≡ listed_in (take at ws) v → Lists (take at ws) seen
+    → is_in (number ws at) seen ≡ r
+looked_for ws at v r seen e l m = m.says (number ws at) ∙ ap (listed_in (take at ws)) (sym e) ∙ sym l
 
 pub returns-then-is_listed : goal.returns-then-is_listed
 returns-then-is_listed c seen m =
-    let k = c.before.before in
-    let s = start (first k) in
-    let positive : 0 < listee s = omega (arith, variable (first k), c.if1.false) in
-    let again : is_in (listee s) seen ≡ true = sym (seen_before k seen m) ∙ c.if-is_listed.true in
-    record_judged s.args.prefix.now s.args.at s.requires.at_in_bounds.0 seen s.args.last s.args.block ∙ rw (lt-ltb 0 (listee s) positive, again, c.new-then-is_listed.ensures)
-
--- a variable that is listed for the first time
-fresh : (c : lts.Else2 tie.the-claims reads.Pre reads.Post tie.handed_clauses) (seen : List ℕ) → Lists (take (start (first c.before)).args.at (start (first c.before)).args.prefix.now) seen
-    → (0 < listee (start (first c.before))) × (is_in (listee (start (first c.before))) seen ≡ false)
-fresh c seen m =
-    (omega (arith, variable (first c.before), c.if1.false), sym (seen_before c.before seen m) ∙ c.if-is_listed.false)
-
-pub mark-requires : goal.mark-requires
-mark-requires c =
-    let v = first (second (third c.before.before)) in
-    record { le_variable = (search rules, bounded v); all_or_none = (start v).requires.listing.size }
+    let a = c.args in
+    let ws = a.prefix.now in
+    let v : c.ordinal-v.result ≡ number ws a.at = read _ _ _ c.ordinal-v.ensures (search rules) in
+    let positive : 0 < number ws a.at = omega (arith, v, c.if-v-lt1.false) in
+    let again : is_in (number ws a.at) seen ≡ true = looked_for ws a.at _ _ seen v c.is_listed.ensures m ∙ c.if-is_listed.true in
+    record_judged ws a.at c.requires.at_in_bounds.0 seen a.last a.block ∙ rw (lt-ltb 0 (number ws a.at) positive, again, c.new-then-is_listed.ensures)
 
 pub returns-then-ordinal-due : goal.returns-then-ordinal-due
 returns-then-ordinal-due c =
-    let t = c.before.before.before.before.before.before in
-    let v = first (second (third t)) in
-    let s = start v in
-    let q = quantifier (third t) in
-    let due = rw q at t.next_block-due.ensures in
-    let known = rw q at t.if-quantifier.true in
-    let b : number s 2 ≡ next_block s.args.last s.args.block (number s 1) = sym (block t) ∙ c.if-ordinal-due.true ∙ due in (
+    let a = c.args in
+    let ws = a.prefix.now in
+    let at = a.at in
+    let v : c.ordinal-v.result ≡ number ws at = read _ _ _ c.ordinal-v.ensures (search rules) in
+    let q : c.ordinal-quantifier.result ≡ number ws (at + 1) = read _ _ _ c.ordinal-quantifier.ensures (search rules) in
+    let r : c.ordinal.result ≡ number ws (at + 2) = read _ _ _ c.ordinal.ensures (search rules) in
+    let due = rw q at c.next_block-due.ensures in
+    let known = rw q at c.if-quantifier.true in
+    let b : number ws (at + 2) ≡ next_block a.last a.block (number ws (at + 1)) = sym r ∙ c.if-ordinal-due.true ∙ due in (
       λ seen m.
-          let f = fresh (third t).before.before seen m in
-          record_judged s.args.prefix.now s.args.at s.requires.at_in_bounds.0 seen s.args.last s.args.block
-          ∙ rw (lt-ltb 0 (listee s) f.0, f.1, known, b, eq-eqb (next_block s.args.last s.args.block (number s 1)) _ refl)
-          (λ i. prefix_refusal (s.args.at + 3) (listee s ∷ seen) (sym q i) (sym due i) (drop (s.args.at + 3) s.args.prefix.now)),
+          let positive : 0 < number ws at = omega (arith, v, c.if-v-lt1.false) in
+          let new : is_in (number ws at) seen ≡ false = looked_for ws at _ _ seen v c.is_listed.ensures m ∙ c.if-is_listed.false in
+          record_judged ws at c.requires.at_in_bounds.0 seen a.last a.block
+          ∙ rw (lt-ltb 0 (number ws at) positive, new, known, b, eq-eqb (next_block a.last a.block (number ws (at + 1))) _ refl)
+          (λ i. prefix_refusal (at + 3) (number ws at ∷ seen) (sym q i) (sym due i) (drop (at + 3) ws)),
       listing_add
-          v.ordinal-v.result
-          (second (third t)).if1.false
-          (bounded v)
-          s.requires.listing
+          c.ordinal-v.result
+          c.if-v-lt1.false
+          (bounded ws at _ v)
+          c.requires.listing
           c.mark.auto.marks
           c.mark.ensures
-          (λ u. listed_before s.args.prefix.now s.args.at s.requires.at_in_bounds.1 s.requires.at_in_bounds.0 u ∙ ap (λ (n : ℕ). listed_in (take s.args.at s.args.prefix.now) u || eqb u n) (sym (variable v))),
-      rw t.next_block-due.ensures (block_bound s.args.last s.args.block (third t).ordinal-quantifier.result),
+          (λ u. listed_before ws at c.requires.at_in_bounds.1 c.requires.at_in_bounds.0 u ∙ ap (λ (n : ℕ). listed_in (take at ws) u || eqb u n) (sym v)),
+      rw c.next_block-due.ensures (block_bound a.last a.block c.ordinal-quantifier.result),
     )
 
 pub returns-then-quantifier : goal.returns-then-quantifier
 returns-then-quantifier c seen m =
-    let t = c.before.before in
-    let s = start (first (second (third t))) in
-    let q = quantifier (third t) in
-    let due = rw q at t.next_block-due.ensures in
-    let f = fresh (third t).before.before seen m in
-    let known = rw q at t.if-quantifier.true in
-    let b : number s 2 ≡ next_block s.args.last s.args.block (number s 1) → ⊥ = λ e. c.if-ordinal-due.false (block t ∙ e ∙ sym due) in
-    record_judged s.args.prefix.now s.args.at s.requires.at_in_bounds.0 seen s.args.last s.args.block
-    ∙ rw (lt-ltb 0 (listee s) f.0, f.1, known, ne_eqb (number s 2) (next_block s.args.last s.args.block (number s 1)) b, c.new-then-quantifier.ensures)
+    let a = c.args in
+    let ws = a.prefix.now in
+    let at = a.at in
+    let v : c.ordinal-v.result ≡ number ws at = read _ _ _ c.ordinal-v.ensures (search rules) in
+    let q : c.ordinal-quantifier.result ≡ number ws (at + 1) = read _ _ _ c.ordinal-quantifier.ensures (search rules) in
+    let r : c.ordinal.result ≡ number ws (at + 2) = read _ _ _ c.ordinal.ensures (search rules) in
+    let due = rw q at c.next_block-due.ensures in
+    let known = rw q at c.if-quantifier.true in
+    let positive : 0 < number ws at = omega (arith, v, c.if-v-lt1.false) in
+    let new : is_in (number ws at) seen ≡ false = looked_for ws at _ _ seen v c.is_listed.ensures m ∙ c.if-is_listed.false in
+    let b : number ws (at + 2) ≡ next_block a.last a.block (number ws (at + 1)) → ⊥ = λ e. c.if-ordinal-due.false (r ∙ e ∙ sym due) in
+    record_judged ws at c.requires.at_in_bounds.0 seen a.last a.block
+    ∙ rw (lt-ltb 0 (number ws at) positive, new, known, ne_eqb (number ws (at + 2)) (next_block a.last a.block (number ws (at + 1))) b, c.new-then-quantifier.ensures)
 
 pub returns : goal.returns
 returns c seen m =
-    let k = c.before.before in
-    let s = start (first (second k)) in
-    let f = fresh k.before.before seen m in
-    let unknown = rw (quantifier k) at c.if-quantifier.false in
-    record_judged s.args.prefix.now s.args.at s.requires.at_in_bounds.0 seen s.args.last s.args.block
-    ∙ rw (lt-ltb 0 (listee s) f.0, f.1, unknown, c.new-2.ensures)
+    let a = c.args in
+    let ws = a.prefix.now in
+    let at = a.at in
+    let v : c.ordinal-v.result ≡ number ws at = read _ _ _ c.ordinal-v.ensures (search rules) in
+    let q : c.ordinal-quantifier.result ≡ number ws (at + 1) = read _ _ _ c.ordinal-quantifier.ensures (search rules) in
+    let positive : 0 < number ws at = omega (arith, v, c.if-v-lt1.false) in
+    let new : is_in (number ws at) seen ≡ false = looked_for ws at _ _ seen v c.is_listed.ensures m ∙ c.if-is_listed.false in
+    let unknown = rw q at c.if-quantifier.false in
+    record_judged ws at c.requires.at_in_bounds.0 seen a.last a.block
+    ∙ rw (lt-ltb 0 (number ws at) positive, new, unknown, c.new-2.ensures)

@@ -1,13 +1,12 @@
 -- `check_prefix` goes on at each record. Assumes nothing.
-use Prim.Native.Nat.{ℕ, ◌-◌}
+use Prim.Native.Nat.{ℕ}
 use mathlib.Core.Path.{◌≡◌, refl, ap, sym, ◌∙◌}
 use native.Mathlib.Omega.{arith}
 use borrow.Author.Rules.{rules}
-use lib.ListN.{length}
 use Rattle.formula.specs.Tables.Scan.{check_of}
 use Rattle.formula.specs.declared.refusal.Refusal.{Refusal}
 use Rattle.formula.specs.declared.tables.Check.{Check}
-use Rattle.formula.proofs.Record.{PrefixSoFar, prefix_begins, prefix_refuses, prefix_goes_on, prefix_ends}
+use Rattle.formula.proofs.Record.{prefix_begins, prefix_refuses, prefix_goes_on, prefix_ends}
 use Rattle.formula.proofs.tables.check_prefix.Goals as goal
 
 pub loop-at-init : goal.loop-at-init
@@ -31,7 +30,7 @@ returns-in-Refused c =
     let l = c.loop-at in
     let k = c.check_entry in
     let step = rw c.in-Refused.is at k.ensures in
-    (ap check_of (sym (prefix_refuses l.invariant.0 step)), λ e. refused e)
+    record { value = ap check_of (sym (prefix_refuses l.invariant.0 step)); listing = λ e. refused e }
 
 pub overflow_add-at-in-Passed : goal.overflow_add-at-in-Passed
 overflow_add-at-in-Passed c = let h = c.loop-at.invariant.0.within in search rules
@@ -44,9 +43,9 @@ loop-at-preserved c =
     let l = c.loop-at in
     let k = c.check_entry in
     let step = rw c.in-Passed.is at k.ensures in
-    (prefix_goes_on l.invariant.0 c.loop-at-test.true _ _ _ step, k.auto.1.1.1.1.0 ∙ l.invariant.1)
+    (prefix_goes_on l.invariant.0 c.loop-at-test.true _ _ _ step, k.auto.marks ∙ l.invariant.1)
 
 pub returns : goal.returns
 returns c =
     let e = prefix_ends c.loop-at.invariant.0 c.loop-at-test.false in
-    (ap check_of (sym e.0), λ p. e.1)
+    record { value = ap check_of (sym e.0); listing = λ p. e.1 }
