@@ -1,6 +1,5 @@
 -- `put` stores one byte, or none past the end. Assumes nothing.
 use mathlib.Core.Path.{refl, sym}
-use borrow.Author.Rules.{rules}
 use lib.Seq.{set_out}
 use Rattle.formula.proofs.decimal.put.Goals as goal
 

@@ -1,12 +1,7 @@
 -- `write_bytes` stores the bytes one by one: what is left to store is what the loop has not passed. Assumes nothing.
-use Prim.Native.Nat.{suc, ◌-◌, ◌<◌, ◌≤◌}
-use native.Mathlib.Numerals.{add-one}
-use native.Mathlib.Omega.{arith}
-use borrow.Author.Rules.{rules}
-use lib.ListN.{length, drop, drop_of_length-le}
-use lib.Seq.{drop-cons}
+use Prim.Native.Nat.{◌-◌, ◌≤◌}
+use lib.ListN.{length, drop}
 use Rattle.formula.specs.Store.{Remains}
-use Rattle.formula.specs.Store.Laws.{remains_all, remains_less, remains_none, remains_length}
 use Rattle.formula.proofs.decimal.write_bytes.Given as goal
 
 abbrev pub invariant-loop-i : goal.invariant-loop-i

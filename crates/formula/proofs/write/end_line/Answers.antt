@@ -2,7 +2,6 @@
 use Rattle.formula.specs.Store.Laws.{stores_none}
 use Rattle.formula.specs.Write.Stream.{line_end}
 use Rattle.formula.specs.Write.Laws.{line_end_open}
-use borrow.Author.Rules.{rules}
 use Rattle.formula.proofs.write.end_line.Goals as goal
 
 pub returns-then-last-eq0 : goal.returns-then-last-eq0

@@ -1,11 +1,10 @@
 -- `largest_variable` takes the larger of what it has and each entry's variable: with what is left, it is the largest of all.
 -- Assumes nothing.
-use Prim.Native.Nat.{◌-◌, ◌≤◌, max}
-use mathlib.Core.Path.{◌≡◌}
+use Prim.Native.Nat.{◌≤◌}
 use native.Mathlib.Numerals.{add-one}
 use native.Mathlib.Omega.{arith}
 use borrow.Author.Rules.{rules}
-use lib.ListN.{drop, drop_of_length-le}
+use lib.ListN.{drop_of_length-le}
 use Rattle.formula.specs.Prefix.{prefix_of, entry_count}
 use Rattle.formula.specs.Write.{largest}
 use Rattle.formula.specs.Write.Laws.{largest_drop}

@@ -2,13 +2,9 @@
 -- Assumes nothing.
 use Prim.Native.Nat.{◌-◌, ◌≤◌, max}
 use mathlib.Core.Path.{◌≡◌}
-use native.Mathlib.Numerals.{add-one}
-use native.Mathlib.Omega.{arith}
-use borrow.Author.Rules.{rules}
-use lib.ListN.{drop, drop_of_length-le}
+use lib.ListN.{drop}
 use Rattle.formula.specs.Prefix.{prefix_of, entry_count}
 use Rattle.formula.specs.Write.{largest}
-use Rattle.formula.specs.Write.Laws.{largest_drop}
 use Rattle.formula.proofs.write.largest_variable.Given as goal
 
 abbrev pub invariant-loop-i : goal.invariant-loop-i

@@ -4,7 +4,6 @@ use Rattle.qbf.specs.Formula.{Entry}
 use Rattle.formula.specs.Prefix.{entry_at}
 use Rattle.formula.specs.Prefix.Laws.{shown_existential, shown_universal}
 use Rattle.formula.specs.Write.{letter_of}
-use borrow.Author.Rules.{rules}
 use Rattle.formula.proofs.write.letter_at.Goals as goal
 
 pub returns-in-Existential : goal.returns-in-Existential

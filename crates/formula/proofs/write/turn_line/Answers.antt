@@ -5,7 +5,6 @@ use lib.Dec.{eqb}
 use Rattle.formula.specs.Store.Laws.{stores_none, stores_append, below_first, below_rest}
 use Rattle.formula.specs.Write.Stream.{line_end, line_turn}
 use Rattle.formula.specs.Write.Laws.{line_turn_same, line_turn_other}
-use borrow.Author.Rules.{rules}
 use Rattle.formula.proofs.write.turn_line.Tie as tie
 use Rattle.formula.proofs.write.turn_line.Lts as lts
 use Rattle.formula.proofs.write.turn_line.Reads as reads

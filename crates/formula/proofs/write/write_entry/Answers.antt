@@ -4,7 +4,6 @@ use lib.Dec.{eqb}
 use Rattle.formula.specs.Decimal.{decimal}
 use Rattle.formula.specs.Store.Laws.{stores_append, below_first, below_rest}
 use Rattle.formula.specs.Write.Stream.{line_turn, entry_text}
-use borrow.Author.Rules.{rules}
 use Rattle.formula.proofs.write.write_entry.Goals as goal
 
 pub turn_line-next-requires : goal.turn_line-next-requires

@@ -3,7 +3,6 @@ use native.Mathlib.Omega.{arith}
 use Rattle.formula.specs.Store.Laws.{stores_append}
 use Rattle.formula.specs.Write.{header_text}
 use Rattle.formula.specs.Write.Laws.{length_header}
-use borrow.Author.Rules.{rules}
 use Rattle.formula.proofs.write.write_header.Goals as goal
 
 pub write_number-at-requires : goal.write_number-at-requires

@@ -1,6 +1,6 @@
 -- `write_prefix` stores the entries one by one, then ends the open line: what is left to store is the text of the entries
 -- that the loop has not passed, after the letter of the last one. Assumes nothing.
-use Prim.Native.Nat.{suc, ◌-◌, ◌≤◌, ◌<◌}
+use Prim.Native.Nat.{suc, ◌≤◌, ◌<◌}
 use mathlib.Core.Path.{◌≡◌, ◌∙◌}
 use mathlib.Core.List.{◌++◌}
 use native.Mathlib.Numerals.{add-one}

@@ -2,7 +2,6 @@
 use mathlib.Core.List.{[], ◌∷◌}
 use Rattle.formula.specs.Decimal.{decimal}
 use Rattle.formula.specs.Store.Laws.{stores_append, below_first, below_rest}
-use borrow.Author.Rules.{rules}
 use Rattle.formula.proofs.write.write_spaced.Goals as goal
 
 pub write_number-next-requires : goal.write_number-next-requires
