@@ -16,8 +16,7 @@ use mathlib.Core.List.{List}
 use Rattle.qbf.specs.Play.{true_literal}
 use Rattle.formula.specs.Decode.{literal_of}
 use Rattle.evaluator.specs.Values.{values_of}
-use Rattle.evaluator.proofs.clause.literal_true.Statement.{statement}
-use Rattle.evaluator.proofs.clause.literal_true.Tie as tie
+use Rattle.evaluator.proofs.clause.literal_true.Goals as goal
 
 beq_true : (b : Bool) → b ≡ beq b true
 beq_true true = refl
@@ -37,19 +36,16 @@ unfolding values_of
 negative_true vs (pos n) e = absurd (omega (arith, ltb-true n 0 e))
 negative_true vs (negsuc n) e = beq_false (eqb (get_or vs (suc n) 0) 1)
 
-returns : tie.Need-returns
-returns c =
-    let s = c.before.before.before.before in
+pub returns-then-word-lt0 : goal.returns-then-word-lt0
+returns-then-word-lt0 c =
+    let s = c in
     let e : to_z w32 (of_z w32 s.args.word) ≡ s.args.word = to_z-of_z s.ranges.word in
-    rw (c.before.value.ensures, c.before.before.magnitude.ensures, e)
-    (negative_true s.args.values.now s.args.word (rw e at c.if1.true))
+    rw (c.value-b.ensures, c.magnitude.ensures, e)
+    (negative_true s.args.values.now s.args.word (rw e at c.if-word-lt0.true))
 
-returns-2 : tie.Need-returns-2
-returns-2 c =
-    let s = c.before.before.before.before in
+pub returns-else-word-lt0 : goal.returns-else-word-lt0
+returns-else-word-lt0 c =
+    let s = c in
     let e : to_z w32 (of_z w32 s.args.word) ≡ s.args.word = to_z-of_z s.ranges.word in
-    rw (c.before.value.ensures, c.before.before.magnitude.ensures, e)
-    (positive_true s.args.values.now s.args.word (rw e at c.if1.false))
-
-pub literal_true_spec : {M : Type 1} → statement M
-literal_true_spec = tie.close (tie.spec (λ c κs. search rules) (λ c κs. search rules) returns returns-2)
+    rw (c.value-b.ensures, c.magnitude.ensures, e)
+    (positive_true s.args.values.now s.args.word (rw e at c.if-word-lt0.false))
