@@ -1,0 +1,18 @@
+-- `copy_row`: the bytes written so far stand before what the row's buffer still holds. Assumes nothing.
+use Prim.Native.Nat.{◌-◌, ◌≤◌, ◌<◌}
+use mathlib.Core.Path.{◌≡◌, refl, ap, ◌∙◌}
+use mathlib.Core.List.{List, ◌++◌}
+use native.Mathlib.Numerals.{add-one}
+use native.Mathlib.Omega.{arith}
+use borrow.Author.Rules.{rules}
+use lib.ListN.{length, drop, set, length-set}
+use Rattle.dependency.specs.Scratch.{row_in}
+use Rattle.dependency.specs.Answer.{asked_byte, asked_bytes}
+use Rattle.dependency.specs.Answer.Laws.{asked_step}
+use Rattle.dependency.proofs.answer.copy_row.Given as goal
+
+abbrev pub invariant-loop-i : goal.invariant-loop-i
+invariant-loop-i l = (l.row ≡ asked_bytes (row_in l.scratch) l.i ++ drop l.i l.initial.row) × (l.i ≤ 1025) × (length l.row ≡ length l.initial.row)
+
+abbrev pub decreases-loop-i : goal.decreases-loop-i
+decreases-loop-i l = 1025 - l.i

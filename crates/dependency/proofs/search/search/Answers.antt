@@ -1,0 +1,88 @@
+-- `search` opens, starts and settles: what the marks then say is `searched` of Search/Laws. Assumes nothing.
+use Prim.Native.Nat.{ℕ}
+use mathlib.Core.Path.{◌≡◌, ap, ◌∙◌}
+use mathlib.Core.Bool.{Bool, true, false}
+use mathlib.Core.List.{List}
+use native.Mathlib.Omega.{arith}
+use lib.IntN.{ℤ}
+use lib.ListN.{get_or, set, replicate}
+use Rattle.qbf.specs.Formula.{after}
+use Rattle.formula.specs.Word.{slot}
+use Rattle.formula.specs.Prefix.{prefix_of}
+use Rattle.formula.specs.Tables.Laws.{admitted_entries}
+use Rattle.dependency.specs.Search.{open_entries, ones}
+use Rattle.dependency.specs.Search.Laws.{source_open, searched}
+use Rattle.dependency.specs.Bits.{marks_in}
+use Rattle.dependency.specs.Bits.Count.{ones_kept}
+use Rattle.dependency.proofs.search.search.Goals as goal
+
+-- The marks once what is right of the universal is opened.
+abbrev opened : List ℤ → ℕ → List ℕ
+opened prefix u = open_entries (after u (prefix_of prefix)) (replicate 2050 0)
+
+-- The marks where the passes begin have as many open literals as those before.
+module _
+    (prefix : List ℤ)
+    (u : ℕ)
+    (m m' : Bool → List ℕ)
+    (closed : (t : Bool) → get_or (opened prefix u) (slot u t) 0 ≡ 0)
+    (e : (t : Bool) → m t ≡ opened prefix u)
+    (b : (t : Bool) → m' t ≡ set (m t) (slot u t) 3)
+  where
+  begun : (t : Bool) → m' t ≡ set (opened prefix u) (slot u t) 3
+  begun t = b t ∙ ap (λ (l : List ℕ). set l (slot u t) 3) (e t)
+
+  same_ones : (t : Bool) → ones (m' t) ≡ ones (m t)
+  same_ones t = rw (e t) (ap ones (begun t) ∙ ones_kept (opened prefix u) (slot u t) (closed t))
+
+pub open_right-requires : goal.open_right-requires
+open_right-requires c = record { fact_1 = admitted_entries c.args.prefix.now c.args.clauses.now c.requires.admitted; fact_2 = c.requires.marks_len }
+
+pub count_open-unreached-requires : goal.count_open-unreached-requires
+count_open-unreached-requires c = record { fact_1 = c.open_right.auto.marks ∙ c.requires.marks_len; fact_2 = c.open_right.ensures.none }
+
+pub start-requires : goal.start-requires
+start-requires c =
+    record {
+      marks_len_1 = c.open_right.auto.marks ∙ c.requires.marks_len;
+      marks_len_2 = c.requires.le_variable.0;
+      marks_len_3 = c.requires.le_variable.1;
+      s_value = λ t. rw (c.open_right.ensures.marks t) (source_open c.args.prefix.now c.args.clauses.now c.requires.admitted c.args.variable.0 c.requires.le_variable t);
+    }
+
+pub settle-requires : goal.settle-requires
+settle-requires c =
+    let r = c.requires in
+    let x = c.args.prefix.now in
+    let u = c.args.variable.0 in
+    let o = c.open_right.new.marks in
+    let k =
+        same_ones
+        x
+        u
+        (λ (t : Bool). marks_in t o)
+        (λ (t : Bool). marks_in t c.start.new.marks)
+        (source_open x c.args.clauses.now r.admitted u r.le_variable)
+        c.open_right.ensures.marks
+        c.start.ensures
+    in
+    record { fact_1 = c.start.auto.marks ∙ c.open_right.auto.marks ∙ r.marks_len; fact_2 = omega (arith, k true, k false, c.count_open-unreached.ensures) }
+
+pub returns : goal.returns
+returns c t =
+    let r = c.requires in
+    let x = c.args.prefix.now in
+    let u = c.args.variable.0 in
+    let o = c.open_right.new.marks in
+    let k =
+        begun
+        x
+        u
+        (λ (s : Bool). marks_in s o)
+        (λ (s : Bool). marks_in s c.start.new.marks)
+        (source_open x c.args.clauses.now r.admitted u r.le_variable)
+        c.open_right.ensures.marks
+        c.start.ensures
+        t
+    in
+    searched x c.args.clauses.now r.admitted u r.le_variable t (marks_in t c.settle.new.marks) (rw k at (c.settle.ensures t))
