@@ -1,0 +1,34 @@
+-- `fill_entry` puts the flag by the entry's quantifier. Assumes nothing.
+use mathlib.Core.Path.{◌≡◌, sym, ◌∙◌}
+use borrow.Author.Rules.{rules}
+use Rattle.qbf.specs.Formula.{entry, existential, universal}
+use Rattle.formula.specs.Prefix.{entry_at}
+use Rattle.formula.specs.Prefix.Laws.{shown_existential, shown_universal, entry_at_ranged}
+use Rattle.inference.specs.Existentials.Laws.{existential_asked, universal_asked_lem}
+use Rattle.inference.proofs.existentials.fill_entry.Tie as tie
+use Rattle.inference.proofs.existentials.fill_entry.Lts as lts
+use Rattle.inference.proofs.existentials.fill_entry.Reads as reads
+use Rattle.inference.proofs.existentials.fill_entry.Goals as goal
+
+-- the entry at the place, and its number
+existential_at : (c : lts.Past-After-known_told tie.the-claims reads.Pre reads.Post tie.handed_clauses) → let s = c.args in entry_at s.prefix.now s.place ≡ entry c.in-Existential.v.0 existential
+existential_at c = shown_existential _ _ (sym c.entry_at.ensures ∙ c.in-Existential.is)
+
+universal_at : (c : lts.Past-After-known_told2 tie.the-claims reads.Pre reads.Post tie.handed_clauses) → let s = c.args in entry_at s.prefix.now s.place ≡ entry c.in-Universal.v.0 universal
+universal_at c = shown_universal _ _ (sym c.entry_at.ensures ∙ c.in-Universal.is)
+
+pub put_if-requires : goal.put_if-requires
+put_if-requires c =
+    let s = c.before.before.before.before in
+    (s.requires.fact_3, rw (existential_at c.before) at (entry_at_ranged s.args.prefix.now s.requires.fact_1 s.args.place s.requires.fact_2))
+
+pub put_if-requires-in-Universal : goal.put_if-requires-in-Universal
+put_if-requires-in-Universal c =
+    let s = c.before.before.before.before in
+    (s.requires.fact_3, rw (universal_at c.before) at (entry_at_ranged s.args.prefix.now s.requires.fact_1 s.args.place s.requires.fact_2))
+
+pub returns-in-Existential : goal.returns-in-Existential
+returns-in-Existential c = rw (existential_at c.before.before.before.before.before, existential_asked c.args.existential) c.put_if.ensures
+
+pub returns-in-Universal : goal.returns-in-Universal
+returns-in-Universal c = rw (universal_at c.before.before.before.before.before, universal_asked_lem c.args.existential) c.put_if-in-Universal.ensures

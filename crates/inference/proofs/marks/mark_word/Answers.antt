@@ -1,0 +1,61 @@
+-- `mark_word` looks at the opposite's mark and stores its own. Assumes nothing.
+use Prim.Native.Nat.{ℕ, ◌<◌, ◌≤◌}
+use mathlib.Core.Path.{◌≡◌, ap, ◌∙◌}
+use native.Mathlib.Omega.{arith}
+use borrow.Author.Rules.{rules}
+use lib.Dec.{eqb}
+use lib.ListN.{get_or, set}
+use lib.IntN.{neg_ℤ}
+use mir.Syntax.{w32}
+use mir.Val.{to_z, of_z}
+use mir.Facts.{to_z-of_z}
+use Rattle.inference.specs.Marks.{slot_at, marks_in}
+use Rattle.inference.specs.Marks.Laws.{slot_at_bound, slot_has_bit, mark_stored, mark_left_out, mark_one}
+use Rattle.inference.proofs.Signed.{read_same, read_slot}
+use Rattle.inference.proofs.marks.mark_word.Tie as tie
+use Rattle.inference.proofs.marks.mark_word.Lts as lts
+use Rattle.inference.proofs.marks.mark_word.Reads as reads
+use Rattle.inference.proofs.marks.mark_word.Goals as goal
+
+pub returns-then-same : goal.returns-then-same
+returns-then-same c =
+    let start = c.before.before.before.before in
+    mark_left_out (marks_in start.args.marks.now) start.args.except start.args.word
+    (read_same start.args.except start.args.word start.ranges.except start.ranges.word c.same.ensures c.if-same.true)
+
+-- the word as it is lent
+lent_word : (start : lts.Start tie.the-claims reads.Pre reads.Post tie.handed_clauses) → to_z w32 (of_z w32 start.args.word) ≡ start.args.word
+lent_word start = to_z-of_z start.ranges.word
+
+pub opposite_marked-met-requires : goal.opposite_marked-met-requires
+opposite_marked-met-requires c = let start = c.before.before.before.before in record { fact_1 = start.requires.fact_1; fact_2 = rw (lent_word start) start.requires.fact_2 }
+
+-- its slot
+own_at : (c : lts.After-slot tie.the-claims reads.Pre reads.Post tie.handed_clauses) → c.slot.result ≡ slot_at c.args.word
+own_at c = read_slot _ c.ranges.word c.slot.ensures
+
+own_bit : (c : lts.After-slot tie.the-claims reads.Pre reads.Post tie.handed_clauses) → (2 ≤ c.slot.result) × (c.slot.result < 2050)
+own_bit c =
+    let start = c.before.before.before.before.before.before.before in
+    rw (own_at c) (slot_has_bit start.args.word start.requires.fact_2, slot_at_bound start.args.word)
+
+pub put-requires : goal.put-requires
+put-requires c = let b = own_bit c in let e = c.requires.fact_1 in omega arith
+
+pub returns : goal.returns
+returns c =
+    let stored = c.before.before.before in
+    let slot = stored.before in
+    let asked = slot.before.before in
+    let start = asked.before.before.before.before.before in
+    let marks = start.args.marks.now in
+    let x = start.args.word in
+    let met : asked.opposite_marked-met.result ≡ eqb (get_or (marks_in marks) (slot_at (neg_ℤ x)) 0) 1 = rw (lent_word start) at asked.opposite_marked-met.ensures in
+    let left : marks_in stored.put.new.bytes ≡ set (marks_in marks) (slot_at x) 1 =
+    mark_stored marks stored.put.new.bytes slot.slot.result 1 (own_bit slot).0 stored.put.ensures ∙ ap (λ (s : ℕ). set (marks_in marks) s 1) (own_at slot) in
+    rw (met, left)
+    (mark_one (marks_in marks) start.args.except x
+    (read_same start.args.except x start.ranges.except start.ranges.word asked.same.ensures asked.if-same.false))
+
+pub overflow_sub-slot : goal.overflow_sub-slot
+overflow_sub-slot c = (own_bit c).0

@@ -1,0 +1,9 @@
+-- `table_of` compares the number with the count of input clauses. Assumes nothing.
+use borrow.Author.Tests.{le-leb, lt-leb}
+use Rattle.inference.proofs.numbered.table_of.Goals as goal
+
+pub returns-then-n-inputs : goal.returns-then-n-inputs
+returns-then-n-inputs c = simp (le-leb _ _ c.if-n-inputs.true)
+
+pub returns : goal.returns
+returns c = simp (lt-leb _ _ c.if-n-inputs.false)
