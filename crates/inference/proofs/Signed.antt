@@ -31,7 +31,7 @@ same_bits a b ha hb = go (eqb (of_z w32 a) (of_z w32 b)) refl
 
 -- A word read from a table and tested in a call.
 pub read_back : (z : ℤ) → mag z < 2 ^ hbits w32 → to_z w32 (of_z w32 z) ≡ z
-read_back z h = to_z-of_z (record { sfits = h })
+read_back z h = to_z-of_z {w = w32} (record { sfits = h })
 
 pub read_zero : (z : ℤ) {r b : Bool} → mag z < 2 ^ hbits w32 → r ≡ is_zero (to_z w32 (of_z w32 z)) → r ≡ b → is_zero z ≡ b
 read_zero z h e t = ap is_zero (sym (read_back z h)) ∙ sym e ∙ t

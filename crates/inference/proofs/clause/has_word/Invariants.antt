@@ -15,7 +15,7 @@ use Rattle.inference.proofs.Signed.{read_zero, read_back}
 use Rattle.inference.proofs.clause.has_word.Given as goal
 
 abbrev pub invariant-loop-i : goal.invariant-loop-i
-invariant-loop-i l = holds (to_z w32 l.sought) (clause_at l.words l.from) ≡ holds (to_z w32 l.sought) (clause_at l.words l.i)
+invariant-loop-i l = holds l.sought (clause_at l.words l.from) ≡ holds l.sought (clause_at l.words l.i)
 
 abbrev pub decreases-loop-i : goal.decreases-loop-i
 decreases-loop-i l = length l.words - l.i

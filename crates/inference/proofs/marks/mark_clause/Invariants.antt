@@ -18,7 +18,7 @@ use Rattle.inference.proofs.marks.mark_clause.Given as goal
 
 abbrev pub invariant-loop-i : goal.invariant-loop-i
 invariant-loop-i l =
-    Continues (marks_in l.initial.marks) (without (to_z w32 l.except) (clause_at l.words l.from)) (marks_in l.marks) l.told (without (to_z w32 l.except) (clause_at l.words l.i))
+    Continues (marks_in l.initial.marks) (without l.except (clause_at l.words l.from)) (marks_in l.marks) l.told (without l.except (clause_at l.words l.i))
     × (length l.marks ≡ length l.initial.marks)
     × AllInRange (clause_at l.words l.i)
 

@@ -26,13 +26,13 @@ pub overflow_cast-offsets : goal.overflow_cast-offsets
 overflow_cast-offsets c = omega (arith, c.loop-from-test.true, c.requires.fact_1)
 
 pub offset_bounds-offsets-n : goal.offset_bounds-offsets-n
-offset_bounds-offsets-n c = let h = more_at c in let l = c.loop-from.invariant.2 in let g = c.well-formed.1.0.1 in omega arith
+offset_bounds-offsets-n c = let h = more_at c in let l = c.loop-from.invariant.2 in let g = c.well_formed.1.0.1 in omega arith
 
 pub bounds-offsets-n : goal.bounds-offsets-n
 bounds-offsets-n c = more_at c
 
 pub overflow_add-n : goal.overflow_add-n
-overflow_add-n c = let h = more_at c in let l = c.loop-from.invariant.2 in let g = c.well-formed.1.0.1 in omega arith
+overflow_add-n c = let h = more_at c in let l = c.loop-from.invariant.2 in let g = c.well_formed.1.0.1 in omega arith
 
 -- the clause ends within the table
 end_at : (c : lts.After-end_of tie.the-claims reads.Pre reads.Post goal.the-invariant-loop-from goal.the-decreases-loop-from tie.handed_clauses) → c.end_of-from.result < length c.args.clauses.now + 1
