@@ -104,14 +104,14 @@ run_steps_spec =
     decreases-loop
     (λ c κs. search rules)
     loop-holds
-    (λ c. let f = c.before.before.loop.invariant.0.fits in let g = c.before.before.before.before.before.before.well-formed.1.1.1.1.1.1.1.0.1 in omega arith)
+    (λ c. let f = c.before.before.loop.invariant.0.fits in let g = c.before.before.before.before.before.before.well_formed.1.1.1.1.1.1.1.0.1 in omega arith)
     (λ c κs. search rules)
     (λ c. c.before.before.before.loop.invariant.1)
     (λ c. c.before.before.before.loop.invariant.0.room_is)
     returns
     check-step-requires
     (λ c. search rules)
-    (λ c. let f = c.before.before.before.before.before.before.before.before.before.before.loop.invariant.0.fits in let g = c.before.before.before.before.before.before.before.before.before.before.before.before.before.before.well-formed.1.1.1.1.1.1.1.0.1 in omega arith)
+    (λ c. let f = c.before.before.before.before.before.before.before.before.before.before.loop.invariant.0.fits in let g = c.before.before.before.before.before.before.before.before.before.before.before.before.before.before.well_formed.1.1.1.1.1.1.1.0.1 in omega arith)
     (λ c κs. search rules)
     same-length-3
     (λ c. c.before.before.before.before.before.before.before.before.before.before.before.loop.invariant.0.room_is)

@@ -50,13 +50,13 @@ first_at c =
 pub returns-then-blocks : goal.returns-then-blocks
 unfolding leftmost
 returns-then-blocks c =
-    let found = c.before.before.before in
+    let found = c.before.before.before.before in
     sym (found.loop-i.invariant ∙ rw (first_at found, sym c.blocks-in-loop-i.ensures ∙ c.if-blocks.true))
 
 pub loop-i-preserved : goal.loop-i-preserved
 unfolding leftmost
 loop-i-preserved c =
-    let found = c.before.before.before in
+    let found = c.before.before.before.before in
     found.loop-i.invariant ∙ rw (first_at found, sym c.blocks-in-loop-i.ensures ∙ c.if-blocks.false)
 
 pub returns : goal.returns

@@ -19,13 +19,13 @@ universal_at c = shown_universal _ _ (sym c.entry_at.ensures ∙ c.in-Universal.
 
 pub put_if-requires : goal.put_if-requires
 put_if-requires c =
-    let s = c.before.before.before.before in
-    (s.requires.fact_3, rw (existential_at c.before) at (entry_at_ranged s.args.prefix.now s.requires.fact_1 s.args.place s.requires.fact_2))
+    let ranged = rw (existential_at c.before) at (entry_at_ranged c.args.prefix.now c.requires.fact_1 c.args.place c.requires.fact_2) in
+    record { fact_1 = c.requires.fact_3; fact_2 = ranged.0; fact_3 = ranged.1 }
 
 pub put_if-requires-in-Universal : goal.put_if-requires-in-Universal
 put_if-requires-in-Universal c =
-    let s = c.before.before.before.before in
-    (s.requires.fact_3, rw (universal_at c.before) at (entry_at_ranged s.args.prefix.now s.requires.fact_1 s.args.place s.requires.fact_2))
+    let ranged = rw (universal_at c.before) at (entry_at_ranged c.args.prefix.now c.requires.fact_1 c.args.place c.requires.fact_2) in
+    record { fact_1 = c.requires.fact_3; fact_2 = ranged.0; fact_3 = ranged.1 }
 
 pub returns-in-Existential : goal.returns-in-Existential
 returns-in-Existential c = rw (existential_at c.before.before.before.before.before, existential_asked c.args.existential) c.put_if.ensures

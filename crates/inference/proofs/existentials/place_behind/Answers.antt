@@ -50,4 +50,4 @@ pub loop-i-init : goal.loop-i-init
 loop-i-init c = (refl, search rules)
 
 pub variable_at-listed-requires : goal.variable_at-listed-requires
-variable_at-listed-requires c = (c.requires, within c)
+variable_at-listed-requires c = record { entries = c.requires; place_bound = within c }

@@ -19,43 +19,34 @@ use Rattle.inference.proofs.marks.mark_word.Goals as goal
 
 pub returns-then-same : goal.returns-then-same
 returns-then-same c =
-    let start = c.before.before.before.before in
-    mark_left_out (marks_in start.args.marks.now) start.args.except start.args.word
-    (read_same start.args.except start.args.word start.ranges.except start.ranges.word c.same.ensures c.if-same.true)
-
--- the word as it is lent
-lent_word : (start : lts.Start tie.the-claims reads.Pre reads.Post tie.handed_clauses) → to_z w32 (of_z w32 start.args.word) ≡ start.args.word
-lent_word start = to_z-of_z start.ranges.word
+    mark_left_out (marks_in c.args.marks.now) c.args.except c.args.word
+    (read_same c.args.except c.args.word c.ranges.except c.ranges.word c.same.ensures c.if-same.true)
 
 pub opposite_marked-met-requires : goal.opposite_marked-met-requires
-opposite_marked-met-requires c = let start = c.before.before.before.before in record { fact_1 = start.requires.fact_1; fact_2 = rw (lent_word start) start.requires.fact_2 }
+opposite_marked-met-requires c = let e : to_z w32 (of_z w32 c.args.word) ≡ c.args.word = to_z-of_z c.ranges.word in record { fact_1 = c.requires.fact_1; fact_2 = rw e c.requires.fact_2 }
 
 -- its slot
 own_at : (c : lts.After-slot tie.the-claims reads.Pre reads.Post tie.handed_clauses) → c.slot.result ≡ slot_at c.args.word
 own_at c = read_slot _ c.ranges.word c.slot.ensures
 
 own_bit : (c : lts.After-slot tie.the-claims reads.Pre reads.Post tie.handed_clauses) → (2 ≤ c.slot.result) × (c.slot.result < 2050)
-own_bit c =
-    let start = c.before.before.before.before.before.before.before in
-    rw (own_at c) (slot_has_bit start.args.word start.requires.fact_2, slot_at_bound start.args.word)
+own_bit c = rw (own_at c) (slot_has_bit c.args.word c.requires.fact_2, slot_at_bound c.args.word)
 
 pub put-requires : goal.put-requires
 put-requires c = let b = own_bit c in let e = c.requires.fact_1 in omega arith
 
 pub returns : goal.returns
 returns c =
-    let stored = c.before.before.before in
-    let slot = stored.before in
-    let asked = slot.before.before in
-    let start = asked.before.before.before.before.before in
-    let marks = start.args.marks.now in
-    let x = start.args.word in
-    let met : asked.opposite_marked-met.result ≡ eqb (get_or (marks_in marks) (slot_at (neg_ℤ x)) 0) 1 = rw (lent_word start) at asked.opposite_marked-met.ensures in
-    let left : marks_in stored.put.new.bytes ≡ set (marks_in marks) (slot_at x) 1 =
-    mark_stored marks stored.put.new.bytes slot.slot.result 1 (own_bit slot).0 stored.put.ensures ∙ ap (λ (s : ℕ). set (marks_in marks) s 1) (own_at slot) in
+    let slot = c.before.before.before.before in
+    let marks = c.args.marks.now in
+    let x = c.args.word in
+    let e : to_z w32 (of_z w32 x) ≡ x = to_z-of_z c.ranges.word in
+    let met : c.opposite_marked-met.result ≡ eqb (get_or (marks_in marks) (slot_at (neg_ℤ x)) 0) 1 = rw e at c.opposite_marked-met.ensures in
+    let left : marks_in c.put.new.bytes ≡ set (marks_in marks) (slot_at x) 1 =
+    mark_stored marks c.put.new.bytes c.slot.result 1 (own_bit slot).0 c.put.ensures ∙ ap (λ (s : ℕ). set (marks_in marks) s 1) (own_at slot) in
     rw (met, left)
-    (mark_one (marks_in marks) start.args.except x
-    (read_same start.args.except x start.ranges.except start.ranges.word asked.same.ensures asked.if-same.false))
+    (mark_one (marks_in marks) c.args.except x
+    (read_same c.args.except x c.ranges.except c.ranges.word c.same.ensures c.if-same.false))
 
 pub overflow_sub-slot : goal.overflow_sub-slot
 overflow_sub-slot c = (own_bit c).0

@@ -17,7 +17,7 @@ use Rattle.inference.proofs.result.judge_resolvent.Reads as reads
 use Rattle.inference.proofs.result.judge_resolvent.Goals as goal
 
 pub mark_both-opposed-requires : goal.mark_both-opposed-requires
-mark_both-opposed-requires c = let p = c.requires in (p.fact_1, p.1.1)
+mark_both-opposed-requires c = record { fact_1 = c.requires.fact_1; fact_2 = c.requires.fact_3; fact_3 = c.requires.fact_4; fact_4 = c.requires.fact_5 }
 
 pub tick-ticked-requires : goal.tick-ticked-requires
 tick-ticked-requires c = let marked = c.before.before.before in marked.mark_both-opposed.auto.marks ∙ marked.requires.fact_1
