@@ -1,0 +1,12 @@
+-- `clear_lent` clears both from 0 on. Assumes nothing.
+use mathlib.Core.Path.{◌∙◌}
+use borrow.Author.Rules.{rules}
+use Rattle.checker.specs.Verdict.Parts.{cleared_whole}
+use Rattle.checker.proofs.proof.clear_lent.Goals as goal
+
+pub returns : goal.returns
+returns c =
+    let numbers = c in
+    let bytes = numbers.before.before.before.before in
+    let start = bytes.before.before.before.before in
+    (bytes.clear_bytes.ensures ∙ cleared_whole start.args.scratch.now, numbers.clear_numbers.ensures ∙ cleared_whole start.args.offsets.now)

@@ -1,0 +1,18 @@
+-- `run_steps`: what is left to run comes to the same as the whole. Assumes nothing.
+use Prim.Native.Nat.{◌-◌, ◌<◌}
+use mathlib.Core.Path.{◌≡◌, refl, ◌∙◌}
+use native.Mathlib.Omega.{arith}
+use borrow.Author.Rules.{rules}
+use lib.ListN.{length}
+use Rattle.inference.specs.Scope.{scope_of}
+use Rattle.inference.specs.Numbered.{stored}
+use Rattle.inference.specs.Numbered.Laws.{stored_length}
+use Rattle.checker.specs.Run.Laws.{Taken, right_taken, Going, going_begins, going_turns, going_refused, going_afterwards, going_ends}
+use Rattle.checker.proofs.run.run_steps.Given as goal
+
+abbrev pub invariant-loop-at : goal.invariant-loop-at
+invariant-loop-at l =
+    Going l.strict l.prefix l.clauses l.steps l.inputs (length l.initial.offsets) l.scratch l.offsets l.numbered l.at l.kept l.empty × (length l.scratch ≡ length l.initial.scratch)
+
+abbrev pub decreases-loop-at : goal.decreases-loop-at
+decreases-loop-at l = length l.steps - l.at
