@@ -1,11 +1,11 @@
 -- `clause_satisfied` stops at the clause's first true literal or at its 0: from every place before that, the clause has a
 -- true literal or has none. Assumes nothing.
-use Prim.Native.Nat.{◌+◌, ◌-◌}
+use Prim.Native.Nat.{◌+◌}
 use mathlib.Core.Path.{◌≡◌, refl, ap, sym, ◌∙◌}
 use mathlib.Core.Bool.{Bool, true, false, ◌||◌}
 use borrow.Author.Rules.{rules}
 use lib.IntN.{ℤ, pos}
-use lib.ListN.{length, get_or}
+use lib.ListN.{get_or}
 use Rattle.qbf.specs.Play.{satisfied}
 use Rattle.formula.specs.Word.{is_zero}
 use Rattle.formula.specs.Decode.{clause_at, clause_of}
@@ -21,7 +21,7 @@ abbrev word_at_lem : (c : lts.After-word tie.the-claims reads.Pre reads.Post goa
 word_at_lem c = get_or c.args.clauses.now c.loop-i.i (pos 0)
 
 told : (c : lts.After-is_zero tie.the-claims reads.Pre reads.Post goal.the-invariant-loop-i goal.the-decreases-loop-i) → c.is_zero.result ≡ is_zero (word_at_lem c.before)
-told c = rw (read_back (word_at_lem c.before) c.word-1.given) at c.is_zero.ensures
+told c = rw (read_back (word_at_lem c.before) (search rules)) at c.is_zero.ensures
 
 pub returns-then-is_zero : goal.returns-then-is_zero
 returns-then-is_zero c =
@@ -43,7 +43,7 @@ tested c b t =
     let s = c.before.before.before.before.before.before.before in
     let ws = s.args.clauses.now in
     let τ = values_of s.args.values.now in
-    let e = read_back (word_at_lem c.before.before.before) c.word-1.given in
+    let e = read_back (word_at_lem c.before.before.before) (search rules) in
     ap (λ (b : Bool). b || satisfied τ (clause_of (clause_at ws (l.i + 1)))) (sym t ∙ (rw e at c.literal_true.ensures))
     ∙ sym (satisfied_at_word τ ws l.i (search rules) (sym (told c.before.before) ∙ c.if-is_zero.false))
     ∙ l.invariant

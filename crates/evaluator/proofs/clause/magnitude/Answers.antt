@@ -1,13 +1,11 @@
 -- `magnitude` answers the variable of any word, the lowest among them. Assumes nothing.
 use mathlib.Core.Path.{◌≡◌}
 use native.Mathlib.Omega.{arith}
-use borrow.Author.Rules.{rules}
 use lib.IntN.{pos, ◌+ℤ◌, ◌-ℤ◌}
 use mir.Syntax.{w32}
 use mir.Val.{to_z, of_z}
 use mir.Facts.{to_z-of_z}
 use Rattle.evaluator.proofs.Signed.{Negative, negative, nonnegative, magnitude_small}
-use Rattle.evaluator.proofs.clause.magnitude.Tie as tie
 use Rattle.evaluator.proofs.clause.magnitude.Lts as lts
 use Rattle.evaluator.proofs.clause.magnitude.Reads as reads
 use Rattle.evaluator.proofs.clause.magnitude.Goals as goal

@@ -1,6 +1,5 @@
 -- `value` reads a byte, or 0 past the end. Assumes nothing.
 use mathlib.Core.Path.{sym}
-use borrow.Author.Rules.{rules}
 use lib.ListN.{get_or-eq_default}
 use Rattle.evaluator.proofs.clause.value.Goals as goal
 

@@ -1,6 +1,5 @@
 -- `first_lost` begins with the side that is due, all values being 0. Assumes nothing.
 use mathlib.Core.Path.{ap, sym, ◌∙◌}
-use borrow.Author.Rules.{rules}
 use Rattle.qbf.specs.Play.{Values, lost}
 use native.Mathlib.Omega.{arith}
 use Rattle.formula.specs.Prefix.{prefix_of}

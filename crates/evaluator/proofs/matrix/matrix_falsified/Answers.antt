@@ -1,11 +1,9 @@
 -- `matrix_falsified` goes from clause to clause: the matrix has a clause without a true literal exactly when the clauses
 -- from here on have one. Assumes nothing.
-use Prim.Native.Nat.{◌-◌}
 use mathlib.Core.Path.{◌≡◌, refl, ap, sym, ◌∙◌}
 use mathlib.Core.Bool.{Bool, true, false, not, ◌||◌}
 use native.Mathlib.Omega.{arith}
 use borrow.Author.Rules.{rules}
-use lib.ListN.{length, drop}
 use Rattle.qbf.specs.Play.{falsified}
 use Rattle.formula.specs.Decode.{words_after, matrix_of}
 use Rattle.evaluator.specs.Values.{values_of}

@@ -1,14 +1,8 @@
 -- `next_clause` finds the first 0: what comes after the clause is the same from every place of it. Assumes nothing.
 use Prim.Native.Nat.{◌-◌, ◌≤◌}
-use mathlib.Core.Path.{◌≡◌, refl, sym, ◌∙◌}
-use native.Mathlib.Omega.{arith}
-use borrow.Author.Rules.{rules}
-use lib.IntN.{ℤ, pos}
-use lib.ListN.{length, get_or}
-use Rattle.formula.specs.Word.{is_zero}
+use mathlib.Core.Path.{◌≡◌}
+use lib.ListN.{length}
 use Rattle.formula.specs.Decode.{words_after}
-use Rattle.formula.specs.Decode.Places.{after_literal, after_zero, after_past}
-use Rattle.evaluator.proofs.Signed.{read_back}
 use Rattle.evaluator.proofs.matrix.next_clause.Given as goal
 
 abbrev pub invariant-loop-i : goal.invariant-loop-i

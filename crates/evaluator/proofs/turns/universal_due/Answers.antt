@@ -5,7 +5,6 @@ use mathlib.Core.Bool.{false}
 use mathlib.Core.List.{[], ◌∷◌}
 use native.Mathlib.Omega.{arith}
 use native.Mathlib.Nat.{not-suc-le-zero}
-use borrow.Author.Rules.{rules}
 use lib.ListN.{length, get_or}
 use Rattle.qbf.specs.Formula.{Entry, entry, existential, universal, Prefix}
 use Rattle.formula.specs.Prefix.{prefix_of, entry_at, entry_count, is_quantifier}
