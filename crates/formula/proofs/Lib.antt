@@ -3,3 +3,4 @@ pub mod Signed
 pub mod Scan
 pub mod Record
 pub mod SignedWord
+pub mod Theorems

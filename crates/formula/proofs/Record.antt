@@ -15,7 +15,7 @@ use Rattle.formula.specs.Prefix.{prefix_of, quantifier_as, next_block, entry_wor
 use Rattle.formula.specs.Prefix.Laws.{prefix_append}
 use Rattle.formula.specs.Tables.{is_in, variable_word, quantifier_word, block_word, prefix_refusal, listed_in}
 use Rattle.formula.specs.Tables.Scan.{Listing, Lists, EntryStep}
-use Rattle.formula.specs.Text.Sets.Laws.{listed_snoc}
+use Rattle.formula.proofs.Theorems.Text.Sets.Laws.{listed_snoc}
 use Rattle.formula.specs.declared.refusal.Refusal.{Refusal}
 use Rattle.formula.specs.declared.tables.EntryCheck.TheVariants.{Passed as EntryPassed}
 

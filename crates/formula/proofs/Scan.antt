@@ -25,7 +25,7 @@ use Rattle.formula.specs.Refusal.{refusal}
 use Rattle.formula.specs.Prefix.{prefix_of, entry_count}
 use Rattle.formula.specs.Decode.Laws.{magnitude_same, magnitude_negated}
 use Rattle.formula.specs.Tables.{is_in, zeros, literal_word, clause_word, clauses_end, clauses_refusal, listed_in, sized, first_refusal, words_refusal, tables_refusal, answer_tables, tables_answer}
-use Rattle.formula.specs.Tables.Laws.{zeros_cons, clause_word_zero, clause_word_large, clause_word_literal}
+use Rattle.formula.proofs.Theorems.Tables.Laws.{zeros_cons, clause_word_zero, clause_word_large, clause_word_literal}
 use Rattle.formula.specs.Tables.Scan.{AllOrNone, marks_used, marked, Listing, variables_before, further, plain_run, clash_free, ClauseStep, check_of}
 use Rattle.formula.specs.declared.refusal.Refusal.{Refusal}
 use Rattle.formula.specs.declared.tables.TablesAnswer.TheVariants.{Admitted as TablesAdmitted, Refused as TablesRefused}

@@ -1,9 +1,7 @@
 -- Variables that no set binds (02, P2): those from 1 to V that occur in a clause and that no set lists stand before the whole prefix,
 -- existential, in rising order. This is said of the sets' entries and the clause words once they are known; no state of the reader of text knows of
--- it. That `completed` is just that is `Completes`, proved in Free/Laws.antt; the code's marks are in Free/Complete.antt.
-pub mod Laws
+-- it. That `completed` is just that is `Completes`, proved in proofs/Theorems/Free/Laws.antt; the code's marks are in Free/Complete.antt.
 pub mod Complete
-pub mod Examples
 use Rattle.std.specs.Prelude.{ℕ, zero, suc, ◌≤◌, ◌<◌, ◌≡◌, Bool, true, false, not, ◌&&◌, ◌||◌, cond, List, [], ◌∷◌, ◌++◌, map, eqb, ℤ, nat_abs}
 use Rattle.qbf.specs.Formula.{existential, entry, Prefix, listed}
 use Rattle.formula.specs.Tables.{is_in}

@@ -1,9 +1,7 @@
--- What is written is read back (01, "Formula text"). The theorems are in RoundTrip/Laws.antt; what each piece of a text
--- does to the reader is in Scan (bytes and tokens), Prefix (header and prefix lines) and Clauses (clause lines).
+-- What is written is read back (01, "Formula text"). The theorems are in proofs/Theorems/RoundTrip/Laws.antt; what each
+-- piece of a text does to the reader is in Scan (bytes and tokens), and beside the theorems in Prefix (header and prefix lines) and Clauses
+-- (clause lines).
 pub mod Scan
-pub mod Prefix
-pub mod Clauses
-pub mod Laws
 use Rattle.std.specs.Prelude.{◌≡◌, List, length, ℤ}
 use Rattle.formula.specs.Tables.{zeros}
 use Rattle.formula.specs.Text.{padded}

@@ -1,10 +1,7 @@
 -- The check of tables (01, "What the checker says no with", order "Tables"; 02, P6): 2 on lengths and clause count, 9 for a prefix that is
 -- not in threes, entries of the prefix (5, 6, 5, 6), clause words (5, 7, 8), 9. Each word is judged from the left by its own rules in order. What tables pass, said
--- without an order, is in Tables/Proper.antt; the two agree by Tables/Laws.antt.
+-- without an order, is in Tables/Proper.antt; the two agree by proofs/Theorems/Tables/Laws.antt.
 pub mod Proper
-pub mod Examples
-pub mod Laws
-pub mod Refusals
 pub mod Scan
 use Rattle.std.specs.Prelude.{ℕ, zero, suc, ◌+◌, ◌%◌, ◌≡◌, Bool, false, not, ◌||◌, ◌&&◌, List, [], ◌∷◌, length, leb, ltb, eqb, ℤ, pos, negsuc}
 use Rattle.std.proofs.Math.Option.{Option, none, some}

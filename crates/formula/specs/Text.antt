@@ -1,15 +1,14 @@
 -- Reading a formula's text (01, "Formula text" and the order "Text"; 02, P2): 2 on length, then tokens from the left, at a token 10
 -- first, then 1, 4, 5, 2, 6, 8, 3; at the end 1, 9, 10, then 3 for the completed prefix. A state goes over the tokens; a refusal stops it.
 -- What the stages of reading answer, each from its state and place on, is in Header, Sets, Clauses, Fill: a stage that goes on
--- hands over a state and a place from which the text is read as the same. Laws are in Laws and in each stage's.
-pub mod Examples
+-- hands over a state and a place from which the text is read as the same. Laws are in Laws and in proofs/Theorems/Text.
 pub mod Laws
 pub mod Header
 pub mod Sets
 pub mod Clauses
 pub mod Fill
 pub mod Distinct
-pub mod Admits
+pub mod Examples
 use Rattle.std.specs.Prelude.{ℕ, zero, suc, ◌-◌, ◌≡◌, Bool, true, false, not, ◌&&◌, List, [], ◌∷◌, ◌++◌, length, leb, ltb, ℤ, pos, negsuc}
 use Rattle.std.proofs.Math.Option.{Option, none, some}
 use Rattle.formula.specs.Bounds.{variable_bound, count_bound, matrix_bound, text_bound}

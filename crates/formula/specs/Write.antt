@@ -2,9 +2,7 @@
 -- number of clauses, a line for each run of one quantifier, a line for each clause; single spaces, LF at each line's end.
 -- Bytes: 10 LF, 32 space, 45 minus, 48 the digit 0, 97 `a`, 101 `e`. Then what `write_formula` answers and leaves in the text.
 pub mod Stream
-pub mod Lines
 pub mod Laws
-pub mod Length
 pub mod Room
 pub mod Examples
 use Rattle.std.specs.Prelude.{ℕ, suc, max, ◌≡◌, Bool, true, false, length, replicate, leb, eqb, ℤ, pos, negsuc}

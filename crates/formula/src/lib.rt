@@ -1,5 +1,6 @@
 // Layer 1: the tables of a formula and their check, the refusals of the checker, reading and writing QDIMACS text.
 #![tactic(auto)]
+
 pub mod bounds;
 mod clauses;
 pub mod clear;

@@ -1,5 +1,5 @@
--- A row against a clause, as the code looks it up. That this is `blocked`, and what blocks `blockerOf`, is in Blocked/Laws.antt.
-pub mod Laws
+-- A row against a clause, as the code looks it up. That this is `blocked`, and what blocks `blockerOf`, is in
+-- proofs/Theorems/Blocked/Laws.antt.
 use Rattle.std.specs.Prelude.{ℕ, Bool, false, ◌&&◌, ◌||◌, List, [], ◌∷◌, get_or, eqb, nat_abs}
 use Rattle.formula.specs.Free.{occurs}
 use Rattle.inference.specs.Words.{Words}

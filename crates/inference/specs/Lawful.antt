@@ -3,8 +3,6 @@
 -- number, that each is lawful, that none stands after an empty clause, and that one is blocked.
 -- Steps.antt has the tests; what a refutation is stands in the checker.
 pub mod Laws
-pub mod Judged
-pub mod Steps
 use Rattle.std.specs.Prelude.{ℕ, suc, ◌+◌, ◌*◌, ◌<◌, ◌≡◌, ◌⊎◌, ◌≢◌, true, length, get_or, ℤ, pos, neg_ℤ, nat_abs}
 use mathlib.Core.List.{List, [], ◌∷◌, ◌++◌, map, Memᴰ}
 use Rattle.std.proofs.Math.Option.{some}

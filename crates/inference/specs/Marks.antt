@@ -1,7 +1,6 @@
 -- The marks of a step, as the code makes them: one flag a literal, and what marking a list of words, ticking one off and wiping do to the
--- marks and tell. That this judges a statement is in Marks/Judging.antt.
+-- marks and tell. That this judges a statement is in proofs/Theorems/Marks/Judging.antt.
 pub mod Laws
-pub mod Judging
 use Rattle.std.specs.Prelude.{ℕ, ◌≡◌, Bool, true, false, ◌&&◌, ◌||◌, List, [], ◌∷◌, get_or, set, replicate, eqb, ℤ, neg_ℤ}
 use Rattle.bits.specs.Flags.{flags}
 use Rattle.formula.specs.Word.{word_of, slot_of}

@@ -1,5 +1,4 @@
 -- Judgements of the code against the reasons of Steps.antt.
-pub mod Laws
 use Rattle.std.specs.Prelude.{ℕ, ◌≡◌, Bool, not, ◌&&◌, List, [], ℤ, set}
 use Rattle.std.proofs.Math.Option.{Option, none, some}
 use Rattle.formula.specs.declared.refusal.Reason.{Reason}

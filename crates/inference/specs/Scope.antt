@@ -1,5 +1,5 @@
--- What steps know of a formula, from its tables. That it decides what a lawful step asks for is in Scope/Laws.antt.
-pub mod Laws
+-- What steps know of a formula, from its tables. That it decides what a lawful step asks for is in
+-- proofs/Theorems/Scope/Laws.antt.
 use Rattle.std.specs.Prelude.{ℕ, Bool, List, ℤ}
 use Rattle.qbf.specs.Dependency.{depends}
 use Rattle.qbf.specs.Formula.{Formula, Prefix, existential, universal, after}

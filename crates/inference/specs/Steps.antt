@@ -1,7 +1,6 @@
 -- Steps (01, "Steps", and the order of refusals "For steps"): what the words of a step say, what is wrong with a step after
 -- given numbered clauses, and the run down the words. What steps know of the formula is a Scope; a proof is of one family of steps, and whether a step
 -- may follow an empty clause is the rules'.
-pub mod Tests
 pub mod Written
 pub mod Run
 use Rattle.std.specs.Prelude.{ℕ, zero, suc, ◌+◌, Bool, true, false, not, cond, ◌&&◌, ◌||◌, List, [], ◌∷◌, ◌++◌, length, ltb, ℤ, pos, negsuc, neg_ℤ, nat_abs}

@@ -1,2 +1,2 @@
-// What a formula's text is, said apart from the reader, and that the reader agrees: theorems alone, in specs/.
+// What a formula's text is, said apart from the reader, and that the reader agrees: theorems alone.
 #![tactic(auto)]

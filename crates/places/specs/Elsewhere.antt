@@ -12,7 +12,7 @@ use Rattle.formula.specs.Decode.{clauses_of, matrix_of}
 use Rattle.formula.specs.Prefix.{prefix_of, entry_count}
 use Rattle.formula.specs.Refusal.{refusal, require, unless}
 use Rattle.formula.specs.Tables.{zeros, tables_refusal, tables_answer}
-use Rattle.formula.specs.Tables.Refusals.{tables_refused}
+use Rattle.formula.proofs.Theorems.Tables.Refusals.{tables_refused}
 use Rattle.formula.specs.Write.{written, if_room, writing_refusal, answer_writing}
 use Rattle.formula.specs.declared.refusal.Reason.{Reason}
 use Rattle.formula.specs.declared.refusal.Reason.TheVariants.{Oversized, NoRoom, NoTrailer, OtherFormula, NotUniversal}

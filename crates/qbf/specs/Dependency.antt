@@ -1,6 +1,5 @@
 -- Dependence of an existential on a universal by the reflexive resolution-path scheme (01, "Paths and rows"; 000,
 -- Definition 7), and an executable test of it, for proofs and small examples.
-pub mod Laws
 use Rattle.std.specs.Prelude.{ℕ, ◌≡◌, Bool, true, false, not, ◌&&◌, ◌||◌}
 use mathlib.Core.List.{List, [], ◌∷◌, Memᴰ}
 use Rattle.std.proofs.Math.Decide.{ℕ_discrete}

@@ -1,6 +1,5 @@
 -- Resolution paths (01, "Paths and rows"; 000, Definition 4), and an executable test of them, for proofs and small
 -- examples: it makes three calls for each literal that may be passed, and no program runs it.
-pub mod Laws
 use Rattle.std.specs.Prelude.{ℕ, ◌≡◌, ◌≢◌, Bool, true, false, not, ◌&&◌, ◌||◌, eqb}
 use mathlib.Core.List.{List, [], ◌∷◌, Memᴰ}
 use Rattle.qbf.specs.Literal.{Literal, literal, neg, Clause, Matrix, same}

@@ -1,6 +1,5 @@
 -- The game (01, "The game and its tables"): positions, turns, what it is to be lost, and what it is to be won. Nothing here, nor
 -- in what this file imports, speaks of steps or dependencies.
-pub mod Laws
 use Rattle.std.specs.Prelude.{ℕ, ◌≡◌, Bool, true, false, not, ◌&&◌, ◌||◌, eqb}
 use Rattle.std.specs.Bool.{beq}
 use mathlib.Core.List.{[], ◌∷◌, Memᴰ}

@@ -1,8 +1,7 @@
 -- Lines and columns of a text (02, P1), apart from any reader: both count from 1, LF ends a line, every byte is one column. The place at
--- the text's end is the one just after the last byte. How the code moves on is in Position/Cursor.antt, laws are in Position/Laws.antt.
+-- the text's end is the one just after the last byte. How the code moves on is in Position/Cursor.antt, laws are in
+-- proofs/Theorems/Position/Laws.antt.
 pub mod Cursor
-pub mod Laws
-pub mod Examples
 use Rattle.std.specs.Prelude.{ℕ, suc, ◌+◌, cond, List, [], ◌∷◌, take, eqb}
 use Rattle.scanner.specs.declared.position.Position.{Position}
 

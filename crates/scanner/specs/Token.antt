@@ -1,9 +1,7 @@
 -- Tokens of a formula's text (01, "Formula text"): comments before the first token, then runs of bytes parted by space, tab, CR or LF,
 -- each judged whole. A token is its bytes and the place of the first; a word is compared by its bytes, a number by its value. How the code
--- finds and shows them is in Token/Scan.antt; that it is the same, in Token/Laws.antt and Token/Numbers.antt.
+-- finds and shows them is in Token/Scan.antt; that it is the same, in proofs/Theorems/Token.
 pub mod Scan
-pub mod Laws
-pub mod Numbers
 use Rattle.std.specs.Prelude.{ℕ, ◌+◌, ◌*◌, ◌-◌, ◌≤◌, ◌≡◌, Bool, true, false, ◌||◌, ◌&&◌, cond, List, [], ◌∷◌, ◌++◌, drop, length, leb, ltb, eqb}
 use Rattle.scanner.specs.Position.{line_feed}
 use Rattle.scanner.specs.declared.token.Lead.{Lead}

@@ -1,9 +1,7 @@
 -- The prefix before 02's P6: one word an entry, v existential and −v universal (01, "The game and its tables"). Nothing else reads a prefix so. Each
 -- admitted table has an old one with its entries, each old one that was admitted has a table of records, and what 01's entries answer is the same; the
--- theorems are in Signed/Laws.antt, and for verdicts without 17's numbers in Signed/Numbers.antt, 001's prefix both ways in Signed/Examples.antt.
-pub mod Laws
-pub mod Numbers
-pub mod Examples
+-- theorems are in proofs/Theorems/Signed/Laws.antt, and for verdicts without 17's numbers in Numbers.antt beside it, 001's prefix both ways in
+-- Examples.antt.
 use Rattle.std.specs.Prelude.{ℕ, suc, ◌≤◌, ◌≡◌, length, ℤ, pos, negsuc, neg_ℤ, nat_abs}
 use mathlib.Core.List.{List, [], map, Memᴰ}
 use Rattle.qbf.specs.Formula.{Quantifier, existential, universal, Entry, entry, Prefix, Formula, Distinct}

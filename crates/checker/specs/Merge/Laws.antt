@@ -24,7 +24,7 @@ use Rattle.inference.specs.Existentials.{quantified_flags}
 use Rattle.inference.specs.Existentials.Laws.{quantified_flag}
 use Rattle.inference.specs.Marks.{alone, slot_at, marks_in}
 use Rattle.inference.specs.Marks.Laws.{without_cons}
-use Rattle.inference.specs.Marks.Judging.{pick, zeros_at, Showing}
+use Rattle.inference.proofs.Theorems.Marks.Judging.{pick, zeros_at, Showing}
 use Rattle.inference.specs.Result.{unresolvable_in, JudgedClean}
 use Rattle.checker.specs.Step.{marks_of, Answers}
 use Rattle.checker.specs.Step.Laws.{drop_take, front_judged}

@@ -11,7 +11,7 @@ use Rattle.formula.specs.Bounds.{proof_bound}
 use Rattle.formula.specs.Decode.{clauses_of, formula_of}
 use Rattle.formula.specs.Decode.Laws.{clauses_no_zero}
 use Rattle.formula.specs.Tables.{zeros}
-use Rattle.formula.specs.Tables.Laws.{zeros_cons}
+use Rattle.formula.proofs.Theorems.Tables.Laws.{zeros_cons}
 use Rattle.dependency.specs.Scratch.{scratch_bound}
 use Rattle.inference.specs.declared.read.Family.{Family}
 use Rattle.inference.specs.declared.read.Family.TheVariants.{Ordinary, LongDistance}

@@ -8,7 +8,7 @@ use Rattle.std.proofs.Math.ListN.{drop, drop_of_length-le}
 use Rattle.std.proofs.Math.Decide.{dec_lt}
 use Rattle.formula.specs.Refusal.{refusal}
 use Rattle.formula.specs.Tables.{Admitted}
-use Rattle.formula.specs.Tables.Laws.{admitted_literal}
+use Rattle.formula.proofs.Theorems.Tables.Laws.{admitted_literal}
 use Rattle.formula.specs.Decode.{formula_of, clauses_of, clause_at}
 use Rattle.formula.specs.declared.refusal.Reason.{Reason}
 use Rattle.formula.specs.declared.refusal.Reason.TheVariants.{Afterword}
@@ -19,10 +19,10 @@ use Rattle.inference.specs.Words.{Words, AllWords, InRange}
 use Rattle.inference.specs.Steps.{Scope, Step, resolution, reduction, family_of, stated_by, size_of, judge, Judged, right, wrong, judge_read, judge_first, read_step, run, refused}
 use Rattle.inference.specs.Steps.Run.{run_right, run_wrong, after_refused, before_judged, rightly}
 use Rattle.inference.specs.Lawful.{NoZeros}
-use Rattle.inference.specs.Lawful.Judged.{judge_lawful}
+use Rattle.inference.proofs.Theorems.Lawful.Judged.{judge_lawful}
 use Rattle.inference.specs.Lawful.Laws.{lawful_all_words}
 use Rattle.inference.specs.Scope.{scope_of}
-use Rattle.inference.specs.Scope.Laws.{scope_decides}
+use Rattle.inference.proofs.Theorems.Scope.Laws.{scope_decides}
 use Rattle.inference.specs.Empty.{is_empty, some_empty, first_empty, empty_number, empty_after}
 use Rattle.inference.specs.Empty.Laws.{empty_after_lem, some_number}
 use Rattle.inference.specs.Numbered.{stored_at, stored}

@@ -17,8 +17,8 @@ use Rattle.formula.specs.Decode.Laws.{magnitude_negated, clauses_no_zero}
 use Rattle.formula.specs.Tables.{zeros, tables_refusal, Admitted}
 use Rattle.formula.specs.Prefix.{quantifier_number, prefix_of, with_blocks, entry_count, entry_at}
 use Rattle.formula.specs.Prefix.Laws.{entry_variable, entry_quantifier, entry_block, entry_member, block_variable, blocks_length}
-use Rattle.formula.specs.Tables.Laws.{admitted_words, admitted_prefix_distinct, admitted_closed, admitted_clause_distinct, admitted_proper}
-use Rattle.formula.specs.Tables.Refusals.{tables_refused}
+use Rattle.formula.proofs.Theorems.Tables.Laws.{admitted_words, admitted_prefix_distinct, admitted_closed, admitted_clause_distinct, admitted_proper}
+use Rattle.formula.proofs.Theorems.Tables.Refusals.{tables_refused}
 use Rattle.formula.specs.Refusal.{refusal, require, number, no_blocker}
 use Rattle.formula.specs.declared.refusal.Refusal.{Refusal}
 use Rattle.formula.specs.declared.refusal.Blocker.{Blocker}
@@ -30,11 +30,11 @@ use Rattle.inference.specs.Rules.{Rules}
 use Rattle.formula.specs.Refusal.Laws.{require_passed}
 use Rattle.inference.specs.Words.{Words}
 use Rattle.inference.specs.Steps.{Step, resolution, reduction, family_of, Outcome, ended, refused, run}
-use Rattle.inference.specs.Steps.Tests.{opposite_zero}
+use Rattle.inference.proofs.Theorems.Steps.Tests.{opposite_zero}
 use Rattle.inference.specs.Lawful.{step_words, numbered_clauses, OfFamily, BlockedStep, RunBlocked, BlockerEntry}
 use Rattle.inference.specs.Lawful.Laws.{numbered_length}
 use Rattle.inference.specs.Steps.Written.{family_written}
-use Rattle.inference.specs.Lawful.Steps.{run_lawful, lawful_run, run_blocked, RunEnds}
+use Rattle.inference.proofs.Theorems.Lawful.Steps.{run_lawful, lawful_run, run_blocked, RunEnds}
 use Rattle.inference.specs.Derived.{AllDerived}
 use Rattle.inference.specs.Derived.Laws.{lawful_steps_derived, derived_lost}
 use Rattle.checker.specs.Refutation.{Accepting}
@@ -43,7 +43,7 @@ use Rattle.checker.specs.Verdict.{conclusion, concluded, conclude, if_admitted, 
 use Rattle.inference.specs.Scope.{scope_of}
 use Rattle.inference.specs.Empty.{first_empty}
 use Rattle.checker.specs.Verdict.Conclusion.{run_conclusion}
-use Rattle.inference.specs.Scope.Laws.{scope_decides}
+use Rattle.inference.proofs.Theorems.Scope.Laws.{scope_decides}
 
 -- The order of refusals, taken apart.
 admitted_passed : (o : Option Refusal) (later v : Verdict) → ((r : Refusal) → o ≡ some r → v ≢ Refused r) → if_admitted o later ≡ v → (o ≡ none) × (later ≡ v)

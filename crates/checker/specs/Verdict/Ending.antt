@@ -10,7 +10,7 @@ use Rattle.std.proofs.Math.Option.{Option, none, some}
 use Rattle.std.proofs.Math.Decide.{ℕ_discrete}
 use Rattle.formula.specs.Decode.{clauses_of}
 use Rattle.formula.specs.Tables.{zeros}
-use Rattle.formula.specs.Tables.Laws.{admitted_closed}
+use Rattle.formula.proofs.Theorems.Tables.Laws.{admitted_closed}
 use Rattle.formula.specs.Refusal.{refusal}
 use Rattle.formula.specs.declared.refusal.Reason.TheVariants.{NoConclusion, Afterword}
 use Rattle.checker.specs.declared.verdict.Verdict.{Verdict}

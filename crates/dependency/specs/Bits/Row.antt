@@ -12,7 +12,7 @@ use Rattle.bits.specs.Flags.Laws.{length_flags, flags_take, flags_drop}
 use Rattle.qbf.specs.Connectives.{and_both, both_and, or_either, or_left, or_right}
 use Rattle.qbf.specs.Formula.{Formula}
 use Rattle.qbf.specs.Dependency.{Depends, depends}
-use Rattle.qbf.specs.Dependency.Laws.{depends_sound, depends_complete}
+use Rattle.qbf.proofs.Dependency.Laws.{depends_sound, depends_complete}
 use Rattle.formula.specs.Word.{slot}
 use Rattle.formula.specs.Tables.{Admitted}
 use Rattle.formula.specs.Decode.{formula_of}

@@ -9,11 +9,11 @@ use Rattle.std.proofs.Math.ListN.{get_or, length-append, get_or-append}
 use Rattle.std.proofs.lemmas.List.{get_or_at}
 use Rattle.qbf.specs.Formula.{Formula, universal, entry}
 use Rattle.qbf.specs.Dependency.{Depends, depends}
-use Rattle.qbf.specs.Dependency.Laws.{depends_sound, depends_complete}
+use Rattle.qbf.proofs.Dependency.Laws.{depends_sound, depends_complete}
 use Rattle.formula.specs.Prefix.{prefix_of, quantifies}
 use Rattle.formula.specs.Prefix.Laws.{quantifies_sound}
 use Rattle.formula.specs.Tables.{Admitted}
-use Rattle.formula.specs.Tables.Laws.{admitted_entries}
+use Rattle.formula.proofs.Theorems.Tables.Laws.{admitted_entries}
 use Rattle.dependency.specs.Row.{mark, row_below, row_of}
 
 -- A universal of admitted tables is in range.

@@ -8,7 +8,7 @@ use Rattle.qbf.specs.Literal.{Literal, neg}
 use Rattle.qbf.specs.Path.{Joined, Path}
 use Rattle.formula.specs.Word.{slot}
 use Rattle.formula.specs.Word.Laws.{word_of_literal}
-use Rattle.qbf.specs.Path.Laws.{closed_holds_paths}
+use Rattle.qbf.proofs.Path.Laws.{closed_holds_paths}
 use Rattle.formula.specs.Decode.{literal_of, clause_of}
 use Rattle.dependency.specs.Marks.{reach_at, clause_entry, pass}
 use Rattle.dependency.specs.Search.{ordered}

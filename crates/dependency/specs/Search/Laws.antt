@@ -13,7 +13,7 @@ use Rattle.qbf.specs.Dependency.{passable}
 use Rattle.formula.specs.Word.{slot}
 use Rattle.formula.specs.Prefix.{prefix_of}
 use Rattle.formula.specs.Tables.{Admitted}
-use Rattle.formula.specs.Tables.Laws.{admitted_entries, admitted_proper}
+use Rattle.formula.proofs.Theorems.Tables.Laws.{admitted_entries, admitted_proper}
 use Rattle.formula.specs.Decode.{clauses_of, clause_of, formula_of}
 use Rattle.dependency.specs.Search.{open_entries, Settled, Searched}
 use Rattle.dependency.specs.Search.Invariant.{Kept, passes_kept}

@@ -5,10 +5,10 @@ use Rattle.std.proofs.Common.{ap, sym, ◌∙◌, arith}
 use Rattle.std.proofs.Math.Option.{some}
 use borrow.Author.Tests.{le-leb, lt-leb}
 use Rattle.qbf.specs.Play.{Values, satisfied, falsified, lost, Lost, Won}
-use Rattle.qbf.specs.Play.Laws.{lost_any_values, won_exactly}
+use Rattle.qbf.proofs.Play.Laws.{lost_any_values, won_exactly}
 use Rattle.formula.specs.Refusal.{refusal}
 use Rattle.formula.specs.Tables.{zeros, clauses_refusal, prefix_refusal, words_refusal, tables_refusal, Admitted}
-use Rattle.formula.specs.Tables.Laws.{admitted_proper}
+use Rattle.formula.proofs.Theorems.Tables.Laws.{admitted_proper}
 use Rattle.formula.specs.Word.{word_of}
 use Rattle.formula.specs.Prefix.{prefix_of, entry_count}
 use Rattle.formula.specs.Decode.{clauses_of, matrix_of, formula_of}

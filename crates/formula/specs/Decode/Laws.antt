@@ -1,5 +1,5 @@
 -- Laws of decoding: what a word's entry and literal are, the first clause of a list of words and the clauses after it, and
--- which words stand in which clause. Laws that need the check of tables are in Tables/Laws.antt. Assumes nothing.
+-- which words stand in which clause. Laws that need the check of tables are in proofs/Theorems/Tables/Laws.antt. Assumes nothing.
 use Rattle.std.specs.Prelude.{ℕ, zero, suc, ◌≤◌, ◌<◌, ◌≡◌, refl, ◌⊎◌, length, get_or, take, drop, ℤ, pos, negsuc, neg_ℤ, nat_abs}
 use Rattle.std.proofs.Common.{ap, sym, ◌∙◌, subst, inl, inr, arith, length-take-le}
 use Rattle.std.proofs.lemmas.Bool.{false≢true}

@@ -1,6 +1,5 @@
 -- The completion as the code does it, by the marks that reading the clauses leaves (Text/Clauses.antt says what a mark is). Laws are in
--- Complete/Laws.antt.
-pub mod Laws
+-- proofs/Theorems/Free/Complete/Laws.antt.
 use Rattle.std.specs.Prelude.{ℕ, ◌+◌, ◌%◌, ◌≤◌, ◌<◌, ◌≡◌, Bool, not, ◌&&◌, List, ◌++◌, ltb, eqb, ℤ, length, get_or, take, drop}
 use Rattle.qbf.specs.Formula.{Prefix}
 use Rattle.formula.specs.Prefix.{prefix_words, entry_words, entries_in}

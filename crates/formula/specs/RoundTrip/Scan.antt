@@ -10,7 +10,7 @@ use Rattle.formula.specs.Decimal.{decimal}
 use Rattle.formula.specs.Decimal.Laws.{decimal_induction}
 use Rattle.scanner.specs.Position.{line_feed}
 use Rattle.scanner.specs.Token.{is_digit, is_blank, AllSolid, IsRun, Token, tokens_from, same, natural, negative, all_digits, value_from, is_numeral, number_of}
-use Rattle.scanner.specs.Token.Numbers.{all_snoc, value_snoc}
+use Rattle.scanner.proofs.Theorems.Token.Numbers.{all_snoc, value_snoc}
 use Rattle.formula.specs.Text.{State, step, run}
 
 solid_append : (xs ys : List ℕ) → AllSolid xs → AllSolid ys → AllSolid (xs ++ ys)

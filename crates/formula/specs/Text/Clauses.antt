@@ -1,6 +1,5 @@
 -- What the functions that read the clauses of a text answer and leave in the clause table and in the marks. Laws are in
--- Clauses/Laws.antt.
-pub mod Laws
+-- proofs/Theorems/Text/Clauses/Laws.antt.
 use Rattle.std.specs.Prelude.{ℕ, ◌+◌, ◌*◌, ◌/◌, ◌%◌, ◌≤◌, ◌<◌, ◌≡◌, Bool, true, false, not, List, [], ℤ, pos, length, get_or, set, take, ltb, eqb}
 use Rattle.std.proofs.Math.Option.{Option}
 use Rattle.qbf.specs.Formula.{Prefix, listed}

@@ -1,5 +1,4 @@
--- What the function that fills both tables promises. Laws are in Fill/Laws.antt.
-pub mod Laws
+-- What the function that fills both tables promises. Laws are in proofs/Theorems/Text/Fill/Laws.antt.
 use Rattle.std.specs.Prelude.{◌≤◌, ◌≡◌, List, ℤ, length, take}
 use Rattle.formula.specs.Text.{Reading, read, refused}
 use Rattle.formula.specs.declared.read.ReadAnswer.{ReadAnswer}

@@ -11,7 +11,7 @@ use Rattle.formula.specs.Bounds.{matrix_bound}
 use Rattle.scanner.specs.Position.Cursor.{PositionIn}
 use Rattle.formula.specs.Refusal.{in_text, refused_at}
 use Rattle.scanner.specs.Token.{Token, tokens_at}
-use Rattle.scanner.specs.Token.Laws.{Finds}
+use Rattle.scanner.proofs.Theorems.Token.Laws.{Finds}
 use Rattle.formula.specs.Text.{refused, State, stopped, variable_reason, literal_reason, closing_reason, step, run, ending, reading_from}
 use Rattle.scanner.specs.declared.position.Position.{Position}
 use Rattle.formula.specs.declared.refusal.Reason.{Reason}

@@ -1,6 +1,5 @@
 -- What the functions that read the quantifier sets of a text answer and leave in the prefix table and in the marks. What
--- the table holds is said as entries. Laws are in Sets/Laws.antt.
-pub mod Laws
+-- the table holds is said as entries. Laws are in proofs/Theorems/Text/Sets/Laws.antt.
 use Rattle.std.specs.Prelude.{ℕ, ◌+◌, ◌≤◌, ◌<◌, ◌≡◌, Bool, true, false, List, [], ℤ, length, get_or, set, ltb}
 use Rattle.std.proofs.Math.Option.{Option}
 use Rattle.qbf.specs.Formula.{Quantifier, entry, Prefix, listed}

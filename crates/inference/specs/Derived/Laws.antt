@@ -9,7 +9,7 @@ use Rattle.qbf.specs.Formula.{Formula, Existential, UniversalRightOf, Proper}
 use Rattle.qbf.specs.Dependency.{Depends}
 use Rattle.qbf.specs.Derivation.{Derivation, resolve, reduce, Concludes, Valid}
 use Rattle.qbf.specs.Play.{Lost}
-use Rattle.qbf.specs.Soundness.{derived_one_sign, soundness}
+use Rattle.qbf.proofs.Soundness.{derived_one_sign, soundness}
 use Rattle.formula.specs.Decode.{literal_of}
 use Rattle.formula.specs.Decode.Laws.{magnitude_same, literal_variable, literal_negated, literal_injective}
 use Rattle.inference.specs.declared.read.Family.{Family}

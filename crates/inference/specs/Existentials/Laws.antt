@@ -19,7 +19,7 @@ use Rattle.formula.specs.Prefix.Laws.{quantifies_sound}
 use Rattle.formula.specs.Word.{word_of, variable_of, positive, negative}
 use Rattle.formula.specs.Word.Laws.{variable_magnitude, variable_large}
 use Rattle.formula.specs.Tables.{Admitted}
-use Rattle.formula.specs.Tables.Laws.{admitted_entries}
+use Rattle.formula.proofs.Theorems.Tables.Laws.{admitted_entries}
 use Rattle.formula.specs.declared.literal.Variable.{Variable}
 use Rattle.formula.specs.declared.literal.VariableFit.{VariableFit}
 use Rattle.formula.specs.declared.literal.VariableFit.TheVariants.{Within, Outside}

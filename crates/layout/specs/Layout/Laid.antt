@@ -36,7 +36,7 @@ use Rattle.formula.specs.Text.{
   step,
   run,
 }
-use Rattle.formula.specs.Text.Clauses.Laws.{signed_magnitude}
+use Rattle.formula.proofs.Theorems.Text.Clauses.Laws.{signed_magnitude}
 use Rattle.formula.specs.Text.Laws.{literal_fine, closing_fine}
 use Rattle.scanner.specs.Token.{Token, same, p_text, cnf_text, e_text, a_text, Number, natural, negative, no_number, number_of}
 use Rattle.formula.specs.Word.{signed}

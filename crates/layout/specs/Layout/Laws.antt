@@ -15,7 +15,7 @@ use Rattle.formula.specs.Prefix.{prefix_words, entry_words}
 use Rattle.formula.specs.Prefix.Laws.{words_length, words_rise}
 use Rattle.formula.specs.Refusal.{refusal, require}
 use Rattle.formula.specs.Tables.{zeros, Admitted}
-use Rattle.formula.specs.Tables.Laws.{zeros_clauses, admitted_tables}
+use Rattle.formula.proofs.Theorems.Tables.Laws.{zeros_clauses, admitted_tables}
 use Rattle.scanner.specs.Token.{is_blank, first_token, tokens_from, tokens, p_text, cnf_text}
 use Rattle.formula.specs.Text.{
   read,
@@ -39,10 +39,11 @@ use Rattle.formula.specs.Text.{
   ending,
   reading,
 }
-use Rattle.formula.specs.Text.Admits.{Sound, run_sound, ReadAdmitted, read_admitted}
-use Rattle.formula.specs.Text.Distinct.{Ranged, PrefixFine, apart_distinct}
-use Rattle.formula.specs.RoundTrip.Clauses.{among_sets}
-use Rattle.formula.specs.RoundTrip.Laws.{written_read}
+use Rattle.formula.proofs.Theorems.Text.Admits.{Sound, run_sound, ReadAdmitted, read_admitted}
+use Rattle.formula.specs.Text.Distinct.{Ranged, PrefixFine}
+use Rattle.formula.proofs.Theorems.Text.Distinct.{apart_distinct}
+use Rattle.formula.proofs.Theorems.RoundTrip.Clauses.{among_sets}
+use Rattle.formula.proofs.Theorems.RoundTrip.Laws.{written_read}
 use Rattle.formula.specs.Write.{literal_text, written}
 use Rattle.formula.specs.declared.refusal.Reason.TheVariants.{Oversized, NoRoom}
 use Rattle.formula.specs.declared.refusal.Refusal.{Refusal}

@@ -4,7 +4,7 @@ use Rattle.std.proofs.Common.{ap, sym, ◌∙◌, inl, inr, append_assoc, arith,
 use Rattle.std.proofs.lemmas.Bool.{eqb-false}
 use Rattle.scanner.specs.Position.{line_feed}
 use Rattle.scanner.specs.Token.{is_blank, line_step, lead_place, lead_from}
-use Rattle.scanner.specs.Token.Laws.{solid_no_feed}
+use Rattle.scanner.proofs.Theorems.Token.Laws.{solid_no_feed}
 use Rattle.scanner.specs.declared.token.Lead.{Lead}
 use Rattle.scanner.specs.declared.token.Lead.TheVariants.{LineStart, InLine, Comment, Over}
 use Rattle.layout.specs.Layout.{AllBlank, NoFeed, IsComment, LeadLines, lead_text}

@@ -12,15 +12,15 @@ use Rattle.formula.specs.Bounds.{variable_bound, count_bound, matrix_bound}
 use Rattle.formula.specs.Decimal.{decimal}
 use Rattle.formula.specs.Decimal.Laws.{decimal_small}
 use Rattle.formula.specs.Decode.Laws.{magnitude_positive}
-use Rattle.formula.specs.Free.Laws.{listed_append}
+use Rattle.formula.proofs.Theorems.Free.Laws.{listed_append}
 use Rattle.formula.specs.Prefix.{entry_words, entry_fits}
 use Rattle.formula.specs.Prefix.Laws.{words_rise, entry_room}
 use Rattle.formula.specs.RoundTrip.Scan.{decimal_number, minus_number, decimal_unlike}
-use Rattle.formula.specs.RoundTrip.Clauses.{open_word, zeros_word, Among, among_clauses}
+use Rattle.formula.proofs.Theorems.RoundTrip.Clauses.{open_word, zeros_word, Among, among_clauses}
 use Rattle.formula.specs.Tables.{is_in, zeros}
-use Rattle.formula.specs.Tables.Laws.{is_in_absent}
+use Rattle.formula.proofs.Theorems.Tables.Laws.{is_in_absent}
 use Rattle.formula.specs.Text.{State, wantsP, wantsCnf, wantsV, wants_c, between_sets, in_set, clauses, open_clause, variable_reason, literal_reason, closing_reason, step, run}
-use Rattle.formula.specs.Text.Clauses.Laws.{open_closing, zeros_closing}
+use Rattle.formula.proofs.Theorems.Text.Clauses.Laws.{open_closing, zeros_closing}
 use Rattle.scanner.specs.Token.{Token, same, p_text, cnf_text}
 use Rattle.formula.specs.Write.{letter_of, literal_text}
 use Rattle.layout.specs.Layout.{QuantifierSet, set_tokens, Sets, clause_tokens, Clauses, set_entries, entries_of, closed, words_of}

@@ -10,7 +10,7 @@ use Rattle.formula.specs.Prefix.Laws.{entries_drop, entry_member, quantifies_com
 use Rattle.formula.specs.Refusal.{refusal, require}
 use Rattle.formula.specs.Tables.{Admitted}
 use Rattle.formula.specs.Text.{read, refused, reading}
-use Rattle.formula.specs.Text.Admits.{read_admitted}
+use Rattle.formula.proofs.Theorems.Text.Admits.{read_admitted}
 use Rattle.formula.specs.declared.refusal.Refusal.{Refusal}
 use Rattle.formula.specs.declared.refusal.Reason.TheVariants.{Oversized}
 use Rattle.dependency.specs.Row.{row_of}

@@ -11,12 +11,12 @@ use Rattle.std.proofs.Math.ListN.{length, length-append}
 use Rattle.qbf.specs.Formula.{Quantifier, existential, universal, Entry, entry, Prefix, Formula, Existential, after}
 use Rattle.qbf.specs.Formula.Laws.{quantifiers_exclusive, existentials_member, after_own, after_other}
 use Rattle.qbf.specs.Dependency.{depends, Depends}
-use Rattle.qbf.specs.Dependency.Laws.{depends_sound, depends_existential}
+use Rattle.qbf.proofs.Dependency.Laws.{depends_sound, depends_existential}
 use Rattle.formula.specs.Decimal.Laws.{length_decimal}
 use Rattle.formula.specs.Decode.{formula_of}
 use Rattle.formula.specs.Prefix.{prefix_of, is_quantifier}
 use Rattle.formula.specs.Tables.{Admitted}
-use Rattle.formula.specs.Tables.Laws.{admitted_prefix_length, admitted_prefix_distinct, admitted_entries}
+use Rattle.formula.proofs.Theorems.Tables.Laws.{admitted_prefix_length, admitted_prefix_distinct, admitted_entries}
 use Rattle.report.specs.Dependents.{if_dependent, dependents, universal_line, if_universal, entry_line, universal_lines, text_room}
 
 -- How many entries have a quantifier.

@@ -8,7 +8,7 @@ use Rattle.formula.specs.Prefix.{prefix_of}
 use Rattle.formula.specs.Tables.{zeros, Admitted}
 use Rattle.formula.specs.Write.{written}
 use Rattle.formula.specs.Write.Examples.{written_example}
-use Rattle.formula.specs.RoundTrip.Laws.{written_read}
+use Rattle.formula.proofs.Theorems.RoundTrip.Laws.{written_read}
 use Rattle.prooffile.specs.File.Layout.{file_of}
 use Rattle.prooffile.specs.File.Layout.Laws.{file_of_length}
 use Rattle.inference.specs.Rules.{plain_rules}

@@ -6,9 +6,9 @@ use Rattle.std.proofs.Common.{ap, ◌∙◌, inl, inr, arith, le-leb}
 use Rattle.formula.specs.Decode.{clauses_of}
 use Rattle.formula.specs.Prefix.{entry_count}
 use Rattle.formula.specs.Tables.{zeros}
-use Rattle.formula.specs.Tables.Laws.{admitted_closed, admitted_count}
+use Rattle.formula.proofs.Theorems.Tables.Laws.{admitted_closed, admitted_count}
 use Rattle.formula.specs.Text.{read}
-use Rattle.formula.specs.Text.Admits.{read_admitted}
+use Rattle.formula.proofs.Theorems.Text.Admits.{read_admitted}
 use Rattle.formula.specs.declared.refusal.Refusal.{Refusal}
 use Rattle.dependency.specs.Scratch.{scratch_bound}
 use Rattle.prooffile.specs.File.{trailer_start, distance, proof_reading}

@@ -5,9 +5,9 @@ use Rattle.std.proofs.Common.{ap, ◌∙◌, arith, length-append}
 use Rattle.std.proofs.Math.ListN.{length}
 use Rattle.std.proofs.Math.Seq.{take-append_seam}
 use Rattle.formula.specs.Refusal.{refusal}
-use Rattle.formula.specs.Tables.Laws.{admitted_count}
+use Rattle.formula.proofs.Theorems.Tables.Laws.{admitted_count}
 use Rattle.formula.specs.Text.{Reading, read, refused, reading, read_answer, prefix_read, clauses_read, padded, ReadPost}
-use Rattle.formula.specs.Text.Admits.{read_admitted}
+use Rattle.formula.proofs.Theorems.Text.Admits.{read_admitted}
 use Rattle.formula.specs.declared.read.ReadAnswer.{ReadAnswer}
 use Rattle.formula.specs.declared.read.ReadAnswer.TheVariants.{Read, Refused}
 use Rattle.formula.specs.declared.refusal.Refusal.{Refusal}

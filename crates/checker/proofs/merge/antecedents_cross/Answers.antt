@@ -19,7 +19,7 @@ use Rattle.inference.specs.Scope.{mergeable_in}
 use Rattle.inference.specs.Steps.{crosses}
 use Rattle.inference.specs.Marks.{marks_in, Marked}
 use Rattle.checker.specs.Step.{marks_of}
-use Rattle.inference.specs.Result.Laws.{without_in_range, marked_showing}
+use Rattle.inference.proofs.Theorems.Result.Laws.{without_in_range, marked_showing}
 use Rattle.checker.specs.Merge.{crosses_marks}
 use Rattle.checker.specs.Merge.Laws.{shown_crosses, kept_before}
 use Rattle.inference.proofs.Signed.{pivot_word, opposite_word_fits}

@@ -18,7 +18,7 @@ use Rattle.inference.specs.Words.{without}
 use Rattle.inference.specs.Scope.{mergeable_in}
 use Rattle.checker.specs.Step.{marks_of}
 use Rattle.inference.specs.Existentials.{quantified_flags}
-use Rattle.inference.specs.Result.Laws.{without_in_range}
+use Rattle.inference.proofs.Theorems.Result.Laws.{without_in_range}
 use Rattle.checker.specs.Merge.{merge_at, universals_in, crosses_by}
 use Rattle.checker.specs.Merge.Laws.{filled_size, filled_before, filled_part, marks_before, none_met, none_flagged, flags_cross}
 use Rattle.checker.proofs.merge.unmergeable.Tie as tie

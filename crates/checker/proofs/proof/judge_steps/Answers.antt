@@ -6,7 +6,7 @@ use mathlib.Core.List.{List, ◌++◌}
 use native.Mathlib.Omega.{arith}
 use lib.ListN.{length, take, drop, replicate}
 use Rattle.formula.specs.Decode.{clauses_of}
-use Rattle.formula.specs.Tables.Laws.{admitted_entries, admitted_clauses_length, admitted_closed}
+use Rattle.formula.proofs.Theorems.Tables.Laws.{admitted_entries, admitted_clauses_length, admitted_closed}
 use Rattle.checker.specs.declared.run.Run.TheVariants.{Ended}
 use Rattle.checker.specs.Step.{Ready}
 use Rattle.checker.specs.Step.Laws.{filled_ready}

@@ -9,7 +9,7 @@ use mir.Val.{to_z, of_z}
 use Rattle.qbf.specs.Connectives.{and_both}
 use Rattle.formula.specs.Bounds.{in_range}
 use Rattle.formula.specs.Bounds.Laws.{literal_made, literal_refused}
-use Rattle.formula.specs.Tables.Laws.{admitted_entries}
+use Rattle.formula.proofs.Theorems.Tables.Laws.{admitted_entries}
 use Rattle.formula.specs.Word.Laws.{variable_magnitude}
 use Rattle.inference.specs.Steps.{judge_reduction}
 use Rattle.inference.specs.Existentials.Laws.{universal_outside}

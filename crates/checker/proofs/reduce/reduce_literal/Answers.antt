@@ -9,7 +9,7 @@ use Rattle.qbf.specs.Formula.{universal}
 use Rattle.formula.specs.Bounds.{variable_fit}
 use Rattle.formula.specs.Decode.{clause_at}
 use Rattle.formula.specs.Prefix.{prefix_of, quantifies}
-use Rattle.formula.specs.Tables.Laws.{admitted_entries}
+use Rattle.formula.proofs.Theorems.Tables.Laws.{admitted_entries}
 use Rattle.inference.specs.Words.{holds}
 use Rattle.inference.specs.Steps.{judge_reduction}
 use Rattle.inference.specs.Existentials.Laws.{listed_ranged, fit_found, fit_missed}

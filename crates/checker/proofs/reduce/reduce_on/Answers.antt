@@ -5,14 +5,14 @@ use lib.ListN.{length, take}
 use lib.Seq.{length-take-le}
 use Rattle.dependency.specs.Scratch.{row_in}
 use Rattle.formula.specs.Decode.{clause_at}
-use Rattle.formula.specs.Tables.Laws.{admitted_words, admitted_entries}
+use Rattle.formula.proofs.Theorems.Tables.Laws.{admitted_words, admitted_entries}
 use Rattle.formula.specs.declared.refusal.Blocker.{Blocker}
 use Rattle.formula.specs.declared.refusal.Reason.TheVariants.{Blocked}
 use borrow.Author.Rules.{rules}
 use borrow.Rule.Slice.PartMut.{same_len_mid}
 use Rattle.inference.specs.Steps.{blocked}
 use Rattle.inference.specs.Scope.{scope_of}
-use Rattle.inference.specs.Blocked.Laws.{row_blocked, row_blocker}
+use Rattle.inference.proofs.Theorems.Blocked.Laws.{row_blocked, row_blocker}
 use Rattle.inference.specs.declared.result.Judgement.TheVariants.{Wrong}
 use Rattle.checker.specs.Step.Laws.{none_kept, row_kept, kept_again, front_judged}
 use Rattle.checker.proofs.reduce.reduce_on.Tie as tie

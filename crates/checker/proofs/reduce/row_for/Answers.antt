@@ -6,7 +6,7 @@ use lib.ListN.{length, take}
 use borrow.Author.Rules.{rules}
 use borrow.Rule.Slice.PartMut.{same_len_mid}
 use Rattle.qbf.specs.Formula.{universal}
-use Rattle.formula.specs.Tables.Laws.{admitted_entries}
+use Rattle.formula.proofs.Theorems.Tables.Laws.{admitted_entries}
 use Rattle.inference.specs.Existentials.Laws.{listed_ranged}
 use Rattle.checker.specs.Step.Laws.{kept_row, filled_ready, filled_row}
 use Rattle.checker.proofs.reduce.row_for.Tie as tie

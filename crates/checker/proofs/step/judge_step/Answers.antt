@@ -1,6 +1,6 @@
 -- `judge_step` by the kind. Assumes nothing.
 use borrow.Author.Rules.{rules}
-use Rattle.formula.specs.Tables.Laws.{admitted_entries}
+use Rattle.formula.proofs.Theorems.Tables.Laws.{admitted_entries}
 use Rattle.inference.specs.Numbered.{stored}
 use Rattle.checker.specs.Step.Laws.{ready_clean, resolution_answers}
 use Rattle.checker.proofs.step.judge_step.Goals as goal

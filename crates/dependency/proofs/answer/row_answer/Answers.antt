@@ -6,7 +6,7 @@ use mir.Val.{to_z, of_z}
 use borrow.Author.Rules.{rules}
 use Rattle.formula.specs.Prefix.{prefix_of}
 use Rattle.formula.specs.Tables.{Admitted}
-use Rattle.formula.specs.Tables.Laws.{answer_admitted, answer_refused, admitted_entries}
+use Rattle.formula.proofs.Theorems.Tables.Laws.{answer_admitted, answer_refused, admitted_entries}
 use Rattle.dependency.specs.Answer.{row_refusal, asked_refusal, answer_row}
 use Rattle.dependency.proofs.answer.row_answer.Tie as tie
 use Rattle.dependency.proofs.answer.row_answer.Lts as lts

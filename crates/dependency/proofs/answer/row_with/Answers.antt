@@ -15,7 +15,7 @@ use Rattle.formula.specs.declared.refusal.Refusal.{Refusal}
 use Rattle.formula.specs.declared.word.Word.TheVariants.{Positive}
 use Rattle.formula.specs.Clear.{clear_from}
 use Rattle.formula.specs.Prefix.{prefix_of, quantifies}
-use Rattle.formula.specs.Tables.Laws.{admitted_entries}
+use Rattle.formula.proofs.Theorems.Tables.Laws.{admitted_entries}
 use Rattle.dependency.specs.Answer.{row_refusal, answer_row}
 use Rattle.dependency.specs.Answer.Laws.{row_passed, row_refused, Granted, granted, asked_word, asked_variable}
 use Rattle.dependency.proofs.answer.row_with.Tie as tie

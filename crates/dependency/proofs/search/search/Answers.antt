@@ -9,7 +9,7 @@ use lib.ListN.{get_or, set, replicate}
 use Rattle.qbf.specs.Formula.{after}
 use Rattle.formula.specs.Word.{slot}
 use Rattle.formula.specs.Prefix.{prefix_of}
-use Rattle.formula.specs.Tables.Laws.{admitted_entries}
+use Rattle.formula.proofs.Theorems.Tables.Laws.{admitted_entries}
 use Rattle.dependency.specs.Search.{open_entries, ones}
 use Rattle.dependency.specs.Search.Laws.{source_open, searched}
 use Rattle.dependency.specs.Bits.{marks_in}

@@ -1,6 +1,6 @@
 -- `evaluate` hands on the tables' refusal, and plays what they let pass. Assumes nothing.
 use mathlib.Core.Path.{sym, ◌∙◌}
-use Rattle.formula.specs.Tables.Laws.{answer_admitted, answer_refused}
+use Rattle.formula.proofs.Theorems.Tables.Laws.{answer_admitted, answer_refused}
 use Rattle.evaluator.specs.Evaluation.{evaluation_of}
 use Rattle.evaluator.proofs.evaluation.evaluate.Goals as goal
 

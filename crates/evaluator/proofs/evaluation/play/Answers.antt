@@ -5,7 +5,7 @@ use mathlib.Core.Bool.{Bool, true, false}
 use native.Mathlib.Omega.{arith}
 use lib.Dec.{leb}
 use Rattle.formula.specs.Prefix.{entry_count}
-use Rattle.formula.specs.Tables.Laws.{admitted_entries}
+use Rattle.formula.proofs.Theorems.Tables.Laws.{admitted_entries}
 use Rattle.evaluator.specs.declared.evaluation.GameFit.TheVariants.{Within, Oversized}
 use Rattle.evaluator.specs.declared.evaluation.GameLength.{GameLength}
 use Rattle.evaluator.specs.Evaluation.{game_bound, game_fit, verdict, evaluation_of}

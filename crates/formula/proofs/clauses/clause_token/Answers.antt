@@ -1,6 +1,6 @@
 -- `clause_token` answers by the token: each need is one law of Text.Clauses. Assumes nothing.
 use mathlib.Core.Path.{◌∙◌}
-use Rattle.formula.specs.Text.Clauses.Laws.{natural_post, negative_post, no_number_post, closing_post}
+use Rattle.formula.proofs.Theorems.Text.Clauses.Laws.{natural_post, negative_post, no_number_post, closing_post}
 use borrow.Author.Rules.{rules}
 use Rattle.formula.proofs.clauses.clause_token.Goals as goal
 

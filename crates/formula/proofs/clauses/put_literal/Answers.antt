@@ -6,7 +6,7 @@ use lib.ListN.{length, get_or}
 use Rattle.formula.specs.Bounds.{variable_bound}
 use Rattle.formula.specs.Text.Laws.{LiteralFine, literal_fine}
 use Rattle.formula.specs.Text.Clauses.{holds_open, literal_step, marked_reason}
-use Rattle.formula.specs.Text.Clauses.Laws.{literal_none}
+use Rattle.formula.proofs.Theorems.Text.Clauses.Laws.{literal_none}
 use Rattle.formula.proofs.SignedWord.{signed_back}
 use borrow.Author.Rules.{rules}
 use Rattle.formula.proofs.clauses.put_literal.Tie as tie

@@ -6,8 +6,8 @@ use native.Mathlib.Omega.{arith}
 use lib.ListN.{length}
 use Rattle.scanner.specs.Position.Cursor.{PositionIn}
 use Rattle.scanner.specs.Token.{number_of}
-use Rattle.scanner.specs.Token.Laws.{Finds, no_token, token_found}
-use Rattle.formula.specs.Text.Clauses.Laws.{ClausesSoFar, clauses_begin, clauses_end_lem, clauses_over, clauses_refuse, clauses_literal, clauses_closed}
+use Rattle.scanner.proofs.Theorems.Token.Laws.{Finds, no_token, token_found}
+use Rattle.formula.proofs.Theorems.Text.Clauses.Laws.{ClausesSoFar, clauses_begin, clauses_end_lem, clauses_over, clauses_refuse, clauses_literal, clauses_closed}
 use borrow.Author.Rules.{rules}
 use Rattle.formula.proofs.clauses.read_clauses.Given as goal
 

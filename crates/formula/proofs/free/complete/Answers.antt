@@ -9,7 +9,7 @@ use Rattle.formula.specs.Bounds.{variable_bound}
 use Rattle.formula.specs.Prefix.{entry_words, Moved, entry_count, Entries}
 use Rattle.formula.specs.Prefix.Laws.{entry_count_lem, words_sum, words_rise}
 use Rattle.formula.specs.Free.Complete.{free_marked}
-use Rattle.formula.specs.Free.Complete.Laws.{completed_total, completed_ranged, completed_few, completed_whole, completed_numbered}
+use Rattle.formula.proofs.Theorems.Free.Complete.Laws.{completed_total, completed_ranged, completed_few, completed_whole, completed_numbered}
 use Rattle.formula.proofs.free.complete.Tie as tie
 use Rattle.formula.proofs.free.complete.Lts as lts
 use Rattle.formula.proofs.free.complete.Reads as reads

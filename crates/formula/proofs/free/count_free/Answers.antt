@@ -9,7 +9,7 @@ use borrow.Author.Rules.{rules}
 use lib.ListN.{length, get_or, length-append}
 use Rattle.formula.specs.Free.{passing}
 use Rattle.formula.specs.Free.Complete.{is_free_mark, free_marked}
-use Rattle.formula.specs.Free.Complete.Laws.{free_yes, free_no}
+use Rattle.formula.proofs.Theorems.Free.Complete.Laws.{free_yes, free_no}
 use Rattle.formula.proofs.free.count_free.Goals as goal
 use Rattle.formula.proofs.free.count_free.Goals.{then-is_free, else-is_free}
 

@@ -8,7 +8,7 @@ use native.Mathlib.Omega.{arith}
 use borrow.Author.Rules.{rules}
 use lib.ListN.{get_or}
 use Rattle.formula.specs.Free.Complete.{is_free_mark}
-use Rattle.formula.specs.Free.Complete.Laws.{PutSoFar, put_begins, put_skips, put_fits, put_adds, put_ends}
+use Rattle.formula.proofs.Theorems.Free.Complete.Laws.{PutSoFar, put_begins, put_skips, put_fits, put_adds, put_ends}
 use Rattle.formula.proofs.free.put_free.Goals as goal
 use Rattle.formula.proofs.free.put_free.Goals.{then-is_free, else-is_free}
 

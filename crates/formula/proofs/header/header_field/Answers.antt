@@ -1,6 +1,6 @@
 -- `header_field` answers by the next token and its value. Assumes nothing.
 use mathlib.Core.Path.{◌≡◌, sym, ◌∙◌}
-use Rattle.scanner.specs.Token.Laws.{Finds, no_token, token_found}
+use Rattle.scanner.proofs.Theorems.Token.Laws.{Finds, no_token, token_found}
 use Rattle.formula.specs.Text.Header.{field_found}
 use Rattle.formula.specs.Text.Header.Laws.{field_found_lem}
 use borrow.Author.Rules.{rules}

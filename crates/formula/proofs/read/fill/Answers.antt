@@ -4,7 +4,7 @@ use Prim.Native.Nat.{◌≤◌}
 use borrow.Author.Tests.{leb-true}
 use lib.ListN.{length}
 use Rattle.formula.specs.Bounds.{text_bound}
-use Rattle.formula.specs.Text.Fill.Laws.{reading_from_lem, reading_long}
+use Rattle.formula.proofs.Theorems.Text.Fill.Laws.{reading_from_lem, reading_long}
 use Rattle.formula.specs.Bounds.Laws.{fit_made, fit_refused}
 use denote.Enum.Declared.{tag_of}
 use Rattle.formula.specs.contracts.bounds.TextFit.{the_type}

@@ -1,7 +1,7 @@
 -- `fill_tables` reads the sets, then the clauses, then completes the prefix. Assumes nothing.
 use mathlib.Core.Path.{◌∙◌}
 use lib.ListN.{length}
-use Rattle.formula.specs.Text.Fill.Laws.{listed_none, completed_fits, fill_completed, fill_crowded}
+use Rattle.formula.proofs.Theorems.Text.Fill.Laws.{listed_none, completed_fits, fill_completed, fill_crowded}
 use borrow.Author.Rules.{rules}
 use Rattle.formula.proofs.read.fill_tables.Goals as goal
 

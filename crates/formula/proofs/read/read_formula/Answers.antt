@@ -1,5 +1,5 @@
 -- `read_formula` fills the tables and clears them past the used part. Assumes nothing.
-use Rattle.formula.specs.Text.Fill.Laws.{read_filled, read_refused}
+use Rattle.formula.proofs.Theorems.Text.Fill.Laws.{read_filled, read_refused}
 use borrow.Author.Rules.{rules}
 use Rattle.formula.proofs.read.read_formula.Goals as goal
 

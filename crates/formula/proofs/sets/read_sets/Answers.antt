@@ -3,8 +3,8 @@ use Rattle.std.specs.Prelude.{◌≡◌, []}
 use Rattle.std.proofs.Common.{sym, ◌∙◌, arith}
 use borrow.Author.Rules.{rules}
 use Rattle.scanner.specs.Token.{same, a_text, e_text}
-use Rattle.scanner.specs.Token.Laws.{no_token, token_found}
-use Rattle.formula.specs.Text.Sets.Laws.{sets_begin, sets_end, sets_over, sets_refuse, sets_on}
+use Rattle.scanner.proofs.Theorems.Token.Laws.{no_token, token_found}
+use Rattle.formula.proofs.Theorems.Text.Sets.Laws.{sets_begin, sets_end, sets_over, sets_refuse, sets_on}
 use Rattle.formula.proofs.sets.read_sets.Goals as goal
 
 pub loop-place-init : goal.loop-place-init

@@ -1,7 +1,7 @@
 -- `read_sets` takes set after set: what is read so far, and where the next token is looked for. Assumes nothing.
 use Rattle.std.specs.Prelude.{◌-◌, length}
 use Rattle.scanner.specs.Position.Cursor.{PositionIn}
-use Rattle.formula.specs.Text.Sets.Laws.{SetsSoFar}
+use Rattle.formula.proofs.Theorems.Text.Sets.Laws.{SetsSoFar}
 use Rattle.formula.proofs.sets.read_sets.Given as goal
 
 abbrev pub invariant-loop-place : goal.invariant-loop-place

@@ -1,6 +1,6 @@
 -- `set_token` answers by the token: each need is one law of Text.Sets. Assumes nothing.
 use mathlib.Core.Path.{◌∙◌}
-use Rattle.formula.specs.Text.Sets.Laws.{variable_post, closing_post, negative_post, no_number_post}
+use Rattle.formula.proofs.Theorems.Text.Sets.Laws.{variable_post, closing_post, negative_post, no_number_post}
 use borrow.Author.Rules.{rules}
 use Rattle.formula.proofs.sets.set_token.Goals as goal
 

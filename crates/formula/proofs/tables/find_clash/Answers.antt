@@ -19,7 +19,7 @@ use Rattle.qbf.specs.Connectives.{and_both}
 use Rattle.formula.specs.Bounds.{variable_bound, in_range}
 use Rattle.formula.specs.Bounds.Laws.{literal_made, literal_refused}
 use Rattle.formula.specs.Tables.{is_in}
-use Rattle.formula.specs.Tables.Laws.{getD_member}
+use Rattle.formula.proofs.Theorems.Tables.Laws.{getD_member}
 use Rattle.formula.specs.Tables.Scan.{variables_before, clash_free}
 use Rattle.formula.proofs.Signed.{negated_fits}
 use Rattle.formula.proofs.Scan.{clash_at_seen, clash_at_fresh, same_clashes, opposed_clashes, neither_clashes, before_fresh, before_found}

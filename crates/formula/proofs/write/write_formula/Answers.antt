@@ -1,6 +1,6 @@
 -- `write_formula` goes by the answer of the check of tables: it clears the text, or writes it and ends by room. Assumes nothing.
 use Rattle.std.proofs.Common.{sym, ◌∙◌}
-use Rattle.formula.specs.Tables.Laws.{answer_admitted, answer_refused}
+use Rattle.formula.proofs.Theorems.Tables.Laws.{answer_admitted, answer_refused}
 use Rattle.formula.specs.Write.Room.{writes_refused, writes_finished}
 use Rattle.formula.proofs.write.write_formula.Goals as goal
 

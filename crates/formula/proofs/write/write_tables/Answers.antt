@@ -3,11 +3,11 @@ use Rattle.std.proofs.Common.{ℤ, ℕ, ◌≡◌, List, ◌+◌, ◌++◌, ◌<
 use Rattle.formula.specs.Store.Laws.{stores_append, below_first, below_rest}
 use Rattle.formula.specs.Prefix.{prefix_of}
 use Rattle.formula.specs.Tables.{zeros, Admitted}
-use Rattle.formula.specs.Tables.Laws.{admitted_entries}
+use Rattle.formula.proofs.Theorems.Tables.Laws.{admitted_entries}
 use Rattle.formula.specs.Write.{largest, header_text}
 use Rattle.formula.specs.Write.Stream.{prefix_text, clauses_text}
-use Rattle.formula.specs.Write.Lines.{written_parts}
-use Rattle.formula.specs.Write.Length.{clauses_bounded, written_below}
+use Rattle.formula.proofs.Theorems.Write.Lines.{written_parts}
+use Rattle.formula.proofs.Theorems.Write.Length.{clauses_bounded, written_below}
 use Rattle.formula.proofs.write.write_tables.Goals as goal
 
 -- the text in its parts stays below what a place can be

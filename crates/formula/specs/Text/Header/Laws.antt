@@ -8,7 +8,7 @@ use Rattle.scanner.specs.Position.Cursor.{PositionIn}
 use Rattle.formula.specs.Refusal.{in_text, require}
 use Rattle.scanner.specs.Token.{Token, tokens_at, same, p_text, cnf_text, Number, natural, negative, no_number, number_of}
 use Rattle.scanner.specs.Token.Scan.{too_large, shown, next_of}
-use Rattle.scanner.specs.Token.Laws.{Finds, token_found}
+use Rattle.scanner.proofs.Theorems.Token.Laws.{Finds, token_found}
 use Rattle.formula.specs.Text.{refused, State, wantsP, wantsCnf, wantsV, wants_c, between_sets, stopped, header_word, header_number, step, ending, at_end, reading_from}
 use Rattle.formula.specs.Text.Laws.{from_end, from_token, from_stopped, from_refused}
 use Rattle.formula.specs.Text.Header.{word_value, number_value, value_of, field_or, field_found, HeaderPost}

@@ -9,7 +9,7 @@ use Rattle.formula.specs.Decode.{clause_at}
 use Rattle.formula.specs.Decode.Places.{clause_past, clause_zero, clause_literal}
 use Rattle.formula.specs.Free.{occurs}
 use Rattle.formula.specs.Word.{word_of, variable_of}
-use Rattle.inference.specs.Blocked.Laws.{variable_is, variable_other}
+use Rattle.inference.proofs.Theorems.Blocked.Laws.{variable_is, variable_other}
 use Rattle.inference.proofs.Signed.{read_zero, read_back}
 use Rattle.inference.proofs.blocked.has_variable.Given as goal
 

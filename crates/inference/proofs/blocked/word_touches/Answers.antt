@@ -8,7 +8,7 @@ use lib.IntN.{ℤ}
 use mir.Facts.{to_z-of_z}
 use Rattle.formula.specs.Word.{word_of, variable_of}
 use Rattle.dependency.specs.Scratch.{row_in}
-use Rattle.inference.specs.Blocked.Laws.{variable_near, row_far}
+use Rattle.inference.proofs.Theorems.Blocked.Laws.{variable_near, row_far}
 use Rattle.inference.proofs.blocked.word_touches.Tie as tie
 use Rattle.inference.proofs.blocked.word_touches.Lts as lts
 use Rattle.inference.proofs.blocked.word_touches.Reads as reads

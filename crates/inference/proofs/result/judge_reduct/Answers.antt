@@ -11,7 +11,7 @@ use Rattle.inference.specs.Steps.{reduct}
 use Rattle.inference.specs.Marks.{marks_in, Marked, Ticked}
 use Rattle.inference.specs.Marks.Laws.{opposite_in_range}
 use Rattle.inference.specs.Result.{unmarked_in}
-use Rattle.inference.specs.Result.Laws.{without_in_range, reduct_in_range, marked_showing, reduct_showing, judged_result}
+use Rattle.inference.proofs.Theorems.Result.Laws.{without_in_range, reduct_in_range, marked_showing, reduct_showing, judged_result}
 use Rattle.inference.proofs.result.judge_reduct.Goals as goal
 
 pub mark_clause-requires : goal.mark_clause-requires

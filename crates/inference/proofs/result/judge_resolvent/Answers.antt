@@ -10,7 +10,7 @@ use Rattle.inference.specs.Words.{Words}
 use Rattle.inference.specs.Steps.{resolvent, opposed}
 use Rattle.inference.specs.Marks.{marks_in}
 use Rattle.inference.specs.Result.{result_reason, decided, JudgedClean}
-use Rattle.inference.specs.Result.Laws.{resolvent_in_range, marked_met, marked_showing, judged_result}
+use Rattle.inference.proofs.Theorems.Result.Laws.{resolvent_in_range, marked_met, marked_showing, judged_result}
 use Rattle.inference.proofs.result.judge_resolvent.Tie as tie
 use Rattle.inference.proofs.result.judge_resolvent.Lts as lts
 use Rattle.inference.proofs.result.judge_resolvent.Reads as reads

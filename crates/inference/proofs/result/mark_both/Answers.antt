@@ -8,7 +8,7 @@ use mir.Facts.{to_z-of_z}
 use Rattle.inference.specs.Words.{without}
 use Rattle.formula.specs.Decode.{clause_at}
 use Rattle.inference.specs.Marks.{marks_in, Marked}
-use Rattle.inference.specs.Result.Laws.{both_marked}
+use Rattle.inference.proofs.Theorems.Result.Laws.{both_marked}
 use Rattle.inference.proofs.Signed.{pivot_word, opposite_word_fits}
 use Rattle.inference.proofs.result.mark_both.Goals as goal
 

@@ -5,7 +5,7 @@ use Rattle.formula.specs.Decode.{formula_of}
 use Rattle.formula.specs.Prefix.{prefix_of, entry_at}
 use Rattle.formula.specs.Prefix.Laws.{shown_existential, shown_universal}
 use Rattle.formula.specs.Store.Laws.{stores_none}
-use Rattle.formula.specs.Tables.Laws.{admitted_entries}
+use Rattle.formula.proofs.Theorems.Tables.Laws.{admitted_entries}
 use Rattle.report.specs.Dependents.{entry_line, universal_line}
 use Rattle.report.specs.Dependents.Laws.{universal_at}
 use borrow.Author.Rules.{rules}

@@ -6,7 +6,7 @@ use lib.ListN.{length, take, drop}
 use lib.Seq.{length-take-le}
 use Rattle.formula.specs.Decode.{formula_of}
 use Rattle.formula.specs.Prefix.{prefix_of}
-use Rattle.formula.specs.Tables.Laws.{admitted_entries}
+use Rattle.formula.proofs.Theorems.Tables.Laws.{admitted_entries}
 use Rattle.dependency.specs.Scratch.{row_in}
 use Rattle.dependency.specs.Scratch.Laws.{row_front}
 use Rattle.report.specs.Dependents.{universal_line}

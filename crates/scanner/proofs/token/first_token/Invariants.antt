@@ -8,9 +8,9 @@ use types.Run.{OneOf, miss}
 use lib.ListN.{length, drop, drop_of_length-le}
 use Rattle.scanner.specs.Position.{feeds, since_feed}
 use Rattle.scanner.specs.Position.Cursor.{PositionIn}
-use Rattle.scanner.specs.Position.Laws.{past_in, small_in}
+use Rattle.scanner.proofs.Theorems.Position.Laws.{past_in, small_in}
 use Rattle.scanner.specs.Token.{first_token, lead_from, lead_place}
-use Rattle.scanner.specs.Token.Laws.{lead_byte}
+use Rattle.scanner.proofs.Theorems.Token.Laws.{lead_byte}
 use Rattle.scanner.specs.declared.token.Lead.{Lead}
 use Rattle.scanner.specs.declared.token.Lead.TheVariants.{LineStart, InLine, Comment, Over}
 use Rattle.scanner.specs.contracts.token.Lead.{the_type}

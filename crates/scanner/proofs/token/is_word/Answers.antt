@@ -9,7 +9,7 @@ use borrow.Author.Tests.{eq-eqb, ne_eqb}
 use lib.ListN.{length, take, drop, get_or, length-take, length-drop}
 use lib.Seq.{get_or-take, get_or-drop}
 use Rattle.scanner.specs.Token.{same}
-use Rattle.scanner.specs.Token.Laws.{same_byte, same_end, same_lengths}
+use Rattle.scanner.proofs.Theorems.Token.Laws.{same_byte, same_end, same_lengths}
 use borrow.Author.Rules.{rules}
 use Rattle.scanner.proofs.token.is_word.Invariants.{slice}
 use Rattle.scanner.proofs.token.is_word.Goals as goal

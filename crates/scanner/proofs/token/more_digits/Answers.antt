@@ -3,7 +3,7 @@ use mathlib.Core.Bool.{◌&&◌, ◌||◌}
 use lib.Dec.{ltb}
 use Rattle.qbf.specs.Connectives.{and_both}
 use Rattle.scanner.specs.Token.{is_digit}
-use Rattle.scanner.specs.Token.Laws.{digit_least}
+use Rattle.scanner.proofs.Theorems.Token.Laws.{digit_least}
 use borrow.Author.Rules.{rules}
 use Rattle.scanner.proofs.token.more_digits.Goals as goal
 

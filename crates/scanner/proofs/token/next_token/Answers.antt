@@ -1,5 +1,5 @@
 -- `next_token` passes blanks, then takes the token that begins there. Assumes nothing.
-use Rattle.scanner.specs.Token.Laws.{nothing_behind}
+use Rattle.scanner.proofs.Theorems.Token.Laws.{nothing_behind}
 use Rattle.scanner.proofs.token.next_token.Goals as goal
 
 pub returns-then-found-text : goal.returns-then-found-text

@@ -4,8 +4,8 @@ use mathlib.Core.Path.{sym, ◌∙◌}
 use native.Mathlib.Omega.{arith}
 use lib.ListN.{length, get_or}
 use lib.Dec.{eqb}
-use Rattle.scanner.specs.Token.Laws.{solid_blank, solid_end}
-use Rattle.scanner.specs.Token.Numbers.{DigitsSoFar, more_end, digits_begin, digits_more, digits_end}
+use Rattle.scanner.proofs.Theorems.Token.Laws.{solid_blank, solid_end}
+use Rattle.scanner.proofs.Theorems.Token.Numbers.{DigitsSoFar, more_end, digits_begin, digits_more, digits_end}
 use borrow.Author.Rules.{rules}
 use Rattle.scanner.proofs.token.read_digits.Given as goal
 

@@ -4,9 +4,9 @@ use mathlib.Core.Path.{◌≡◌, refl, sym, ◌∙◌}
 use native.Mathlib.Omega.{arith}
 use lib.ListN.{length}
 use Rattle.scanner.specs.Position.Cursor.{PositionIn}
-use Rattle.scanner.specs.Position.Laws.{past_in, small_in}
+use Rattle.scanner.proofs.Theorems.Position.Laws.{past_in, small_in}
 use Rattle.scanner.specs.Token.{tokens_at}
-use Rattle.scanner.specs.Token.Laws.{blank_passed}
+use Rattle.scanner.proofs.Theorems.Token.Laws.{blank_passed}
 use borrow.Author.Rules.{rules}
 use Rattle.scanner.proofs.token.skip_blanks.Given as goal
 

@@ -5,12 +5,12 @@ use mathlib.Core.Bool.{◌&&◌, cond}
 use lib.Dec.{ltb}
 use lib.ListN.{drop}
 use native.Mathlib.Omega.{arith}
-use Rattle.scanner.specs.Position.Laws.{small_in}
+use Rattle.scanner.proofs.Theorems.Position.Laws.{small_in}
 use Rattle.scanner.specs.Token.{number_of}
 use Rattle.scanner.specs.Token.Scan.{shown, solid, run_at}
-use Rattle.scanner.specs.Token.Laws.{next_is, run_inside}
+use Rattle.scanner.proofs.Theorems.Token.Laws.{next_is, run_inside}
 use Rattle.scanner.specs.declared.token.Token.TheVariants.{Natural, Negative, NoNumber}
-use Rattle.scanner.specs.Token.Numbers.{minus_read, digits_read}
+use Rattle.scanner.proofs.Theorems.Token.Numbers.{minus_read, digits_read}
 use borrow.Author.Rules.{rules}
 use Rattle.scanner.proofs.token.token_at.Tie as tie
 use Rattle.scanner.proofs.token.token_at.Lts as lts

@@ -1,0 +1,2 @@
+-- Theorems on the definitions of specs/Free/Complete.antt.
+pub mod Laws

@@ -1,0 +1,2 @@
+-- Theorems on the definitions of specs/Text/Fill.antt.
+pub mod Laws

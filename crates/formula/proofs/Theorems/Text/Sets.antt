@@ -1,0 +1,2 @@
+-- Theorems on the definitions of specs/Text/Sets.antt.
+pub mod Laws

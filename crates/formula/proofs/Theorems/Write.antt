@@ -1,0 +1,3 @@
+-- Theorems on the definitions of specs/Write.antt.
+pub mod Lines
+pub mod Length

@@ -1,0 +1,3 @@
+-- Theorems on the definitions of specs/Lawful.antt.
+pub mod Judged
+pub mod Steps

@@ -1,0 +1,2 @@
+-- Theorems on the definitions of specs/Marks.antt.
+pub mod Judging

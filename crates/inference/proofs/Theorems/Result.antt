@@ -1,0 +1,2 @@
+-- Theorems on the definitions of specs/Result.antt.
+pub mod Laws

@@ -1,0 +1,2 @@
+-- Theorems on the definitions of specs/Steps.antt.
+pub mod Tests

@@ -1,0 +1,2 @@
+-- Theorems on the definitions of specs/Layout.antt.
+pub mod Examples

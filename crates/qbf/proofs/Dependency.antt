@@ -1,0 +1,2 @@
+-- Theorems on dependence. Definitions: specs/Dependency.antt.
+pub mod Laws

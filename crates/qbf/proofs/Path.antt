@@ -1,0 +1,2 @@
+-- Theorems on paths. Definitions: specs/Path.antt.
+pub mod Laws

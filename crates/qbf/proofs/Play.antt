@@ -1,0 +1,2 @@
+-- Theorems on play. Definitions: specs/Play.antt.
+pub mod Laws

@@ -1,0 +1,2 @@
+-- What proofs and other crates cite.
+pub mod Theorems

@@ -1,0 +1,3 @@
+-- Theorems on the definitions of specs/, by the path of their subject there.
+pub mod Position
+pub mod Token

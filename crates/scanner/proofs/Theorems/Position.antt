@@ -1,0 +1,3 @@
+-- Theorems on the definitions of specs/Position.antt.
+pub mod Laws
+pub mod Examples

@@ -1,0 +1,2 @@
+-- What stands in proofs/: theorems.
+pub mod Theorems
