@@ -1,5 +1,6 @@
 // Marks one to a bit: a byte holds eight flags, the lowest bit first. A reader of contracts sees the list of flags, 0 or 1 each.
 #![tactic(auto)]
+
 ghost use Rattle.std.specs.Prelude.{◌≡◌, ◌<◌, ◌*◌, ◌^◌, length, get_or, set, eqb};
 ghost use Rattle.bits.specs.Flags.{flags, flag, total, BitStored};
 

@@ -4,8 +4,7 @@ use mathlib.Core.Path.{◌≡◌, sym}
 use borrow.Author.Rules.{rules}
 use native.Mathlib.Omega.{arith}
 use lib.Count.{ones, ones-le}
-use lib.ListN.{length, get_or, drop, length-drop}
-use Rattle.bits.specs.Flags.{flags, total}
+use lib.ListN.{get_or, drop, length-drop}
 use Rattle.bits.specs.Flags.Laws.{total_before, total_bound, total_none}
 use Rattle.bits.proofs.count.Goals as goal
 

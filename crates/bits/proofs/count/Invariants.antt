@@ -1,12 +1,8 @@
 -- `count` goes from the end: the invariant says what is counted of the bytes passed. Assumes nothing.
-use Prim.Native.Nat.{ℕ, suc, ◌≤◌, ◌<◌, ◌-◌}
-use mathlib.Core.Path.{◌≡◌, sym}
-use borrow.Author.Rules.{rules}
-use native.Mathlib.Omega.{arith}
-use lib.Count.{ones, ones-le}
-use lib.ListN.{length, get_or, drop, length-drop}
+use Prim.Native.Nat.{◌≤◌}
+use mathlib.Core.Path.{◌≡◌}
+use lib.ListN.{length, drop}
 use Rattle.bits.specs.Flags.{flags, total}
-use Rattle.bits.specs.Flags.Laws.{total_before, total_bound, total_none}
 use Rattle.bits.proofs.count.Given as goal
 
 abbrev pub invariant-loop-i : goal.invariant-loop-i

@@ -2,7 +2,6 @@
 use mathlib.Core.Path.{ap, sym}
 use Prim.Native.Nat.{ℕ}
 use lib.Dec.{eqb}
-use borrow.Author.Rules.{rules}
 use Rattle.bits.specs.Flags.Laws.{flag_at}
 use Rattle.bits.proofs.is_set.Goals as goal
 

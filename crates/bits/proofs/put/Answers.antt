@@ -1,5 +1,4 @@
 -- `put` stores a byte that differs in one bit. Assumes nothing.
-use borrow.Author.Rules.{rules}
 use Rattle.bits.specs.Flags.{flag}
 use Rattle.bits.specs.Flags.Laws.{flags_stored}
 use Rattle.bits.proofs.put.Goals as goal

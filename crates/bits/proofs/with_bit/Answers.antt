@@ -1,5 +1,4 @@
 -- `with_bit` stores by a mask or its complement. Assumes nothing.
-use borrow.Author.Rules.{rules}
 use Rattle.bits.specs.Flags.Laws.{or_stored, and_stored}
 use Rattle.bits.proofs.with_bit.Goals as goal
 

@@ -6,7 +6,7 @@ use Rattle.std.proofs.Common.{sym, subst}
 use mathlib.Core.List.Memᴰ
 use mathlib.Core.List.{List, map, Memᴰ}
 use Rattle.qbf.specs.Literal.{Literal, literal}
-use Rattle.qbf.specs.Formula.{Entry, Prefix, after, RightOf}
+use Rattle.qbf.specs.Formula.{Entry, after, RightOf}
 use Rattle.qbf.specs.Formula.Laws.{neg_neg, after_within, right_asymmetric, existentials_member}
 use Rattle.qbf.specs.Path.{Path}
 use Rattle.qbf.specs.Dependency.{passable}

@@ -1,5 +1,5 @@
 -- Texts that are read are laid out: what the tokens so far are, state by state of the reader. Assumes nothing.
-use Prim.Native.Nat.{ℕ, zero, suc, ◌+◌, ◌≤◌, ◌<◌}
+use Prim.Native.Nat.{ℕ, zero, suc, ◌≤◌, ◌<◌}
 use Rattle.std.specs.Prelude.{◌≡◌, Bool, ◌⊎◌, leb, ltb, ℤ, pos, nat_abs, length}
 use Rattle.std.proofs.Math.Path.{refl, sym}
 use Rattle.std.proofs.Common.{ap, ◌∙◌, inl, inr, arith, length-append}

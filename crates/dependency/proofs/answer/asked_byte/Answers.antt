@@ -1,6 +1,5 @@
 -- `asked_byte` answers by the row's test. Assumes nothing.
 use mathlib.Core.Path.{sym, ◌∙◌}
-use borrow.Author.Rules.{rules}
 use Rattle.dependency.proofs.answer.asked_byte.Goals as goal
 
 pub returns-then-depends_in : goal.returns-then-depends_in

@@ -1,14 +1,10 @@
 -- `copy_row`: the bytes written so far stand before what the row's buffer still holds. Assumes nothing.
-use Prim.Native.Nat.{◌-◌, ◌≤◌, ◌<◌}
-use mathlib.Core.Path.{◌≡◌, refl, ap, ◌∙◌}
-use mathlib.Core.List.{List, ◌++◌}
-use native.Mathlib.Numerals.{add-one}
-use native.Mathlib.Omega.{arith}
-use borrow.Author.Rules.{rules}
-use lib.ListN.{length, drop, set, length-set}
+use Prim.Native.Nat.{◌-◌, ◌≤◌}
+use mathlib.Core.Path.{◌≡◌}
+use mathlib.Core.List.{◌++◌}
+use lib.ListN.{length, drop}
 use Rattle.dependency.specs.Scratch.{row_in}
-use Rattle.dependency.specs.Answer.{asked_byte, asked_bytes}
-use Rattle.dependency.specs.Answer.Laws.{asked_step}
+use Rattle.dependency.specs.Answer.{asked_bytes}
 use Rattle.dependency.proofs.answer.copy_row.Given as goal
 
 abbrev pub invariant-loop-i : goal.invariant-loop-i

@@ -1,13 +1,9 @@
 -- `is_universal` runs down the prefix: a universal of the prefix is one of the entries left. Assumes nothing.
-use Prim.Native.Nat.{◌≤◌, ◌<◌, ◌-◌}
-use mathlib.Core.Path.{◌≡◌, refl, sym, ◌∙◌}
-use native.Mathlib.Numerals.{add-one}
-use native.Mathlib.Omega.{arith}
-use borrow.Author.Rules.{rules}
-use lib.ListN.{drop, drop_of_length-le}
+use Prim.Native.Nat.{◌-◌}
+use mathlib.Core.Path.{◌≡◌}
+use lib.ListN.{drop}
 use Rattle.qbf.specs.Formula.{universal}
-use Rattle.formula.specs.Prefix.{prefix_of, entry_count, quantifies}
-use Rattle.formula.specs.Prefix.Laws.{entries_drop}
+use Rattle.formula.specs.Prefix.{prefix_of, quantifies}
 use Rattle.dependency.proofs.answer.is_universal.Given as goal
 
 abbrev pub invariant-loop-i : goal.invariant-loop-i

@@ -1,6 +1,5 @@
 -- `is_universal_at` answers by what the entry is. Assumes nothing.
 use mathlib.Core.Path.{sym, ◌∙◌}
-use borrow.Author.Rules.{rules}
 use Rattle.qbf.specs.Formula.{Entry}
 use Rattle.formula.specs.Prefix.{entry_at}
 use Rattle.formula.specs.Prefix.Laws.{shown_existential, shown_universal}

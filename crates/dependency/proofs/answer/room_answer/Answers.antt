@@ -1,5 +1,4 @@
 -- `room_answer` answers by its two tests. Assumes nothing.
-use borrow.Author.Rules.{rules}
 use borrow.Author.Tests.{le-leb, lt-leb}
 use Rattle.dependency.proofs.answer.room_answer.Goals as goal
 

@@ -29,11 +29,11 @@ module _
     (e : (t : Bool) → m t ≡ opened prefix u)
     (b : (t : Bool) → m' t ≡ set (m t) (slot u t) 3)
   where
-  begun : (t : Bool) → m' t ≡ set (opened prefix u) (slot u t) 3
-  begun t = b t ∙ ap (λ (l : List ℕ). set l (slot u t) 3) (e t)
+    begun : (t : Bool) → m' t ≡ set (opened prefix u) (slot u t) 3
+    begun t = b t ∙ ap (λ (l : List ℕ). set l (slot u t) 3) (e t)
 
-  same_ones : (t : Bool) → ones (m' t) ≡ ones (m t)
-  same_ones t = rw (e t) (ap ones (begun t) ∙ ones_kept (opened prefix u) (slot u t) (closed t))
+    same_ones : (t : Bool) → ones (m' t) ≡ ones (m t)
+    same_ones t = rw (e t) (ap ones (begun t) ∙ ones_kept (opened prefix u) (slot u t) (closed t))
 
 pub open_right-requires : goal.open_right-requires
 open_right-requires c = record { fact_1 = admitted_entries c.args.prefix.now c.args.clauses.now c.requires.admitted; fact_2 = c.requires.marks_len }
@@ -57,14 +57,14 @@ settle-requires c =
     let u = c.args.variable.0 in
     let o = c.open_right.new.marks in
     let k =
-        same_ones
-        x
-        u
-        (λ (t : Bool). marks_in t o)
-        (λ (t : Bool). marks_in t c.start.new.marks)
-        (source_open x c.args.clauses.now r.admitted u r.le_variable)
-        c.open_right.ensures.marks
-        c.start.ensures
+    same_ones
+    x
+    u
+    (λ (t : Bool). marks_in t o)
+    (λ (t : Bool). marks_in t c.start.new.marks)
+    (source_open x c.args.clauses.now r.admitted u r.le_variable)
+    c.open_right.ensures.marks
+    c.start.ensures
     in
     record { fact_1 = c.start.auto.marks ∙ c.open_right.auto.marks ∙ r.marks_len; fact_2 = omega (arith, k true, k false, c.count_open-unreached.ensures) }
 
@@ -75,14 +75,14 @@ returns c t =
     let u = c.args.variable.0 in
     let o = c.open_right.new.marks in
     let k =
-        begun
-        x
-        u
-        (λ (s : Bool). marks_in s o)
-        (λ (s : Bool). marks_in s c.start.new.marks)
-        (source_open x c.args.clauses.now r.admitted u r.le_variable)
-        c.open_right.ensures.marks
-        c.start.ensures
-        t
+    begun
+    x
+    u
+    (λ (s : Bool). marks_in s o)
+    (λ (s : Bool). marks_in s c.start.new.marks)
+    (source_open x c.args.clauses.now r.admitted u r.le_variable)
+    c.open_right.ensures.marks
+    c.start.ensures
+    t
     in
     searched x c.args.clauses.now r.admitted u r.le_variable t (marks_in t c.settle.new.marks) (rw k at (c.settle.ensures t))

@@ -35,14 +35,14 @@ module _
     (second : flags two ≡ set (flags one) (base false + (slot v false - 2)) 1)
     (none : (s : Bool) → get_or (marks_in s marks) (slot v s) 0 ≡ 0)
   where
-  both : (s : Bool) → marks_in s two ≡ set (marks_in s marks) (slot v s) 3
-  both true =
-      source_other false one (slot v false) (low v l false) (high v h false) size_one two second true (λ e. false≢true (sym e))
-      ∙ source_set true marks (slot v true) (low v l true) (high v h true) size one first (none true)
-  both false =
-      let kept = source_other true marks (slot v true) (low v l true) (high v h true) size one first false false≢true in
-      source_set false one (slot v false) (low v l false) (high v h false) size_one two second (rw kept (none false))
-      ∙ ap (λ (m : List ℕ). set m (slot v false) 3) kept
+    both : (s : Bool) → marks_in s two ≡ set (marks_in s marks) (slot v s) 3
+    both true =
+        source_other false one (slot v false) (low v l false) (high v h false) size_one two second true (λ e. false≢true (sym e))
+        ∙ source_set true marks (slot v true) (low v l true) (high v h true) size one first (none true)
+    both false =
+        let kept = source_other true marks (slot v true) (low v l true) (high v h true) size one first false false≢true in
+        source_set false one (slot v false) (low v l false) (high v h false) size_one two second (rw kept (none false))
+        ∙ ap (λ (m : List ℕ). set m (slot v false) 3) kept
 
 pub put-requires : goal.put-requires
 put-requires c =

@@ -1,16 +1,15 @@
 -- What is read is admitted: the words that a text is read as, with the completed prefix, pass the check of tables, and C is their number
 -- of clauses. A property of each state is kept by every token. Assumes nothing.
 use Rattle.std.specs.Prelude.{ℕ, zero, suc, ◌+◌, ◌*◌, ◌%◌, ◌≤◌, ◌<◌, ◌≡◌, refl, Bool, true, false, ◌||◌, length, leb, ltb, eqb, ℤ, pos}
-use Rattle.std.proofs.Common.{ap, sym, ◌∙◌, subst, arith, ltb-true, ltb-false, leb-true, le-leb, eq-eqb, ne_eqb, length-append}
+use Rattle.std.proofs.Common.{ap, sym, ◌∙◌, arith, ltb-true, ltb-false, leb-true, le-leb, eq-eqb, ne_eqb, length-append}
 use Rattle.std.proofs.Math.Bool.{or-true, or-false}
 use Rattle.std.proofs.lemmas.Bool.{false≢true}
 use Rattle.std.proofs.Math.Option.{Option, none, some}
 use mathlib.Core.List.Memᴰ
 use mathlib.Core.List.{List, [], ◌∷◌, ◌++◌, append_assoc, append-nil}
 use Rattle.std.proofs.Math.Decide.{ℕ_discrete}
-use Rattle.std.proofs.lemmas.List.{length-map}
 use Rattle.formula.specs.Bounds.{variable_bound, prefix_bound, count_bound, matrix_bound, text_bound}
-use Rattle.qbf.specs.Formula.{Quantifier, existential, universal, Entry, entry, Prefix, listed}
+use Rattle.qbf.specs.Formula.{Quantifier, entry, Prefix, listed}
 use Rattle.formula.specs.Word.{word_of, signed}
 use Rattle.formula.specs.Prefix.{prefix_of, prefix_words, entry_fits, entry_words}
 use Rattle.formula.specs.Prefix.Laws.{words_entries, words_length}

@@ -3,7 +3,7 @@
 use Rattle.std.specs.Prelude.{◌≡◌, refl, [], ◌∷◌, pos, negsuc}
 use Rattle.formula.specs.Refusal.{refusal}
 use Rattle.formula.specs.Prefix.Examples.{e, a}
-use Rattle.formula.specs.Text.Examples.{bytes, at, reads}
+use Rattle.formula.specs.Text.Examples.{at, reads}
 use Rattle.formula.specs.Text.{read, refused}
 use Rattle.formula.specs.declared.refusal.Reason.TheVariants.{Headless, Oversized, NoRoom, BadToken, OutOfRange, BoundTwice, Clash, Unfinished, Miscount}
 

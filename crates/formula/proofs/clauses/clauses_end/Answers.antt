@@ -1,5 +1,4 @@
 -- `clauses_end` answers by its tests in order. Assumes nothing.
-use borrow.Author.Rules.{rules}
 use borrow.Author.Tests.{lt-ltb, le-ltb}
 use Rattle.formula.proofs.clauses.clauses_end.Goals as goal
 

@@ -1,6 +1,5 @@
 -- `close_clause` refuses by its tests in order, or writes the 0. Assumes nothing.
 use mathlib.Core.Path.{refl}
-use borrow.Author.Rules.{rules}
 use borrow.Author.Tests.{lt-ltb, le-ltb}
 use Rattle.formula.specs.Text.{closing_reason}
 use Rattle.formula.proofs.clauses.close_clause.Goals as goal

@@ -8,7 +8,6 @@ use Rattle.formula.specs.Text.Laws.{LiteralFine, literal_fine}
 use Rattle.formula.specs.Text.Clauses.{holds_open, literal_step, marked_reason}
 use Rattle.formula.proofs.Theorems.Text.Clauses.Laws.{literal_none}
 use Rattle.formula.proofs.SignedWord.{signed_back}
-use borrow.Author.Rules.{rules}
 use Rattle.formula.proofs.clauses.put_literal.Tie as tie
 use Rattle.formula.proofs.clauses.put_literal.Lts as lts
 use Rattle.formula.proofs.clauses.put_literal.Reads as reads

@@ -1,13 +1,10 @@
 -- `read_clauses` takes token after token; each need is one law of Text.Clauses. Assumes nothing.
-use Prim.Native.Nat.{◌-◌}
 use mathlib.Core.Path.{sym, ◌∙◌}
 use mathlib.Core.List.{[]}
 use native.Mathlib.Omega.{arith}
-use lib.ListN.{length}
-use Rattle.scanner.specs.Position.Cursor.{PositionIn}
 use Rattle.scanner.specs.Token.{number_of}
 use Rattle.scanner.proofs.Theorems.Token.Laws.{Finds, no_token, token_found}
-use Rattle.formula.proofs.Theorems.Text.Clauses.Laws.{ClausesSoFar, clauses_begin, clauses_end_lem, clauses_over, clauses_refuse, clauses_literal, clauses_closed}
+use Rattle.formula.proofs.Theorems.Text.Clauses.Laws.{clauses_begin, clauses_end_lem, clauses_over, clauses_refuse, clauses_literal, clauses_closed}
 use borrow.Author.Rules.{rules}
 use Rattle.formula.proofs.clauses.read_clauses.Tie as tie
 use Rattle.formula.proofs.clauses.read_clauses.Lts as lts

@@ -1,11 +1,9 @@
 -- `clear_bytes` clears what is left: the invariant says that clearing from here on gives the same buffer. Assumes nothing.
-use Prim.Native.Nat.{◌-◌}
-use mathlib.Core.Path.{◌≡◌, refl, ◌∙◌, sym}
+use mathlib.Core.Path.{refl, ◌∙◌, sym}
 use native.Mathlib.Numerals.{add-one}
 use native.Mathlib.Omega.{arith}
 use borrow.Author.Rules.{rules}
-use lib.ListN.{length, length-set}
-use Rattle.formula.specs.Clear.{clear_from}
+use lib.ListN.{length-set}
 use Rattle.formula.specs.Clear.Laws.{clear_step, clear_end}
 use Rattle.formula.proofs.clear.clear_bytes.Goals as goal
 

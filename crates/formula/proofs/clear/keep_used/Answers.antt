@@ -1,7 +1,6 @@
 -- `keep_used` answers and clears by the test of room. Assumes nothing.
 use borrow.Author.Tests.{le-leb, lt-leb}
 use lib.ListN.{length}
-use borrow.Author.Rules.{rules}
 use Rattle.formula.proofs.clear.keep_used.Goals as goal
 
 pub returns-then-used-buffer : goal.returns-then-used-buffer

@@ -1,14 +1,12 @@
 -- `put_free` has put the entries of the free variables so far. Assumes nothing.
-use Prim.Native.Nat.{suc, ◌-◌}
+use Prim.Native.Nat.{suc}
 use mathlib.Core.Path.{◌≡◌, sym, ◌∙◌}
 use mathlib.Core.Bool.{true}
-use mathlib.Core.Logic.{⊎_elim}
 use native.Mathlib.Numerals.{add-one}
 use native.Mathlib.Omega.{arith}
-use borrow.Author.Rules.{rules}
 use lib.ListN.{get_or}
 use Rattle.formula.specs.Free.Complete.{is_free_mark}
-use Rattle.formula.proofs.Theorems.Free.Complete.Laws.{PutSoFar, put_begins, put_skips, put_fits, put_adds, put_ends}
+use Rattle.formula.proofs.Theorems.Free.Complete.Laws.{put_begins, put_skips, put_fits, put_adds, put_ends}
 use Rattle.formula.proofs.free.put_free.Goals as goal
 use Rattle.formula.proofs.free.put_free.Goals.{then-is_free, else-is_free}
 

@@ -1,7 +1,6 @@
 -- `field_value` answers by what is wanted. Assumes nothing.
 use mathlib.Core.Path.{◌∙◌, ap}
 use Rattle.formula.specs.Text.Header.{word_value}
-use borrow.Author.Rules.{rules}
 use Rattle.formula.proofs.header.field_value.Goals as goal
 
 pub returns-in-P : goal.returns-in-P

@@ -3,7 +3,6 @@ use mathlib.Core.Path.{ap, sym, ◌∙◌}
 use mathlib.Core.List.{[]}
 use denote.Enum.Declared.{tag_of}
 use Rattle.formula.specs.contracts.bounds.ClauseCountFit.{the_type}
-use borrow.Author.Rules.{rules}
 use borrow.Author.Tests.{leb-true}
 use Rattle.formula.specs.Bounds.{count_bound}
 use Rattle.formula.specs.Bounds.Laws.{fit_refused, clauses_made}

@@ -1,9 +1,8 @@
 -- `header_field` answers by the next token and its value. Assumes nothing.
-use mathlib.Core.Path.{◌≡◌, sym, ◌∙◌}
+use mathlib.Core.Path.{sym, ◌∙◌}
 use Rattle.scanner.proofs.Theorems.Token.Laws.{Finds, no_token, token_found}
 use Rattle.formula.specs.Text.Header.{field_found}
 use Rattle.formula.specs.Text.Header.Laws.{field_found_lem}
-use borrow.Author.Rules.{rules}
 use Rattle.formula.proofs.header.header_field.Tie as tie
 use Rattle.formula.proofs.header.header_field.Lts as lts
 use Rattle.formula.proofs.header.header_field.Reads as reads

@@ -2,7 +2,6 @@
 use mathlib.Core.Path.{ap, sym, ◌∙◌}
 use denote.Enum.Declared.{tag_of}
 use Rattle.formula.specs.contracts.bounds.VariableCountFit.{the_type}
-use borrow.Author.Rules.{rules}
 use borrow.Author.Tests.{leb-true}
 use Rattle.formula.specs.Bounds.{variable_bound}
 use Rattle.formula.specs.Bounds.Laws.{fit_refused, variables_made}

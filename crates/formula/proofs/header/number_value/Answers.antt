@@ -1,5 +1,4 @@
 -- `number_value` answers by the token. Assumes nothing.
-use borrow.Author.Rules.{rules}
 use Rattle.formula.proofs.header.number_value.Goals as goal
 
 pub returns-in-Natural : goal.returns-in-Natural

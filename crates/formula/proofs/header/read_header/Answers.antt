@@ -2,7 +2,6 @@
 use mathlib.Core.Path.{sym, ◌∙◌}
 use Rattle.scanner.specs.Position.Cursor.{PositionIn}
 use Rattle.formula.specs.Text.Header.Laws.{p_read, cnf_read, header_before}
-use borrow.Author.Rules.{rules}
 use Rattle.formula.proofs.header.read_header.Tie as tie
 use Rattle.formula.proofs.header.read_header.Lts as lts
 use Rattle.formula.proofs.header.read_header.Reads as reads

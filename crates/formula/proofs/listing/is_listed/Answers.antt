@@ -2,7 +2,6 @@
 use mathlib.Core.Path.{◌∙◌}
 use native.Mathlib.Omega.{arith}
 use Rattle.formula.specs.Tables.Scan.{marked}
-use borrow.Author.Rules.{rules}
 use Rattle.formula.proofs.listing.is_listed.Goals as goal
 
 pub is_set-requires : goal.is_set-requires

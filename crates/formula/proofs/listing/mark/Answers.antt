@@ -1,6 +1,5 @@
 -- `mark` stores the variable's bit where there are marks. Assumes nothing.
 use native.Mathlib.Omega.{arith}
-use borrow.Author.Rules.{rules}
 use Rattle.formula.proofs.listing.mark.Goals as goal
 
 pub returns-then-marks-lt1 : goal.returns-then-marks-lt1

@@ -1,10 +1,10 @@
 -- `entry_fits` compares with the number of entries that have room. Assumes nothing.
-use Prim.Native.Nat.{ℕ, suc, ◌*◌, ◌/◌, ◌≤◌, ◌<◌}
+use Prim.Native.Nat.{ℕ, suc, ◌*◌, ◌/◌}
 use mathlib.Core.Path.{◌≡◌, refl, sym}
 use mathlib.Core.Bool.{Bool, true, false}
 use native.Mathlib.Omega.{arith}
 use borrow.Author.Tests.{ltb-true, ltb-false, le-leb, lt-leb}
-use lib.Dec.{ltb, leb}
+use lib.Dec.{ltb}
 use Rattle.formula.specs.Prefix.{entry_fits, entry_words}
 use Rattle.formula.proofs.prefix.entry_fits.Goals as goal
 

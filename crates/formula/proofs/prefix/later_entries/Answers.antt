@@ -5,7 +5,6 @@ use lib.ListN.{length, drop, length-drop}
 use lib.Seq.{take_all}
 use Rattle.formula.specs.Prefix.{later_entries}
 use Rattle.formula.specs.Prefix.Laws.{entry_count_lem}
-use borrow.Author.Rules.{rules}
 use Rattle.formula.proofs.prefix.later_entries.Goals as goal
 
 pub slice_bounds-result-count : goal.slice_bounds-result-count

@@ -7,8 +7,7 @@ use lib.ListN.{length, get_or}
 use lib.IntN.{pos}
 use mir.Syntax.{w32}
 use mir.Val.{to_z, of_z}
-use Rattle.formula.specs.Prefix.Laws.{MovedSoFar, move_begins, move_step, move_ends}
-use Rattle.formula.proofs.prefix.move_words.Tie as tie
+use Rattle.formula.specs.Prefix.Laws.{move_begins, move_step, move_ends}
 use Rattle.formula.proofs.prefix.move_words.Lts as lts
 use Rattle.formula.proofs.prefix.move_words.Reads as reads
 use Rattle.formula.proofs.prefix.move_words.Goals as goal

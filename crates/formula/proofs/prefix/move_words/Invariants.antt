@@ -1,13 +1,5 @@
 -- `move_words` has moved the words from a place on. Assumes nothing.
-use Prim.Native.Nat.{suc, ◌+◌, ◌-◌, ◌<◌}
-use mathlib.Core.Path.{◌≡◌}
-use native.Mathlib.Omega.{arith}
-use borrow.Author.Rules.{rules}
-use lib.ListN.{length, get_or}
-use lib.IntN.{pos}
-use mir.Syntax.{w32}
-use mir.Val.{to_z, of_z}
-use Rattle.formula.specs.Prefix.Laws.{MovedSoFar, move_begins, move_step, move_ends}
+use Rattle.formula.specs.Prefix.Laws.{MovedSoFar}
 use Rattle.formula.proofs.prefix.move_words.Given as goal
 
 abbrev pub invariant-loop-i : goal.invariant-loop-i

@@ -1,6 +1,4 @@
 -- `next_block` compares as its definition does. Assumes nothing.
-use mathlib.Core.Path.{sym}
-use borrow.Author.Rules.{rules}
 use borrow.Author.Tests.{eq-eqb, ne_eqb}
 use Rattle.formula.proofs.prefix.next_block.Goals as goal
 

@@ -1,12 +1,9 @@
 -- `number_blocks` has put the records of the first entries. Assumes nothing.
-use Prim.Native.Nat.{ℕ, suc, ◌+◌, ◌-◌, ◌≤◌, ◌<◌}
-use mathlib.Core.Path.{◌≡◌, refl, ap, sym, ◌∙◌}
+use Prim.Native.Nat.{suc, ◌+◌, ◌<◌}
+use mathlib.Core.Path.{◌≡◌}
 use native.Mathlib.Omega.{arith}
-use borrow.Author.Rules.{rules}
-use lib.ListN.{length}
-use Rattle.qbf.specs.Formula.{Quantifier, existential, universal, entry, Prefix}
-use Rattle.formula.specs.Prefix.{prefix_of, entry_count, Entries}
-use Rattle.formula.specs.Prefix.Laws.{NumberedSoFar, number_begins, number_entries, number_count, number_fits, number_entry, number_step, number_ends, block_bound, entry_at_ranged}
+use Rattle.formula.specs.Prefix.{entry_count}
+use Rattle.formula.specs.Prefix.Laws.{number_begins, number_entries, number_count, number_fits, number_entry, number_step, number_ends, block_bound, entry_at_ranged}
 use Rattle.formula.proofs.prefix.number_blocks.Goals as goal
 
 pub loop-i-init : goal.loop-i-init

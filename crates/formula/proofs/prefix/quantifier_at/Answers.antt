@@ -1,6 +1,5 @@
 -- `quantifier_at` answers by the entry. Assumes nothing.
 use mathlib.Core.Path.{ap, sym, ◌∙◌}
-use borrow.Author.Rules.{rules}
 use Rattle.qbf.specs.Formula.{Entry}
 use Rattle.formula.specs.Prefix.{quantifier_number, entry_at}
 use Rattle.formula.specs.Prefix.Laws.{shown_existential, shown_universal}

@@ -1,6 +1,5 @@
 -- `variable_at` answers the variable with either quantifier. Assumes nothing.
 use mathlib.Core.Path.{ap, sym, ◌∙◌}
-use borrow.Author.Rules.{rules}
 use Rattle.qbf.specs.Formula.{Entry}
 use Rattle.formula.specs.Prefix.{entry_at}
 use Rattle.formula.specs.Prefix.Laws.{shown_existential, shown_universal}

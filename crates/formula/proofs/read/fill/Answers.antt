@@ -8,7 +8,6 @@ use Rattle.formula.proofs.Theorems.Text.Fill.Laws.{reading_from_lem, reading_lon
 use Rattle.formula.specs.Bounds.Laws.{fit_made, fit_refused}
 use denote.Enum.Declared.{tag_of}
 use Rattle.formula.specs.contracts.bounds.TextFit.{the_type}
-use borrow.Author.Rules.{rules}
 use Rattle.formula.proofs.read.fill.Tie as tie
 use Rattle.formula.proofs.read.fill.Lts as lts
 use Rattle.formula.proofs.read.fill.Reads as reads

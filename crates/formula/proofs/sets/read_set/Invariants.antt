@@ -1,14 +1,8 @@
 -- `read_set` takes token after token of a set; each need is one law of Text.Sets. Assumes nothing.
 use Prim.Native.Nat.{◌-◌}
-use mathlib.Core.Path.{sym, ◌∙◌}
-use mathlib.Core.List.{[]}
-use native.Mathlib.Omega.{arith}
 use lib.ListN.{length}
 use Rattle.scanner.specs.Position.Cursor.{PositionIn}
-use Rattle.scanner.specs.Token.{number_of}
-use Rattle.scanner.proofs.Theorems.Token.Laws.{Finds, no_token, token_found}
-use Rattle.formula.proofs.Theorems.Text.Sets.Laws.{SetSoFar, set_begins, set_ends, set_closes, set_refuses, set_lists}
-use borrow.Author.Rules.{rules}
+use Rattle.formula.proofs.Theorems.Text.Sets.Laws.{SetSoFar}
 use Rattle.formula.specs.Prefix.{quantifier_of}
 use Rattle.formula.proofs.sets.read_set.Given as goal
 

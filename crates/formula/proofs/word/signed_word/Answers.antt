@@ -3,7 +3,6 @@ use mathlib.Core.Bool.{false}
 use lib.IntN.{pos}
 use Rattle.formula.proofs.Signed.{zero_sub, negated_fits}
 use Rattle.formula.proofs.SignedWord.{number_word, signed_back}
-use borrow.Author.Rules.{rules}
 use Rattle.formula.proofs.word.signed_word.Goals as goal
 
 pub returns-then-positive : goal.returns-then-positive

@@ -1,5 +1,4 @@
 -- `clause_end` goes on past literals and stops at what is none. Assumes nothing.
-use Rattle.std.specs.Prelude.{ℕ, ◌<◌, length}
 use Rattle.std.proofs.Common.{sym, ◌∙◌, arith, add-one}
 use borrow.Author.Rules.{rules}
 use Rattle.formula.specs.Words.Laws.{word_within, close_past_word, close_at_zero, close_at_end}

@@ -1,7 +1,6 @@
 -- `place_after` answers by the test on the place. Assumes nothing.
 use mathlib.Core.Path.{sym}
 use native.Mathlib.Numerals.{add-one}
-use borrow.Author.Rules.{rules}
 use Rattle.formula.specs.Words.Laws.{place_after_end, place_after_word}
 use Rattle.formula.proofs.words.place_after.Goals as goal
 

@@ -1,6 +1,5 @@
 -- `blocks`: the row is asked first, then the clause. Assumes nothing.
 use mathlib.Core.Path.{sym, ◌∙◌}
-use borrow.Author.Rules.{rules}
 use Rattle.inference.specs.Blocked.{blocks_by}
 use Rattle.inference.proofs.blocked.blocks.Goals as goal
 

@@ -1,16 +1,9 @@
 -- `find_blocker`: the first entry from here on that blocks is the first of all, none before having blocked. Assumes nothing.
-use Prim.Native.Nat.{suc, ◌+◌, ◌-◌, ◌≤◌, ◌<◌}
-use mathlib.Core.Path.{◌≡◌, refl, ap, sym, ◌∙◌}
-use mathlib.Core.List.{[], ◌∷◌}
-use native.Mathlib.Omega.{arith}
-use borrow.Author.Rules.{rules}
-use lib.ListN.{length, drop, drop_of_length-le}
-use lib.Seq.{drop-cons}
+use Prim.Native.Nat.{◌-◌}
+use mathlib.Core.Path.{◌≡◌}
+use lib.ListN.{drop}
 use Rattle.formula.specs.Decode.{clause_at}
 use Rattle.formula.specs.Prefix.{prefix_of, with_blocks}
-use Rattle.formula.specs.Prefix.Laws.{block_variable, blocks_length, entry_at_ranged}
-use Rattle.formula.specs.Refusal.{no_blocker}
-use Rattle.formula.specs.declared.refusal.Blocker.{Blocker}
 use Rattle.dependency.specs.Scratch.{row_in}
 use Rattle.inference.specs.Blocked.{blocks_by}
 use Rattle.inference.specs.Steps.{leftmost}

@@ -1,9 +1,9 @@
 -- `has_variable`: the variable occurs in the clause from here on exactly when it does in the whole. Assumes nothing.
-use Prim.Native.Nat.{ℕ, ◌+◌, ◌-◌}
+use Prim.Native.Nat.{◌+◌}
 use mathlib.Core.Path.{◌≡◌, refl, ap, sym, ◌∙◌}
 use mathlib.Core.List.{◌∷◌}
 use borrow.Author.Rules.{rules}
-use lib.ListN.{length, get_or}
+use lib.ListN.{get_or}
 use lib.IntN.{ℤ, pos}
 use Rattle.formula.specs.Decode.{clause_at}
 use Rattle.formula.specs.Decode.Places.{clause_past, clause_zero, clause_literal}

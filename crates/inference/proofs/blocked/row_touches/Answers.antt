@@ -1,10 +1,10 @@
 -- `row_touches`: the clause from here on is touched exactly when the whole is. Assumes nothing.
-use Prim.Native.Nat.{◌+◌, ◌-◌}
+use Prim.Native.Nat.{◌+◌}
 use mathlib.Core.Path.{◌≡◌, refl, ap, sym, ◌∙◌}
 use mathlib.Core.List.{◌∷◌}
 use borrow.Author.Rules.{rules}
 use lib.Dec.{eqb}
-use lib.ListN.{length, get_or}
+use lib.ListN.{get_or}
 use lib.IntN.{pos, nat_abs}
 use mir.Syntax.{w32}
 use mir.Val.{to_z, of_z}

@@ -1,18 +1,10 @@
 -- `row_touches`: the clause from here on is touched exactly when the whole is. Assumes nothing.
-use Prim.Native.Nat.{◌+◌, ◌-◌}
-use mathlib.Core.Path.{◌≡◌, refl, ap, sym, ◌∙◌}
-use mathlib.Core.List.{◌∷◌}
-use borrow.Author.Rules.{rules}
-use lib.Dec.{eqb}
-use lib.ListN.{length, get_or}
-use lib.IntN.{pos, nat_abs}
-use mir.Syntax.{w32}
-use mir.Val.{to_z, of_z}
+use Prim.Native.Nat.{◌-◌}
+use mathlib.Core.Path.{◌≡◌}
+use lib.ListN.{length}
 use Rattle.formula.specs.Decode.{clause_at}
-use Rattle.formula.specs.Decode.Places.{clause_past, clause_zero, clause_literal}
 use Rattle.dependency.specs.Scratch.{row_in}
 use Rattle.inference.specs.Blocked.{touches}
-use Rattle.inference.proofs.Signed.{read_zero, read_back}
 use Rattle.inference.proofs.blocked.row_touches.Given as goal
 
 abbrev pub invariant-loop-i : goal.invariant-loop-i

@@ -1,7 +1,6 @@
 -- `word_touches` asks the row of the word's variable; a magnitude past the row has no flag there. Assumes nothing.
 use Prim.Native.Nat.{ℕ}
 use mathlib.Core.Path.{◌≡◌, ap, ◌∙◌}
-use borrow.Author.Rules.{rules}
 use lib.Dec.{eqb}
 use lib.ListN.{get_or}
 use lib.IntN.{ℤ}

@@ -1,7 +1,6 @@
 -- `is_empty` looks at the first word. Assumes nothing.
 use mathlib.Core.Path.{◌≡◌, refl, ap, sym}
 use mathlib.Core.Bool.{Bool, true, false}
-use borrow.Author.Rules.{rules}
 use lib.ListN.{get_or}
 use lib.IntN.{ℤ, pos}
 use Rattle.inference.specs.Words.{is_zero}

@@ -1,6 +1,5 @@
 -- `existential_of` by the word's sign and the variable's flag. Assumes nothing.
 use mathlib.Core.Path.{◌≡◌, ap, sym, ◌∙◌}
-use borrow.Author.Rules.{rules}
 use Rattle.bits.specs.Flags.{flags}
 use Rattle.formula.specs.Word.{word_of}
 use Rattle.formula.specs.Word.Laws.{positive_bounded}

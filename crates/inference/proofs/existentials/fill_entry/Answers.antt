@@ -1,6 +1,5 @@
 -- `fill_entry` puts the flag by the entry's quantifier. Assumes nothing.
 use mathlib.Core.Path.{◌≡◌, sym, ◌∙◌}
-use borrow.Author.Rules.{rules}
 use Rattle.qbf.specs.Formula.{entry, existential, universal}
 use Rattle.formula.specs.Prefix.{entry_at}
 use Rattle.formula.specs.Prefix.Laws.{shown_existential, shown_universal, entry_at_ranged}

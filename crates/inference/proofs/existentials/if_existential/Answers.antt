@@ -1,6 +1,5 @@
 -- `if_existential` asks the variable's flag. Assumes nothing.
 use mathlib.Core.Path.{sym, ◌∙◌}
-use borrow.Author.Rules.{rules}
 use Rattle.inference.proofs.existentials.if_existential.Goals as goal
 
 pub returns-then-is_set : goal.returns-then-is_set

@@ -1,6 +1,5 @@
 -- `put_if` stores the flag where it is asked for. Assumes nothing.
 use native.Mathlib.Omega.{arith}
-use borrow.Author.Rules.{rules}
 use Rattle.inference.proofs.existentials.put_if.Goals as goal
 
 pub put-requires : goal.put-requires

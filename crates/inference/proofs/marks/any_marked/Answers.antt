@@ -1,11 +1,11 @@
 -- `any_marked`: what was found, or what is marked from here on, is what is marked at all. Assumes nothing.
-use Prim.Native.Nat.{◌+◌, ◌-◌}
-use mathlib.Core.Path.{◌≡◌, refl, ap, sym, ◌∙◌}
+use Prim.Native.Nat.{◌+◌}
+use mathlib.Core.Path.{refl, ap, sym, ◌∙◌}
 use mathlib.Core.Bool.{Bool, not, ◌||◌, or-false, or_assoc}
 use borrow.Author.Rules.{rules}
 use native.Mathlib.Omega.{arith}
 use lib.Dec.{eqb}
-use lib.ListN.{length, get_or, drop}
+use lib.ListN.{get_or, drop}
 use Rattle.bits.specs.Flags.{flags}
 use Rattle.inference.specs.Marks.{any_marked}
 use Rattle.inference.specs.Marks.Laws.{any_from, any_past}

@@ -1,14 +1,10 @@
 -- `any_marked`: what was found, or what is marked from here on, is what is marked at all. Assumes nothing.
-use Prim.Native.Nat.{◌+◌, ◌-◌}
-use mathlib.Core.Path.{◌≡◌, refl, ap, sym, ◌∙◌}
-use mathlib.Core.Bool.{Bool, not, ◌||◌, or-false, or_assoc}
-use borrow.Author.Rules.{rules}
-use native.Mathlib.Omega.{arith}
-use lib.Dec.{eqb}
-use lib.ListN.{length, get_or, drop}
+use Prim.Native.Nat.{◌-◌}
+use mathlib.Core.Path.{◌≡◌}
+use mathlib.Core.Bool.{◌||◌}
+use lib.ListN.{length, drop}
 use Rattle.bits.specs.Flags.{flags}
 use Rattle.inference.specs.Marks.{any_marked}
-use Rattle.inference.specs.Marks.Laws.{any_from, any_past}
 use Rattle.inference.proofs.marks.any_marked.Given as goal
 
 abbrev pub invariant-loop-i : goal.invariant-loop-i

@@ -1,17 +1,17 @@
 -- `tick`: ticking what is left of the clause gives the same marks and tells the same. Assumes nothing.
-use Prim.Native.Nat.{◌+◌, ◌-◌}
+use Prim.Native.Nat.{◌+◌}
 use mathlib.Core.Path.{◌≡◌, refl, ◌∙◌}
 use mathlib.Core.Bool.{true}
 use mathlib.Core.List.{[], ◌∷◌}
 use borrow.Author.Rules.{rules}
-use lib.ListN.{length, get_or}
+use lib.ListN.{get_or}
 use lib.IntN.{pos}
 use mir.Syntax.{w32}
 use mir.Val.{to_z, of_z}
 use Rattle.formula.specs.Decode.{clause_at}
 use Rattle.formula.specs.Decode.Places.{clause_past, clause_zero, clause_literal}
 use Rattle.inference.specs.Marks.{marks_in, alone, Ticked}
-use Rattle.inference.specs.Marks.Laws.{TicksOn, tick_turns, tick_stops, tick_ends}
+use Rattle.inference.specs.Marks.Laws.{tick_turns, tick_stops, tick_ends}
 use Rattle.inference.proofs.Signed.{read_zero, read_back}
 use Rattle.inference.proofs.marks.tick.Tie as tie
 use Rattle.inference.proofs.marks.tick.Lts as lts

@@ -2,7 +2,6 @@
 use Prim.Native.Nat.{ℕ, ◌<◌, ◌≤◌}
 use mathlib.Core.Path.{◌≡◌, ap, ◌∙◌}
 use native.Mathlib.Omega.{arith}
-use borrow.Author.Rules.{rules}
 use lib.ListN.{set}
 use Rattle.inference.specs.Marks.{slot_at, marks_in}
 use Rattle.inference.specs.Marks.Laws.{slot_at_bound, slot_has_bit, mark_stored}

@@ -1,7 +1,6 @@
 -- `wipe` looks for a mark, then clears all. Assumes nothing.
 use Prim.Native.Nat.{ℕ}
 use mathlib.Core.Path.{◌≡◌, ap, ◌∙◌}
-use borrow.Author.Rules.{rules}
 use lib.ListN.{replicate}
 use Rattle.formula.specs.Clear.{clear_from}
 use Rattle.inference.specs.Marks.{marks_in, any_marked}

@@ -1,6 +1,5 @@
 -- `antecedent_of` is `ClauseNumber::new` for a word that is not negative. Assumes nothing.
 use mathlib.Core.Path.{◌≡◌, ◌∙◌}
-use borrow.Author.Rules.{rules}
 use mir.Syntax.{w32}
 use mir.Val.{to_z, of_z}
 use mir.Facts.{to_z-of_z, Fits-nat_abs}

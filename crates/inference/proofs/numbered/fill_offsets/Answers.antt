@@ -1,11 +1,11 @@
 -- `fill_offsets`: what is stored and what stands from here on are the clauses of the table, and so with the first empty one. Assumes nothing.
-use Prim.Native.Nat.{◌-◌, ◌+◌, ◌<◌}
-use mathlib.Core.Path.{◌≡◌, refl}
+use Prim.Native.Nat.{◌+◌, ◌<◌}
+use mathlib.Core.Path.{refl}
 use native.Mathlib.Omega.{arith}
 use borrow.Author.Rules.{rules}
 use lib.ListN.{length, length-set}
 use Rattle.formula.specs.Decode.Places.{clause_within}
-use Rattle.inference.specs.Numbered.Laws.{Filling, filling_begins, filling_more, filling_turns, Finding, finding_turns, filling_ends}
+use Rattle.inference.specs.Numbered.Laws.{filling_begins, filling_more, filling_turns, finding_turns, filling_ends}
 use Rattle.inference.proofs.numbered.fill_offsets.Tie as tie
 use Rattle.inference.proofs.numbered.fill_offsets.Lts as lts
 use Rattle.inference.proofs.numbered.fill_offsets.Reads as reads

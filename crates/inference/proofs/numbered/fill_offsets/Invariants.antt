@@ -1,11 +1,8 @@
 -- `fill_offsets`: what is stored and what stands from here on are the clauses of the table, and so with the first empty one. Assumes nothing.
-use Prim.Native.Nat.{◌-◌, ◌+◌, ◌<◌}
-use mathlib.Core.Path.{◌≡◌, refl}
-use native.Mathlib.Omega.{arith}
-use borrow.Author.Rules.{rules}
-use lib.ListN.{length, length-set}
-use Rattle.formula.specs.Decode.Places.{clause_within}
-use Rattle.inference.specs.Numbered.Laws.{Filling, filling_begins, filling_more, filling_turns, Finding, finding_turns, filling_ends}
+use Prim.Native.Nat.{◌-◌}
+use mathlib.Core.Path.{◌≡◌}
+use lib.ListN.{length}
+use Rattle.inference.specs.Numbered.Laws.{Filling, Finding}
 use Rattle.inference.proofs.numbered.fill_offsets.Given as goal
 
 abbrev pub invariant-loop-from : goal.invariant-loop-from

@@ -1,7 +1,6 @@
 -- `place_of`: the offset, or where the step at the offset begins its statement. Assumes nothing.
 use Prim.Native.Nat.{◌-◌}
 use native.Mathlib.Omega.{arith}
-use borrow.Author.Rules.{rules}
 use borrow.Author.Tests.{le-leb, lt-leb}
 use Rattle.inference.proofs.numbered.place_of.Goals as goal
 

@@ -1,5 +1,4 @@
 -- `close_of`: the clause is closed where its end is within the words. Assumes nothing.
-use borrow.Author.Rules.{rules}
 use Rattle.inference.specs.Read.Laws.{close_found, close_missing}
 use Rattle.inference.proofs.read.close_of.Goals as goal
 

@@ -1,6 +1,5 @@
 -- `family_of` by the first word. Assumes nothing.
 use mathlib.Core.Path.{◌≡◌, ap, sym, ◌∙◌}
-use borrow.Author.Rules.{rules}
 use lib.ListN.{get_or}
 use lib.IntN.{pos}
 use Rattle.inference.specs.declared.read.Family.TheVariants.{LongDistance}

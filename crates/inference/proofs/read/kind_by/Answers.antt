@@ -1,7 +1,6 @@
 -- `kind_by` compares with the two words. Assumes nothing.
 use mathlib.Core.Path.{◌≡◌}
 use mathlib.Core.Bool.{true, false}
-use borrow.Author.Rules.{rules}
 use Rattle.inference.specs.Words.{same_word}
 use Rattle.inference.proofs.Signed.{read_same}
 use Rattle.inference.proofs.read.kind_by.Goals as goal

@@ -1,5 +1,4 @@
 -- `kind_of` compares with the words of the family. Assumes nothing.
-use borrow.Author.Rules.{rules}
 use mir.Facts.{to_z-of_z}
 use Rattle.inference.proofs.read.kind_of.Goals as goal
 

@@ -1,6 +1,5 @@
 -- `statement_of` by the kind word, of either family. Assumes nothing.
 use mathlib.Core.Path.{◌≡◌, ap, sym, ◌∙◌}
-use borrow.Author.Rules.{rules}
 use lib.ListN.{get_or}
 use lib.IntN.{pos}
 use Rattle.inference.specs.declared.read.Family.TheVariants.{Ordinary, LongDistance}

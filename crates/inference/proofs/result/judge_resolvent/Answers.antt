@@ -2,7 +2,6 @@
 use mathlib.Core.Path.{◌≡◌, ap, ◌∙◌}
 use mathlib.Core.Bool.{Bool}
 use mathlib.Core.List.{[]}
-use borrow.Author.Rules.{rules}
 use lib.IntN.{pos}
 use Rattle.formula.specs.Decode.{clause_at}
 use Rattle.inference.specs.declared.result.Judgement.{Judgement}

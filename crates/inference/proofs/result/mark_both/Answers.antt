@@ -1,6 +1,5 @@
 -- `mark_both` is `mark_clause` of one clause after the other. Assumes nothing.
 use mathlib.Core.Path.{◌≡◌}
-use borrow.Author.Rules.{rules}
 use lib.IntN.{pos, neg_ℤ}
 use mir.Syntax.{w32}
 use mir.Val.{to_z, of_z}

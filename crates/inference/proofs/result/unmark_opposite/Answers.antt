@@ -1,6 +1,5 @@
 -- `unmark_opposite` by the family. Assumes nothing.
 use mathlib.Core.Path.{◌≡◌}
-use borrow.Author.Rules.{rules}
 use lib.IntN.{neg_ℤ}
 use mir.Syntax.{w32}
 use mir.Val.{to_z, of_z}

@@ -2,13 +2,12 @@
 -- behind a comment and blanks; two sets on the line of C. The tests that are computed, each with what it shows, come first. The text on two lines
 -- and its pieces are in specs/Layout/Examples.antt.
 use Rattle.std.specs.Prelude.{ℕ, ◌≤◌, ◌≡◌, refl, Bool, true, false, not, ◌&&◌, ◌||◌, ◌⊎◌, leb, eqb, ℤ, pos, negsuc, nat_abs, length}
-use Prim.Native.String.{String}
 use Rattle.std.proofs.lemmas.Bool.{false≢true, not-true, eqb-false}
 use Rattle.std.proofs.Common.{inl, inr, arith, leb-true, eqb-true}
 use mathlib.Core.List.Memᴰ
 use mathlib.Core.List.{List, [], ◌∷◌, ◌++◌, map, flat_map, Memᴰ}
 use Rattle.qbf.specs.Connectives.{and_both, or_either}
-use Rattle.qbf.specs.Formula.{Quantifier, existential, universal, listed, Distinct}
+use Rattle.qbf.specs.Formula.{existential, universal, listed, Distinct}
 use Rattle.formula.specs.Bounds.{text_bound}
 use Rattle.formula.specs.Decimal.{digits, decimal}
 use Rattle.formula.specs.Decode.Laws.{positive_magnitude}
@@ -22,7 +21,7 @@ use Rattle.formula.specs.Text.Examples.{bytes}
 use Rattle.scanner.specs.Token.{is_blank, AllSolid}
 use Rattle.formula.specs.Write.{letter_of, literal_text}
 use Rattle.layout.specs.Layout.Examples.{piece, set, two_lines, two_lines_sets, two_lines_clauses, two_lines_pieces, TwoLinesTables}
-use Rattle.layout.specs.Layout.{AllBlank, Piece, laid, Parted, tokens_in, NoFeed, IsComment, LeadLines, lead_text, QuantifierSet, Sets, Clauses, tokens_of, Layout, entries_of, words_of, LaidOut}
+use Rattle.layout.specs.Layout.{AllBlank, Piece, laid, Parted, tokens_in, NoFeed, IsComment, LeadLines, lead_text, QuantifierSet, Sets, Clauses, tokens_of, Layout, entries_of, words_of}
 
 -- Whether pieces are parted, as a test.
 test_solid : List ℕ → Bool

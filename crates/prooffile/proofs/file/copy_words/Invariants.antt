@@ -1,15 +1,9 @@
 -- `copy_words`: the words copied so far and those of the bytes that are left make all the words. Assumes nothing.
 use Prim.Native.Nat.{◌-◌, ◌*◌, ◌≤◌}
-use mathlib.Core.Path.{◌≡◌, refl, ap, ◌∙◌}
+use mathlib.Core.Path.{◌≡◌}
 use mathlib.Core.List.{◌++◌}
-use native.Mathlib.Omega.{arith}
-use borrow.Author.Rules.{rules}
-use lib.ListN.{length, take, drop, length-set}
-use lib.Seq.{drop-set-lt}
-use mir.Syntax.{w32}
-use mir.Val.{to_z, of_z}
-use Rattle.prooffile.specs.File.{number_at, words_of}
-use Rattle.prooffile.specs.File.Laws.{copy_step, copy_end}
+use lib.ListN.{length, take, drop}
+use Rattle.prooffile.specs.File.{words_of}
 use Rattle.prooffile.proofs.file.copy_words.Given as goal
 
 abbrev pub invariant-loop-i : goal.invariant-loop-i

@@ -1,6 +1,5 @@
 -- `number4`: four bytes are below 2³², so nothing wraps. Assumes nothing.
 use mathlib.Core.Path.{refl}
-use borrow.Author.Rules.{rules}
 use Rattle.prooffile.specs.File.{number4}
 use Rattle.prooffile.proofs.file.number4.Goals as goal
 

@@ -1,5 +1,4 @@
 -- `number_at` reads four bytes within the slice. Assumes nothing.
-use borrow.Author.Rules.{rules}
 use Rattle.prooffile.specs.File.{number_at}
 use Rattle.prooffile.proofs.file.number_at.Goals as goal
 

@@ -2,7 +2,6 @@
 use Rattle.std.specs.Prelude.{◌≡◌, List, [], ◌∷◌, ℕ}
 use Rattle.std.proofs.Math.Path.{refl}
 use Rattle.scanner.specs.Position.{feeds, since_feed, position_at}
-use Rattle.scanner.specs.declared.position.Position.{Position}
 
 -- `a`, LF, CR, tab, `b`: the byte after LF begins line 2, CR and tab are a column each.
 abbrev text : List ℕ

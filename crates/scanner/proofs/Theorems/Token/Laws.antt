@@ -1,18 +1,17 @@
 -- Laws of tokens: as loops over a text take them, byte by byte; what the next token tells; how the code shows a number. Assumes nothing.
-use Rattle.std.specs.Prelude.{ℕ, zero, suc, ◌+◌, ◌*◌, ◌-◌, ◌<◌, ◌≤◌, min, ◌≡◌, refl, ◌⊎◌, Bool, true, false, ◌&&◌, ◌||◌, cond, List, [], ◌∷◌, ◌++◌, length, get_or, take, drop, leb, ltb, eqb}
-use Rattle.std.proofs.Common.{ap, sym, ◌∙◌, inl, inr, append_assoc, append-nil, add-one, arith, leb-true, ltb-true, ltb-false, lt-ltb, le-ltb, eqb-true, ne_eqb, length-append, drop_of_length-le, length-drop, length-take, drop-cons, drop-drop, get_or-drop, le_of_suc-le-suc, not-suc-le-zero}
-use Rattle.std.proofs.lemmas.Bool.{false≢true, eqb-false}
-use Rattle.qbf.specs.Connectives.{and_both, both_and}
+use Rattle.std.specs.Prelude.{ℕ, zero, suc, ◌+◌, ◌-◌, ◌<◌, ◌≤◌, ◌≡◌, refl, ◌⊎◌, Bool, true, false, ◌&&◌, ◌||◌, cond, List, [], ◌∷◌, ◌++◌, length, get_or, take, drop, leb, eqb}
+use Rattle.std.proofs.Common.{ap, sym, ◌∙◌, inl, inr, append_assoc, append-nil, add-one, arith, leb-true, length-append, drop_of_length-le, length-drop, length-take, drop-cons, drop-drop, get_or-drop, le_of_suc-le-suc, not-suc-le-zero}
+use Rattle.std.proofs.lemmas.Bool.{false≢true}
+use Rattle.qbf.specs.Connectives.{and_both}
 use Rattle.scanner.specs.Position.{line_feed, position_at}
 use Rattle.scanner.specs.Position.Cursor.{along, PositionIn}
 use Rattle.scanner.proofs.Theorems.Position.Laws.{along_past}
-use Rattle.scanner.specs.Token.{is_digit, is_blank, lead_from, lead_place, lead_step, first_token, Token, emit, ended, joined, tokens_from, tokens_at, same, Number, natural, negative, no_number, all_digits, value_from, is_numeral, negative_of, number_of}
-use Rattle.scanner.specs.Token.Scan.{too_large, numeral, shown, next_of, solid, run_at, no_leading_zero, is_plain}
+use Rattle.scanner.specs.Token.{is_digit, is_blank, lead_from, lead_place, lead_step, Token, emit, ended, joined, tokens_from, tokens_at, same, number_of}
+use Rattle.scanner.specs.Token.Scan.{shown, next_of, solid, run_at}
 use Rattle.scanner.specs.declared.position.Position.{Position}
 use Rattle.scanner.specs.declared.token.Lead.{Lead}
-use Rattle.scanner.specs.declared.token.Lead.TheVariants.{LineStart, InLine, Comment, Over}
 use Rattle.scanner.specs.declared.token.Token.{Token as Shown}
-use Rattle.scanner.specs.declared.token.Token.TheVariants.{Natural, Negative, NoNumber}
+use Rattle.scanner.specs.declared.token.Token.TheVariants.{NoNumber}
 use Rattle.scanner.specs.declared.token.Next.{Next}
 use Rattle.scanner.specs.declared.token.Next.TheVariants.{End, Found}
 

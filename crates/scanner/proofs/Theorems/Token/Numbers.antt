@@ -1,23 +1,16 @@
 -- Laws of digits: what the code reads of a run byte by byte, and what it shows of a number. Assumes nothing.
-use Rattle.std.specs.Prelude.{ℕ, zero, suc, ◌+◌, ◌*◌, ◌-◌, ◌<◌, ◌≤◌, min, ◌≡◌, Bool, ◌&&◌, ◌||◌, List, [], ◌∷◌, ◌++◌, length, get_or, take, drop, leb, eqb}
+use Rattle.std.specs.Prelude.{ℕ, suc, ◌+◌, ◌*◌, ◌-◌, ◌<◌, ◌≤◌, min, ◌≡◌, Bool, ◌&&◌, ◌||◌, List, [], ◌∷◌, ◌++◌, length, get_or, take, drop, eqb}
 use Rattle.std.proofs.Math.Path.{refl}
-use Rattle.std.proofs.Common.{ap, sym, ◌∙◌, append_assoc, append-nil, add-one, arith, leb-true, ltb-true, ltb-false, lt-ltb, le-ltb, eqb-true, eq-eqb, ne_eqb, length-append, drop_of_length-le, length-drop, length-take, take-suc, get_or-drop}
+use Rattle.std.proofs.Common.{ap, sym, ◌∙◌, arith, ltb-true, ltb-false, lt-ltb, le-ltb, eqb-true, eq-eqb, ne_eqb, length-drop, length-take, take-suc, get_or-drop}
 use Rattle.std.proofs.Math.Bool.{true, false, cond}
 use Rattle.std.proofs.lemmas.Bool.{false≢true, eqb-false}
 use Rattle.std.proofs.Math.Dec.{ltb}
 use Rattle.qbf.specs.Connectives.{and_both, both_and}
-use Rattle.scanner.specs.Position.{line_feed, position_at}
-use Rattle.scanner.specs.Position.Cursor.{PositionIn}
-use Rattle.scanner.specs.Token.{is_digit, is_blank, lead_from, lead_place, lead_step, first_token, Token, emit, tokens_from, tokens_at, same, Number, natural, negative, no_number, all_digits, value_from, is_numeral, negative_of, number_of}
-use Rattle.scanner.specs.Token.Scan.{too_large, numeral, shown, next_of, solid, run_at, no_leading_zero, is_plain, more_digits, DigitsRead}
-use Rattle.scanner.specs.declared.position.Position.{Position}
-use Rattle.scanner.specs.declared.token.Lead.{Lead}
-use Rattle.scanner.specs.declared.token.Lead.TheVariants.{LineStart, InLine, Comment, Over}
+use Rattle.scanner.specs.Token.{is_digit, is_blank, same, Number, natural, negative, no_number, all_digits, value_from, is_numeral, number_of}
+use Rattle.scanner.specs.Token.Scan.{too_large, numeral, shown, solid, run_at, no_leading_zero, is_plain, more_digits, DigitsRead}
 use Rattle.scanner.specs.declared.token.Token.{Token as Shown}
 use Rattle.scanner.specs.declared.token.Token.TheVariants.{Natural, Negative, NoNumber}
 use Rattle.scanner.specs.declared.token.Digits.{Digits}
-use Rattle.scanner.specs.declared.token.Next.{Next}
-use Rattle.scanner.specs.declared.token.Next.TheVariants.{End, Found}
 use Rattle.std.proofs.Math.Decide.{ℕ_discrete}
 use Rattle.scanner.proofs.Theorems.Token.Laws.{digit_least, solid_first, run_first}
 

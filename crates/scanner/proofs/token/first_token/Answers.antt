@@ -1,20 +1,15 @@
 -- `first_token` passes byte after byte up to the first token. Assumes nothing.
-use Prim.Native.Nat.{ℕ, ◌+◌, ◌-◌}
+use Prim.Native.Nat.{ℕ, ◌+◌}
 use mathlib.Core.Path.{◌≡◌, refl, ap, sym, ◌∙◌}
-use mathlib.Core.List.{[], ◌∷◌}
+use mathlib.Core.List.{[]}
 use native.Mathlib.Omega.{arith}
-use denote.Enum.Declared.{tag_of}
-use types.Run.{OneOf, miss}
-use lib.ListN.{length, drop, drop_of_length-le}
+use lib.ListN.{drop, drop_of_length-le}
 use Rattle.scanner.specs.Position.{feeds, since_feed}
-use Rattle.scanner.specs.Position.Cursor.{PositionIn}
 use Rattle.scanner.proofs.Theorems.Position.Laws.{past_in, small_in}
-use Rattle.scanner.specs.Token.{first_token, lead_from, lead_place}
+use Rattle.scanner.specs.Token.{lead_from, lead_place}
 use Rattle.scanner.proofs.Theorems.Token.Laws.{lead_byte}
 use Rattle.scanner.specs.declared.token.Lead.{Lead}
 use Rattle.scanner.specs.declared.token.Lead.TheVariants.{LineStart, InLine, Comment, Over}
-use Rattle.scanner.specs.contracts.token.Lead.{the_type}
-use borrow.Author.Rules.{rules}
 use Rattle.scanner.proofs.token.first_token.Goals as goal
 
 -- any state but the last goes on

@@ -1,20 +1,9 @@
 -- `first_token` passes byte after byte up to the first token. Assumes nothing.
-use Prim.Native.Nat.{ℕ, ◌+◌, ◌-◌}
-use mathlib.Core.Path.{◌≡◌, refl, ap, sym, ◌∙◌}
-use mathlib.Core.List.{[], ◌∷◌}
-use native.Mathlib.Omega.{arith}
-use denote.Enum.Declared.{tag_of}
-use types.Run.{OneOf, miss}
-use lib.ListN.{length, drop, drop_of_length-le}
-use Rattle.scanner.specs.Position.{feeds, since_feed}
+use Prim.Native.Nat.{◌-◌}
+use mathlib.Core.Path.{◌≡◌}
+use lib.ListN.{length, drop}
 use Rattle.scanner.specs.Position.Cursor.{PositionIn}
-use Rattle.scanner.proofs.Theorems.Position.Laws.{past_in, small_in}
-use Rattle.scanner.specs.Token.{first_token, lead_from, lead_place}
-use Rattle.scanner.proofs.Theorems.Token.Laws.{lead_byte}
-use Rattle.scanner.specs.declared.token.Lead.{Lead}
-use Rattle.scanner.specs.declared.token.Lead.TheVariants.{LineStart, InLine, Comment, Over}
-use Rattle.scanner.specs.contracts.token.Lead.{the_type}
-use borrow.Author.Rules.{rules}
+use Rattle.scanner.specs.Token.{first_token, lead_from}
 use Rattle.scanner.proofs.token.first_token.Given as goal
 
 abbrev pub invariant-loop-at : goal.invariant-loop-at

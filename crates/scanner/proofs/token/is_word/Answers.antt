@@ -6,7 +6,7 @@ use mathlib.Core.List.{List}
 use lib.Dec.{eqb}
 use native.Mathlib.Omega.{arith}
 use borrow.Author.Tests.{eq-eqb, ne_eqb}
-use lib.ListN.{length, take, drop, get_or, length-take, length-drop}
+use lib.ListN.{length, drop, get_or, length-take, length-drop}
 use lib.Seq.{get_or-take, get_or-drop}
 use Rattle.scanner.specs.Token.{same}
 use Rattle.scanner.proofs.Theorems.Token.Laws.{same_byte, same_end, same_lengths}

@@ -1,16 +1,9 @@
 -- `is_word` compares byte by byte. Assumes nothing.
-use Prim.Native.Nat.{ℕ, ◌+◌, ◌-◌, ◌≤◌, ◌<◌}
-use mathlib.Core.Path.{◌≡◌, refl, sym, ◌∙◌}
-use mathlib.Core.Bool.{◌&&◌}
+use Prim.Native.Nat.{ℕ, ◌-◌, ◌≤◌}
+use mathlib.Core.Path.{◌≡◌}
 use mathlib.Core.List.{List}
-use lib.Dec.{eqb}
-use native.Mathlib.Omega.{arith}
-use borrow.Author.Tests.{eq-eqb, ne_eqb}
-use lib.ListN.{length, take, drop, get_or, length-take, length-drop}
-use lib.Seq.{get_or-take, get_or-drop}
+use lib.ListN.{length, take, drop}
 use Rattle.scanner.specs.Token.{same}
-use Rattle.scanner.proofs.Theorems.Token.Laws.{same_byte, same_end, same_lengths}
-use borrow.Author.Rules.{rules}
 use Rattle.scanner.proofs.token.is_word.Given as goal
 
 -- the bytes asked about

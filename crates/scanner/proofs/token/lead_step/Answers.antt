@@ -1,5 +1,4 @@
 -- `lead_step` answers by the state, then by the byte. Assumes nothing.
-use borrow.Author.Rules.{rules}
 use borrow.Author.Tests.{eq-eqb, ne_eqb}
 use Rattle.scanner.proofs.token.lead_step.Goals as goal
 

@@ -1,6 +1,5 @@
 -- `line_step` answers by its tests. Assumes nothing.
 use mathlib.Core.Path.{sym, ◌∙◌}
-use borrow.Author.Rules.{rules}
 use borrow.Author.Tests.{eq-eqb, ne_eqb}
 use Rattle.scanner.proofs.token.line_step.Goals as goal
 

@@ -4,7 +4,6 @@ use lib.Dec.{ltb}
 use Rattle.qbf.specs.Connectives.{and_both}
 use Rattle.scanner.specs.Token.{is_digit}
 use Rattle.scanner.proofs.Theorems.Token.Laws.{digit_least}
-use borrow.Author.Rules.{rules}
 use Rattle.scanner.proofs.token.more_digits.Goals as goal
 
 pub numeral-requires : goal.numeral-requires

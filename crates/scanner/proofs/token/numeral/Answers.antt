@@ -1,7 +1,6 @@
 -- `numeral` saturates above every bound. Assumes nothing.
 use native.Mathlib.Omega.{arith}
 use Rattle.scanner.specs.Token.Scan.{numeral}
-use borrow.Author.Rules.{rules}
 use Rattle.scanner.proofs.token.numeral.Goals as goal
 
 pub returns-then-n-gt214748364 : goal.returns-then-n-gt214748364

@@ -1,12 +1,10 @@
 -- `read_digits` reads a run byte by byte; each need is one law of Token.Numbers. Assumes nothing.
-use Prim.Native.Nat.{◌-◌}
 use mathlib.Core.Path.{sym, ◌∙◌}
 use native.Mathlib.Omega.{arith}
-use lib.ListN.{length, get_or}
+use lib.ListN.{get_or}
 use lib.Dec.{eqb}
 use Rattle.scanner.proofs.Theorems.Token.Laws.{solid_blank, solid_end}
-use Rattle.scanner.proofs.Theorems.Token.Numbers.{DigitsSoFar, more_end, digits_begin, digits_more, digits_end}
-use borrow.Author.Rules.{rules}
+use Rattle.scanner.proofs.Theorems.Token.Numbers.{more_end, digits_begin, digits_more, digits_end}
 use Rattle.scanner.proofs.token.read_digits.Goals as goal
 
 pub loop-read-init : goal.loop-read-init

@@ -1,12 +1,7 @@
 -- `read_digits` reads a run byte by byte; each need is one law of Token.Numbers. Assumes nothing.
 use Prim.Native.Nat.{◌-◌}
-use mathlib.Core.Path.{sym, ◌∙◌}
-use native.Mathlib.Omega.{arith}
-use lib.ListN.{length, get_or}
-use lib.Dec.{eqb}
-use Rattle.scanner.proofs.Theorems.Token.Laws.{solid_blank, solid_end}
-use Rattle.scanner.proofs.Theorems.Token.Numbers.{DigitsSoFar, more_end, digits_begin, digits_more, digits_end}
-use borrow.Author.Rules.{rules}
+use lib.ListN.{length}
+use Rattle.scanner.proofs.Theorems.Token.Numbers.{DigitsSoFar}
 use Rattle.scanner.proofs.token.read_digits.Given as goal
 
 abbrev pub invariant-loop-read : goal.invariant-loop-read

@@ -1,13 +1,9 @@
 -- `skip_blanks` passes blanks one by one. Assumes nothing.
 use Prim.Native.Nat.{◌-◌}
-use mathlib.Core.Path.{◌≡◌, refl, sym, ◌∙◌}
-use native.Mathlib.Omega.{arith}
+use mathlib.Core.Path.{◌≡◌}
 use lib.ListN.{length}
 use Rattle.scanner.specs.Position.Cursor.{PositionIn}
-use Rattle.scanner.proofs.Theorems.Position.Laws.{past_in, small_in}
 use Rattle.scanner.specs.Token.{tokens_at}
-use Rattle.scanner.proofs.Theorems.Token.Laws.{blank_passed}
-use borrow.Author.Rules.{rules}
 use Rattle.scanner.proofs.token.skip_blanks.Given as goal
 
 abbrev pub invariant-loop-at : goal.invariant-loop-at

@@ -5,7 +5,7 @@ use Rattle.std.proofs.Math.Path.{ap}
 use Rattle.std.proofs.Common.{sym, ◌∙◌, append-nil, arith, length-append}
 use Rattle.std.proofs.lemmas.List.{map-append, length-map}
 use Rattle.std.proofs.Math.Seq.{length-take-le}
-use Rattle.qbf.specs.Formula.{existential, entry, Prefix}
+use Rattle.qbf.specs.Formula.{existential, entry}
 use Rattle.formula.specs.Bounds.{variable_bound}
 use Rattle.formula.specs.Prefix.{prefix_of, prefix_words, entry_words, entries_in, entry_fits, put_entry, Moved, entry_count, Entries}
 use Rattle.formula.specs.Prefix.Laws.{words_rise, words_sum, put_entries, entry_room, put_same, put_before, entries_none, entries_sum, entries_length}

@@ -3,7 +3,7 @@
 use Prim.Native.Nat.{ℕ, zero, suc, ◌+◌, ◌≤◌, ◌<◌, min}
 use Rattle.std.proofs.Math.Path.{◌≡◌, refl, sym}
 use Rattle.std.proofs.Common.{◌∙◌, add-one, arith, length-set, get_or-set_same, get_or-set_other}
-use Rattle.std.specs.Prelude.{Bool, ◌||◌, length, get_or, set, take, ltb, eqb, ℤ}
+use Rattle.std.specs.Prelude.{Bool, ◌||◌, length, get_or, set, ltb, eqb, ℤ}
 use Rattle.std.proofs.Math.Bool.{true, false, or-true, or-false}
 use Rattle.std.proofs.Math.Option.{Option, none, some}
 use mathlib.Core.List.{List, [], ◌∷◌, ◌++◌}

@@ -1,5 +1,4 @@
 -- `Variable::literal` is the variable's number as a word. Assumes nothing.
-use borrow.Author.Rules.{rules}
 use Rattle.formula.proofs.SignedWord.{number_word}
 use Rattle.formula.proofs.literal.Variable.literal.Goals as goal
 

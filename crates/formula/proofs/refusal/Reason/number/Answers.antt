@@ -1,5 +1,4 @@
 -- `number`: the number of what tells the reason. Assumes nothing.
-use borrow.Author.Rules.{rules}
 use Rattle.formula.specs.Refusal.Laws.{tagged_number}
 use Rattle.formula.specs.declared.refusal.Numbers.TheVariants.{Alone, Blocked}
 use Rattle.formula.proofs.refusal.Reason.number.Goals as goal

@@ -1,5 +1,4 @@
 -- `numbers`: what tells the reason. Assumes nothing.
-use borrow.Author.Rules.{rules}
 use Rattle.formula.specs.Refusal.Laws.{tagged_numbers}
 use Rattle.formula.proofs.refusal.Reason.numbers.Goals as goal
 

@@ -1,6 +1,5 @@
 -- `in_text` asks whether the reason is 2. Assumes nothing.
 use mathlib.Core.Path.{sym, ◌∙◌}
-use borrow.Author.Rules.{rules}
 use borrow.Author.Tests.{eq-eqb, ne_eqb}
 use Rattle.formula.proofs.refusal.Refusal.in_text.Goals as goal
 
