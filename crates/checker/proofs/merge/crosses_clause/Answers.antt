@@ -1,10 +1,10 @@
 -- `crosses_clause`: what is left of the clause tells what the whole does. Assumes nothing.
-use Prim.Native.Nat.{◌+◌, ◌-◌}
+use Prim.Native.Nat.{◌+◌}
 use mathlib.Core.Path.{◌≡◌, refl, ap, sym, ◌∙◌}
 use mathlib.Core.Bool.{Bool, false, ◌||◌}
 use mathlib.Core.List.{[], ◌∷◌}
 use borrow.Author.Rules.{rules}
-use lib.ListN.{length, get_or}
+use lib.ListN.{get_or}
 use lib.IntN.{pos}
 use mir.Syntax.{w32}
 use mir.Val.{to_z, of_z}
@@ -12,7 +12,7 @@ use mir.Facts.{to_z-of_z}
 use Rattle.bits.specs.Flags.{flags}
 use Rattle.formula.specs.Decode.{clause_at}
 use Rattle.formula.specs.Decode.Places.{clause_past, clause_zero, clause_literal}
-use Rattle.inference.specs.Words.{without, AllInRange}
+use Rattle.inference.specs.Words.{without}
 use Rattle.inference.specs.Marks.{marks_in, alone}
 use Rattle.inference.specs.Marks.Laws.{head_in_range, tail_in_range}
 use Rattle.checker.specs.Merge.{crosses_by, flagged}

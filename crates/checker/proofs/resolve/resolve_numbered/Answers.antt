@@ -1,7 +1,6 @@
 -- `resolve_numbered` finds both clauses by their numbers. Assumes nothing.
 use Prim.Native.Nat.{◌-◌}
 use mathlib.Core.Path.{◌≡◌, ap₂, sym, ◌∙◌}
-use borrow.Author.Rules.{rules}
 use Rattle.formula.specs.Decode.{clause_at}
 use Rattle.inference.specs.Numbered.{stored_at}
 use Rattle.checker.specs.Step.Laws.{stored_by_number}

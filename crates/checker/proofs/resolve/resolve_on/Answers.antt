@@ -1,7 +1,6 @@
 -- `resolve_on`: both clauses are searched for the pivot's literals, then the result is judged. Assumes nothing.
 use mathlib.Core.Path.{◌≡◌, refl, sym, ◌∙◌}
 use native.Mathlib.Omega.{arith}
-use borrow.Author.Rules.{rules}
 use lib.ListN.{length, take}
 use lib.Seq.{length-take-le}
 use lib.IntN.{pos, neg_ℤ}
@@ -48,8 +47,8 @@ front_at c = length-take-le 256 c.antecedents_cross-crossed.new.scratch (let e =
 
 pub judge_resolvent-requires : goal.judge_resolvent-requires
 judge_resolvent-requires c =
-    let asked = c.before.before.before in
-    (front_at asked, (asked.antecedents_cross-crossed.ensures.clean.marks, asked.requires.1.1))
+    let p = c.requires in
+    record { fact_1 = front_at c.before.before.before; fact_2 = c.antecedents_cross-crossed.ensures.clean.marks; fact_3 = p.fact_3; fact_4 = p.fact_4; fact_5 = p.fact_5 }
 
 pub returns-then-has_word-2 : goal.returns-then-has_word-2
 returns-then-has_word-2 c =
