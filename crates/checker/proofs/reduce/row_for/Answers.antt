@@ -3,7 +3,6 @@
 use mathlib.Core.Path.{◌≡◌, ap, ◌∙◌}
 use native.Mathlib.Omega.{arith}
 use lib.ListN.{length, take}
-use borrow.Author.Rules.{rules}
 use borrow.Rule.Slice.PartMut.{same_len_mid}
 use Rattle.qbf.specs.Formula.{universal}
 use Rattle.formula.proofs.Theorems.Tables.Laws.{admitted_entries}

@@ -1,6 +1,5 @@
 -- `universal_of` asks the prefix about the word's variable; a word out of range has none there. Assumes nothing.
 use mathlib.Core.Path.{◌≡◌, ap, sym, ◌∙◌}
-use borrow.Author.Rules.{rules}
 use borrow.Author.Tests.{leb-true}
 use lib.Dec.{leb}
 use lib.IntN.{ℤ, nat_abs}
