@@ -69,22 +69,14 @@ inputs_at c = admitted_closed c.args.prefix.now c.args.clauses.now c.requires.fa
 pub run_steps-requires : goal.run_steps-requires
 run_steps-requires c =
     let filled = c.before.before.before.before in
-    let start = filled.before.before.before.before.before.before.before.before.before.before.before.before.before.before.before in (
-      ready_at filled,
-      (
-        start.requires.fact_1,
-        (
-          start.requires.fact_3,
-          (
-            filled.fill_offsets-first.ensures.first_empty_lem,
-            (
-              omega (arith, filled.fill_offsets-first.auto.offsets, filled.clear_lent.auto.offsets, start.requires.fact_5),
-              rw (inputs_at start) at (filled.fill_offsets-first.ensures.input_clauses start.args.steps.now),
-            ),
-          ),
-        ),
-      ),
-    )
+    record {
+      ready_1 = ready_at filled;
+      ready_2 = c.requires.fact_1;
+      ready_3 = c.requires.fact_3;
+      ready_4 = c.fill_offsets-first.ensures.first_empty_lem;
+      inputs_in_bounds_1 = omega (arith, c.fill_offsets-first.auto.offsets, c.clear_lent.auto.offsets, c.requires.fact_5);
+      inputs_in_bounds_2 = rw (admitted_closed c.args.prefix.now c.args.clauses.now c.requires.fact_1 ∙ sym c.requires.fact_2) at (c.fill_offsets-first.ensures.input_clauses c.args.steps.now);
+    }
 
 pub conclude_run-requires : goal.conclude_run-requires
 conclude_run-requires c = (ended_at c.before).grown
@@ -117,12 +109,6 @@ slice_bounds-fill_quantified-start c = omega arith
 
 pub slice_bounds-fill_quantified-end : goal.slice_bounds-fill_quantified-end
 slice_bounds-fill_quantified-end c = let e = cleared_size c.before.before.before.before.before in omega arith
-
-pub enum_known-refusal : goal.enum_known-refusal
-enum_known-refusal c = c.in-Refused.keys1
-
-pub enum_known-numbered : goal.enum_known-numbered
-enum_known-numbered c = c.in-Ended.keys2
 
 pub shape_of-scratch-in-Refused : goal.shape_of-scratch-in-Refused
 shape_of-scratch-in-Refused c = scratch_at c.before.before.before.before.before.before
