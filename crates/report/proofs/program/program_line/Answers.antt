@@ -7,26 +7,12 @@ use Rattle.report.specs.Check.{lent}
 use Rattle.report.specs.Line.{file_bound}
 use Rattle.report.specs.Program.Laws.{line_printed}
 use borrow.Author.Rules.{rules}
-use Rattle.report.proofs.program.program_line.Statement.{statement}
-use Rattle.report.proofs.program.program_line.Tie as tie
+use Rattle.report.proofs.program.program_line.Goals as goal
 
-returns : tie.Need-returns
+pub returns : goal.returns
 returns c =
-    let called = c.before.before.before.before.before.before.before in
+    let called = c in
     line_printed
     {room = lent file_bound (replicate 3072 (pos 0)) (replicate 16384 (pos 0)) (replicate 16384 (pos 0)) (replicate scratch_bound 0) (replicate 16384 0)}
     (rw (length-replicate {0} {A = ℤ} 3072 (pos 0), length-replicate {0} {A = ℤ} 16384 (pos 0), length-replicate {0} {A = ℕ} scratch_bound 0, length-replicate {0} {A = ℕ} 16384 0))
-    called.check-line.ensures
-
-pub program_line_spec : {M : Type 1} → statement M
-program_line_spec =
-    tie.close
-    (tie.spec
-    (λ c. search rules)
-    (λ c. search rules)
-    (λ c. search rules)
-    (λ c. search rules)
-    (λ c. search rules)
-    (λ c κs. search rules)
-    (λ c. search rules)
-    returns)
+    called.check_line.ensures

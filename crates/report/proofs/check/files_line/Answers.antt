@@ -1,0 +1,41 @@
+-- `files_line` settles the formula's file; a refusal is printed, and the proof file looked at only where there is none.
+-- Assumes nothing.
+use mathlib.Core.Path.{sym}
+use lib.Seq.{length-take-le}
+use Rattle.report.specs.Check.Laws.{refused_line_lem, read_line}
+use Rattle.report.specs.Settle.Laws.{formula_settled_read, formula_settled_refused}
+use Rattle.report.specs.Printing.Laws.{stores_instead}
+use borrow.Author.Rules.{rules}
+use Rattle.report.proofs.check.files_line.Goals as goal
+
+pub slice_bounds-proof_line-end : goal.slice_bounds-proof_line-end
+slice_bounds-proof_line-end c = (c.settle_formula.ensures.within _ _ _ c.in-Read.is).0
+
+pub slice_bounds-proof_line-end-in-Read : goal.slice_bounds-proof_line-end-in-Read
+slice_bounds-proof_line-end-in-Read c = sym (length-take-le _ _ (c.settle_formula.ensures.within _ _ _ c.in-Read.is).0)
+
+pub slice_bounds-proof_line-end-in-Read-2 : goal.slice_bounds-proof_line-end-in-Read-2
+slice_bounds-proof_line-end-in-Read-2 c = (c.settle_formula.ensures.within _ _ _ c.in-Read.is).1
+
+pub slice_bounds-proof_line-end-in-Read-3 : goal.slice_bounds-proof_line-end-in-Read-3
+slice_bounds-proof_line-end-in-Read-3 c = sym (length-take-le _ _ (c.settle_formula.ensures.within _ _ _ c.in-Read.is).1)
+
+pub proof_line-requires : goal.proof_line-requires
+proof_line-requires c = (c.settle_formula.ensures.within _ _ _ c.in-Read.is).2
+
+pub returns-in-Refused : goal.returns-in-Refused
+returns-in-Refused c =
+    let told = c in
+    let settle = told.before.before.before in
+    stores_instead
+    (refused_line_lem _ _ _ _ (formula_settled_refused settle.settle_formula.ensures told.in-Refused.is))
+    c.refused_line.ensures
+
+pub returns-in-Read : goal.returns-in-Read
+returns-in-Read c =
+    let proved = c in
+    let told = proved.before.before.before.before.before.before in
+    let settle = told.before.before.before.before in
+    stores_instead
+    (read_line _ _ _ _ _ _ (formula_settled_read settle.settle-formula.ensures told.prefix-used.given.1))
+    proved.proof_line.ensures
