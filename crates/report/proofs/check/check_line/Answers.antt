@@ -19,16 +19,16 @@ returns c =
     let files = prefix.before.before.before.before.before.before.before.before.before.before.before in
     let given = files.args in
     let kept = files.files_line-end.auto in
-    let room = lent given.file-bound given.prefix.now given.clauses.now given.steps.now given.scratch.now given.offsets.now in
+    let room = lent given.file_bound given.prefix.now given.clauses.now given.steps.now given.scratch.now given.offsets.now in
     let printed = stored_prints {text = check_line room given.formula.now given.proof.now} files.files_line-end.ensures.stores done.finish.ensures in
     record {
       answers = printed.answers;
       prints = printed.prints;
       short = files.files_line-end.ensures.short;
-      prefix_cleared = cleared_kept (pos 0) given.prefix.now _ _ prefix.clear_words.ensures kept.1.1.1.0;
-      clauses_cleared = cleared_kept (pos 0) given.clauses.now _ _ clauses.clear_words-2.ensures kept.1.1.1.1.0;
-      steps_cleared = cleared_kept (pos 0) given.steps.now _ _ steps.clear_words-3.ensures kept.1.1.1.1.1.0;
-      scratch_cleared = cleared_kept 0 given.scratch.now _ _ scratch.clear_bytes.ensures kept.1.1.1.1.1.1.0;
-      offsets_cleared = cleared_kept 0 given.offsets.now _ _ offsets.clear_numbers.ensures kept.1.1.1.1.1.1.1.0;
+      prefix_cleared = cleared_kept (pos 0) given.prefix.now _ _ prefix.clear_words.ensures kept.prefix;
+      clauses_cleared = cleared_kept (pos 0) given.clauses.now _ _ clauses.clear_words-2.ensures kept.clauses;
+      steps_cleared = cleared_kept (pos 0) given.steps.now _ _ steps.clear_words-3.ensures kept.steps;
+      scratch_cleared = cleared_kept 0 given.scratch.now _ _ scratch.clear_bytes.ensures kept.scratch;
+      offsets_cleared = cleared_kept 0 given.offsets.now _ _ offsets.clear_numbers.ensures kept.offsets;
       accepted_lost = λ h. accepted_denotes_lost room given.formula.now given.proof.now (length given.line.now) (ap (take 9) (sym printed.prints) ∙ h);
     }

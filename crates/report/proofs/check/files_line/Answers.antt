@@ -25,17 +25,12 @@ proof_line-requires c = (c.settle_formula.ensures.within _ _ _ c.in-Read.is).2
 
 pub returns-in-Refused : goal.returns-in-Refused
 returns-in-Refused c =
-    let told = c in
-    let settle = told.before.before.before in
     stores_instead
-    (refused_line_lem _ _ _ _ (formula_settled_refused settle.settle_formula.ensures told.in-Refused.is))
+    (refused_line_lem _ _ _ _ (formula_settled_refused c.settle_formula.ensures c.in-Refused.is))
     c.refused_line.ensures
 
 pub returns-in-Read : goal.returns-in-Read
 returns-in-Read c =
-    let proved = c in
-    let told = proved.before.before.before.before.before.before in
-    let settle = told.before.before.before.before in
     stores_instead
-    (read_line _ _ _ _ _ _ (formula_settled_read settle.settle-formula.ensures told.prefix-used.given.1))
-    proved.proof_line.ensures
+    (read_line _ _ _ _ _ _ (formula_settled_read c.settle_formula.ensures c.in-Read.is))
+    c.proof_line.ensures

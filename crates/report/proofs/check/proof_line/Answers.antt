@@ -16,18 +16,13 @@ slice_bounds-judged_line-end-in-Read c = sym (length-take-le _ _ (c.settle_proof
 pub returns-in-Refused : goal.returns-in-Refused
 unfolding steps_line
 returns-in-Refused c =
-    let told = c in
-    let settle = told.before.before in
     stores_instead
-    (ap (steps_line _ _ _ _ _) (proof_settled_refused settle.settle_proof.ensures told.in-Refused.is))
+    (ap (steps_line _ _ _ _ _) (proof_settled_refused c.settle_proof.ensures c.in-Refused.is))
     c.refused_line.ensures
 
 pub returns-in-Read : goal.returns-in-Read
 unfolding steps_line
 returns-in-Read c =
-    let judged = c in
-    let told = judged.before.before.before.before in
-    let settle = told.before.before.before in
     stores_instead
-    (ap (steps_line _ _ _ _ _) (proof_settled_read settle.settle-proof.ensures told.n.given.1))
-    judged.judged_line.ensures
+    (ap (steps_line _ _ _ _ _) (proof_settled_read c.settle_proof.ensures c.in-Read.is))
+    c.judged_line.ensures

@@ -19,7 +19,7 @@ returns c =
     let prefix = clauses.before.before.before in
     let wrote = prefix.before.before.before.before.before.before.before.before in
     let a = wrote.args in
-    let printed = stored_prints {text = dependency_text (lent a.file-bound a.prefix.now a.clauses.now [] a.scratch.now []) a.formula.now} wrote.write_settled-end.ensures.stores c.finish.ensures in
+    let printed = stored_prints {text = dependency_text (lent a.file_bound a.prefix.now a.clauses.now [] a.scratch.now []) a.formula.now} wrote.write_settled-end.ensures.stores c.finish.ensures in
     let p : length wrote.write_settled-end.new.prefix ≡ length a.prefix.now = search rules in
     let q : length wrote.write_settled-end.new.clauses ≡ length a.clauses.now = search rules in
     let s : length wrote.write_settled-end.new.scratch ≡ length a.scratch.now = search rules in

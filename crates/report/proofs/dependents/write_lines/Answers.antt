@@ -30,21 +30,18 @@ within c = omega (arith, c.loop-place.invariant.2, c.loop-place-test.true)
 
 pub write_entry_line-next-requires : goal.write_entry_line-next-requires
 write_entry_line-next-requires c =
-    let test = c.before.before in
-    let l = test.loop-place in
-    let s = start test in
-    let p = s.args.prefix.now in
-    let F = formula_of p s.args.clauses.now in (
-      s.requires.admitted,
-      (
-        within test,
-        (
-          rw l.invariant.3 s.requires.scratch_bound_in_bounds,
+    let l = c.loop-place in
+    let p = c.args.prefix.now in
+    let F = formula_of p c.args.clauses.now in
+    let h : l.place < entry_count p = omega (arith, l.invariant.2, c.loop-place-test.true) in
+    record {
+      admitted = c.requires.admitted;
+      place_bound = h;
+      scratch_bound_in_bounds = rw l.invariant.3 c.requires.scratch_bound_in_bounds;
+      place_bound_2 =
           below_first l.next (entry_line F (prefix_of p) (entry_at p l.place)) (universal_lines F (prefix_of p) (drop (suc l.place) (prefix_of p)))
-              (rw (universal_lines_drop p l.place (within test) F (prefix_of p)) at (below_remains (universal_lines_below p s.args.clauses.now s.requires.admitted) l.invariant.0)),
-        ),
-      ),
-    )
+          (rw (universal_lines_drop p l.place h F (prefix_of p)) at (below_remains (universal_lines_below p c.args.clauses.now c.requires.admitted) l.invariant.0));
+    }
 
 pub loop-place-preserved : goal.loop-place-preserved
 loop-place-preserved c =

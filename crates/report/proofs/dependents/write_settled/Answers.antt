@@ -24,7 +24,7 @@ start c = c.before.before.before.before.before.before
 
 -- the room that is lent
 abbrev room_at : lts.After-settle_formula tie.the-claims reads.Pre reads.Post → Room
-room_at c = let a = (start c).args in lent a.file-bound a.prefix.now a.clauses.now [] a.scratch.now []
+room_at c = let a = (start c).args in lent a.file_bound a.prefix.now a.clauses.now [] a.scratch.now []
 
 -- the tables as they were filled
 abbrev prefix-at : lts.After-settle_formula tie.the-claims reads.Pre reads.Post → List ℤ
@@ -39,7 +39,7 @@ called c = c.before.before.before
 
 settled_at :
     (c : lts.Past-After-known_told2 tie.the-claims reads.Pre reads.Post) → let a = (start (called c)).args in
-    settled a.file-bound a.formula.now (length a.prefix.now) (length a.clauses.now)
+    settled a.file_bound a.formula.now (length a.prefix.now) (length a.clauses.now)
     ≡ read (take c.in-Read.prefix_used (prefix-at (called c))) (take c.in-Read.clauses_used (clauses_at (called c))) c.in-Read.clauses
 settled_at c =
     (called c).settle_formula.ensures.settles

@@ -42,8 +42,8 @@ line_at c =
 
 pub write_row_line-requires : goal.write_row_line-requires
 write_row_line-requires c =
-    let made = c.before.before.before.before in
-    let s = start made in
+    let made = c.before.before.before in
+    let s = c in
     record { entries = admitted_entries s.args.prefix.now s.args.clauses.now s.requires.admitted; scratch_bound_in_bounds = search rules; variable_bound = rw (line_at made) s.requires.variable_bound }
 
 pub returns : goal.returns
