@@ -17,7 +17,7 @@ use Rattle.checker.specs.Verdict.{verdict_of}
 use Rattle.checker.specs.declared.verdict.Verdict.{Verdict}
 use Rattle.checker.specs.declared.verdict.Verdict.TheVariants.{Accepted, Refused}
 use Rattle.report.specs.Line.{accepted_line, refused_line, settled}
-use Rattle.report.specs.Check.{Room, settled_proof, verdict_line, steps_line, check_line}
+use Rattle.report.specs.Check.{Room, settled_proof, steps_line, check_line}
 use Rattle.report.specs.Check.Laws.{refused_line_lem, read_line}
 use Rattle.dependency.specs.Scratch.{scratch_bound}
 use Rattle.report.specs.Dependents.{universal_lines, tables_text, dependency_text}

@@ -1,6 +1,6 @@
 -- No text is refused as 7 (02, P2): a variable that no set binds is added to the prefix. Tables that are handed in keep 7. Assumes nothing.
 use Rattle.std.specs.Prelude.{ℕ, zero, suc, ◌≡◌, refl, Bool, not, ◌&&◌, leb, ltb, eqb, ℤ, pos, length}
-use Rattle.std.proofs.Common.{ap, sym, ◌∙◌, arith}
+use Rattle.std.proofs.Common.{arith}
 use Rattle.std.proofs.Math.Bool.{true, false}
 use Rattle.std.proofs.Math.Option.{Option, none, some}
 use mathlib.Core.List.{List, [], ◌∷◌, ◌++◌}

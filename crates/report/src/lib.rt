@@ -1,5 +1,6 @@
 // What the two programs print, from the bytes of their files: everything a program does but open, read and write.
 #![tactic(auto)]
+
 pub mod check;
 pub mod dependents;
 mod line;

@@ -5,12 +5,12 @@ use Rattle.std.proofs.Math.Path.{refl}
 use Rattle.std.proofs.Common.{subst, mul-add, mul_comm, mul_left_comm, mul-le-mul, mul-le-mul_right}
 use mathlib.Core.List.{List, [], ◌∷◌, Memᴰ}
 use Rattle.std.proofs.Math.Nat.{add-mul}
-use Rattle.std.proofs.Math.Decide.{ℕ_discrete, dec_lt}
+use Rattle.std.proofs.Math.Decide.{dec_lt}
 use native.Mathlib.Omega.{arith}
 use Rattle.std.proofs.Math.ListN.{length, length-append}
-use Rattle.qbf.specs.Formula.{Quantifier, existential, universal, Entry, entry, Prefix, Formula, Existential, after}
-use Rattle.qbf.specs.Formula.Laws.{quantifiers_exclusive, existentials_member, after_own, after_other}
-use Rattle.qbf.specs.Dependency.{depends, Depends}
+use Rattle.qbf.specs.Formula.{Quantifier, existential, universal, Entry, entry, Prefix}
+use Rattle.qbf.specs.Formula.Laws.{quantifiers_exclusive}
+use Rattle.qbf.specs.Dependency.{depends}
 use Rattle.qbf.proofs.Dependency.Laws.{depends_sound, depends_existential}
 use Rattle.formula.specs.Decimal.Laws.{length_decimal}
 use Rattle.formula.specs.Decode.{formula_of}

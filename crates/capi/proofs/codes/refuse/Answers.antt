@@ -1,6 +1,5 @@
 -- `refuse` tells the numbers of its reason. Assumes nothing.
 use mathlib.Core.Path.{refl, sym, ◌∙◌}
-use borrow.Author.Rules.{rules}
 use Rattle.capi.proofs.codes.refuse.Goals as goal
 
 pub returns-in-Alone : goal.returns-in-Alone

@@ -1,5 +1,4 @@
 -- `qdr_check` tells the verdict. Assumes nothing.
-use borrow.Author.Rules.{rules}
 use Rattle.capi.proofs.proof.qdr_check.Goals as goal
 
 pub returns : goal.returns

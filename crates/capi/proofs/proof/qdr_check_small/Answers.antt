@@ -1,5 +1,4 @@
 -- `qdr_check_small` tells the verdict. Assumes nothing.
-use borrow.Author.Rules.{rules}
 use Rattle.capi.proofs.proof.qdr_check_small.Goals as goal
 
 pub returns : goal.returns

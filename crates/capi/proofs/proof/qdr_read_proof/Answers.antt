@@ -1,5 +1,4 @@
 -- `qdr_read_proof` tells the step words, or the refusal. Assumes nothing.
-use borrow.Author.Rules.{rules}
 use Rattle.capi.proofs.proof.qdr_read_proof.Goals as goal
 
 pub returns-in-Read : goal.returns-in-Read

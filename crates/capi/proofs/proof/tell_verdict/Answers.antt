@@ -1,5 +1,4 @@
 -- `tell_verdict` tells a verdict by its case. Assumes nothing.
-use borrow.Author.Rules.{rules}
 use Rattle.capi.proofs.proof.tell_verdict.Goals as goal
 
 pub returns-in-Accepted : goal.returns-in-Accepted

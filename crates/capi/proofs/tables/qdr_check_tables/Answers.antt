@@ -1,5 +1,4 @@
 -- `qdr_check_tables` tells the variables and the clauses, or the refusal. Assumes nothing.
-use borrow.Author.Rules.{rules}
 use Rattle.capi.proofs.tables.qdr_check_tables.Goals as goal
 
 pub returns-in-Admitted : goal.returns-in-Admitted

@@ -1,5 +1,4 @@
 -- `qdr_evaluate` tells the value of the game, or the refusal. Assumes nothing.
-use borrow.Author.Rules.{rules}
 use Rattle.capi.proofs.tables.qdr_evaluate.Goals as goal
 
 pub returns-in-True : goal.returns-in-True

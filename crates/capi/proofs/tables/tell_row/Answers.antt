@@ -1,5 +1,4 @@
 -- `tell_row` tells an answer by its case. Assumes nothing.
-use borrow.Author.Rules.{rules}
 use Rattle.capi.proofs.tables.tell_row.Goals as goal
 
 pub returns-in-Filled : goal.returns-in-Filled

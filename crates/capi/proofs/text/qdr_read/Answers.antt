@@ -1,5 +1,4 @@
 -- `qdr_read` tells what was read, or the refusal. Assumes nothing.
-use borrow.Author.Rules.{rules}
 use Rattle.capi.proofs.text.qdr_read.Goals as goal
 
 pub returns-in-Read : goal.returns-in-Read

@@ -1,5 +1,4 @@
 -- `qdr_write` tells the bytes used, or the refusal. Assumes nothing.
-use borrow.Author.Rules.{rules}
 use Rattle.capi.proofs.text.qdr_write.Goals as goal
 
 pub returns-in-Written : goal.returns-in-Written

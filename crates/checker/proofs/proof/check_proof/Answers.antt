@@ -1,5 +1,4 @@
 -- `check_proof` is `check_with` at 01's scratch. Assumes nothing.
-use borrow.Author.Rules.{rules}
 use Rattle.checker.proofs.proof.check_proof.Goals as goal
 
 pub returns : goal.returns

@@ -2,7 +2,6 @@
 use Prim.Native.Nat.{ℕ}
 use mathlib.Core.Path.{ap, ◌∙◌}
 use lib.ListN.{length, replicate}
-use borrow.Author.Rules.{rules}
 use Rattle.inference.specs.Rules.{resized, plain_rules}
 use Rattle.checker.specs.Verdict.Accuracy.{accepted_lost}
 use Rattle.checker.proofs.proof.check_with.Goals as goal

@@ -1,6 +1,5 @@
 -- `clear_lent` clears both from 0 on. Assumes nothing.
 use mathlib.Core.Path.{◌∙◌}
-use borrow.Author.Rules.{rules}
 use Rattle.checker.specs.Verdict.Parts.{cleared_whole}
 use Rattle.checker.proofs.proof.clear_lent.Goals as goal
 

@@ -3,7 +3,6 @@ use mathlib.Core.Path.{◌≡◌, sym, ◌∙◌}
 use Rattle.formula.specs.Prefix.{entry_count}
 use Rattle.formula.specs.Tables.{Admitted, zeros}
 use Rattle.formula.proofs.Theorems.Tables.Laws.{answer_admitted, answer_refused}
-use borrow.Author.Rules.{rules}
 use Rattle.checker.specs.Verdict.{verdict_of}
 use Rattle.checker.proofs.proof.judge_proof.Tie as tie
 use Rattle.checker.proofs.proof.judge_proof.Lts as lts

@@ -10,7 +10,6 @@ use lib.ListN.{length, take}
 use lib.Seq.{length-take-le}
 use Rattle.formula.specs.Decode.{clauses_of}
 use Rattle.formula.specs.Tables.{zeros}
-use borrow.Author.Rules.{rules}
 use borrow.Rule.Slice.PartMut.{same_len_mid}
 use Rattle.inference.specs.Rules.{plain_rules}
 use Rattle.inference.specs.Steps.{family_of}

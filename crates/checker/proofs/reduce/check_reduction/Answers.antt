@@ -13,7 +13,6 @@ use Rattle.inference.specs.Numbered.Laws.{number_range, number_antecedent, numbe
 use Rattle.checker.specs.Step.Laws.{none_kept, stored_in_range, stored_by_number}
 use Rattle.checker.proofs.reduce.check_reduction.Goals as goal
 
-
 -- the antecedent's number is that of its word
 first_at : (word : ℤ) (numbered : ℕ) (n : NumberFit) → to_z w32 (of_z w32 word) ≡ word → n ≡ number_of (to_z w32 (of_z w32 word)) numbered → n ≡ number_of word numbered
 first_at word numbered n e f = rw e at f

@@ -1,13 +1,13 @@
 -- `run_steps`: what is left to run comes to the same as the whole. Assumes nothing.
-use Prim.Native.Nat.{◌-◌, ◌<◌}
-use mathlib.Core.Path.{◌≡◌, refl, ◌∙◌}
+use Prim.Native.Nat.{◌<◌}
+use mathlib.Core.Path.{refl, ◌∙◌}
 use native.Mathlib.Omega.{arith}
 use borrow.Author.Rules.{rules}
 use lib.ListN.{length}
 use Rattle.inference.specs.Scope.{scope_of}
 use Rattle.inference.specs.Numbered.{stored}
 use Rattle.inference.specs.Numbered.Laws.{stored_length}
-use Rattle.checker.specs.Run.Laws.{Taken, right_taken, Going, going_begins, going_turns, going_refused, going_afterwards, going_ends}
+use Rattle.checker.specs.Run.Laws.{right_taken, going_begins, going_turns, going_refused, going_afterwards, going_ends}
 use Rattle.checker.proofs.run.run_steps.Goals as goal
 
 pub loop-at-init : goal.loop-at-init

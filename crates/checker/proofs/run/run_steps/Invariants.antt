@@ -1,13 +1,8 @@
 -- `run_steps`: what is left to run comes to the same as the whole. Assumes nothing.
-use Prim.Native.Nat.{◌-◌, ◌<◌}
-use mathlib.Core.Path.{◌≡◌, refl, ◌∙◌}
-use native.Mathlib.Omega.{arith}
-use borrow.Author.Rules.{rules}
+use Prim.Native.Nat.{◌-◌}
+use mathlib.Core.Path.{◌≡◌}
 use lib.ListN.{length}
-use Rattle.inference.specs.Scope.{scope_of}
-use Rattle.inference.specs.Numbered.{stored}
-use Rattle.inference.specs.Numbered.Laws.{stored_length}
-use Rattle.checker.specs.Run.Laws.{Taken, right_taken, Going, going_begins, going_turns, going_refused, going_afterwards, going_ends}
+use Rattle.checker.specs.Run.Laws.{Going}
 use Rattle.checker.proofs.run.run_steps.Given as goal
 
 abbrev pub invariant-loop-at : goal.invariant-loop-at

@@ -5,7 +5,6 @@ use lib.ListN.{length, take}
 use Rattle.report.specs.Check.{check_line, lent}
 use Rattle.report.specs.Check.Laws.{accepted_denotes_lost}
 use Rattle.report.specs.Printing.Laws.{cleared_kept, stored_prints}
-use borrow.Author.Rules.{rules}
 use Rattle.report.proofs.check.check_line.Goals as goal
 
 pub returns : goal.returns

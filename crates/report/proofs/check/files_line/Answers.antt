@@ -5,7 +5,6 @@ use lib.Seq.{length-take-le}
 use Rattle.report.specs.Check.Laws.{refused_line_lem, read_line}
 use Rattle.report.specs.Settle.Laws.{formula_settled_read, formula_settled_refused}
 use Rattle.report.specs.Printing.Laws.{stores_instead}
-use borrow.Author.Rules.{rules}
 use Rattle.report.proofs.check.files_line.Goals as goal
 
 pub slice_bounds-proof_line-end : goal.slice_bounds-proof_line-end

@@ -3,7 +3,6 @@ use mathlib.Core.Path.{sym, ap}
 use Rattle.formula.specs.Prefix.{entry_count}
 use Rattle.report.specs.Check.{verdict_line}
 use Rattle.report.specs.Printing.Laws.{stores_instead}
-use borrow.Author.Rules.{rules}
 use Rattle.report.proofs.check.judged_line.Goals as goal
 
 pub returns : goal.returns

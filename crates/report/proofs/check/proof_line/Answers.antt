@@ -4,7 +4,6 @@ use lib.Seq.{length-take-le}
 use Rattle.report.specs.Check.{steps_line}
 use Rattle.report.specs.Settle.Laws.{proof_settled_read, proof_settled_refused}
 use Rattle.report.specs.Printing.Laws.{stores_instead}
-use borrow.Author.Rules.{rules}
 use Rattle.report.proofs.check.proof_line.Goals as goal
 
 pub slice_bounds-judged_line-end : goal.slice_bounds-judged_line-end

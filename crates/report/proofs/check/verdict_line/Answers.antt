@@ -1,5 +1,4 @@
 -- `verdict_line` stores the line of its verdict, arm by arm. Assumes nothing.
-use borrow.Author.Rules.{rules}
 use Rattle.report.proofs.check.verdict_line.Goals as goal
 
 pub returns-in-Accepted : goal.returns-in-Accepted

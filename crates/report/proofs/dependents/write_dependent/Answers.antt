@@ -4,7 +4,6 @@ use mathlib.Core.List.{[], ◌∷◌, ◌++◌}
 use Rattle.formula.specs.Decimal.{decimal}
 use Rattle.formula.specs.Store.Laws.{stores_none, stores_append, below_first, below_rest}
 use Rattle.report.specs.Dependents.{if_dependent}
-use borrow.Author.Rules.{rules}
 use Rattle.report.proofs.dependents.write_dependent.Tie as tie
 use Rattle.report.proofs.dependents.write_dependent.Lts as lts
 use Rattle.report.proofs.dependents.write_dependent.Reads as reads

@@ -1,20 +1,12 @@
 -- `write_dependents` stores the dependents one by one: what is left to store is what the entries that the loop has not passed
 -- give. Assumes nothing.
-use Prim.Native.Nat.{suc, ◌-◌, ◌≤◌, ◌<◌}
+use Prim.Native.Nat.{◌-◌, ◌≤◌}
 use mathlib.Core.Path.{◌≡◌}
-use mathlib.Core.List.{◌++◌}
-use native.Mathlib.Numerals.{add-one}
-use native.Mathlib.Omega.{arith}
-use borrow.Author.Rules.{rules}
-use lib.ListN.{drop, drop_of_length-le}
+use lib.ListN.{drop}
 use Rattle.formula.specs.Prefix.{prefix_of, entry_count}
-use Rattle.formula.specs.Prefix.Laws.{entry_at_ranged}
 use Rattle.formula.specs.Store.{Remains}
-use Rattle.formula.specs.Store.Laws.{remains_all, remains_less, remains_none, remains_length, below_first, below_remains}
 use Rattle.dependency.specs.Scratch.{row_in}
-use Rattle.report.specs.Dependents.{if_dependent}
 use Rattle.report.specs.Dependents.Listing.{marked}
-use Rattle.report.specs.Dependents.Laws.{marked_drop}
 use Rattle.report.proofs.dependents.write_dependents.Given as goal
 
 abbrev pub invariant-loop-i : goal.invariant-loop-i

@@ -8,7 +8,6 @@ use Rattle.formula.specs.Store.Laws.{stores_none}
 use Rattle.formula.proofs.Theorems.Tables.Laws.{admitted_entries}
 use Rattle.report.specs.Dependents.{entry_line, universal_line}
 use Rattle.report.specs.Dependents.Laws.{universal_at}
-use borrow.Author.Rules.{rules}
 use Rattle.report.proofs.dependents.write_entry_line.Tie as tie
 use Rattle.report.proofs.dependents.write_entry_line.Lts as lts
 use Rattle.report.proofs.dependents.write_entry_line.Reads as reads

@@ -1,18 +1,12 @@
 -- `write_lines` stores a line for each universal: what is left to store is what the entries that the loop has not passed give.
 -- Assumes nothing.
-use Prim.Native.Nat.{suc, ◌-◌, ◌≤◌, ◌<◌}
-use mathlib.Core.Path.{◌≡◌, refl}
-use native.Mathlib.Numerals.{add-one}
-use native.Mathlib.Omega.{arith}
-use borrow.Author.Rules.{rules}
-use lib.ListN.{length, drop, drop_of_length-le}
+use Prim.Native.Nat.{◌-◌, ◌≤◌}
+use mathlib.Core.Path.{◌≡◌}
+use lib.ListN.{length, drop}
 use Rattle.formula.specs.Decode.{formula_of}
-use Rattle.formula.specs.Prefix.{prefix_of, entry_count, entry_at}
+use Rattle.formula.specs.Prefix.{prefix_of, entry_count}
 use Rattle.formula.specs.Store.{Remains}
-use Rattle.formula.specs.Store.Laws.{remains_all, remains_less, remains_none, remains_length, below_first, below_remains}
-use Rattle.report.specs.Dependents.{entry_line, universal_lines}
-use Rattle.report.specs.Dependents.Laws.{universal_lines_drop}
-use Rattle.report.specs.Dependents.Length.{universal_lines_below}
+use Rattle.report.specs.Dependents.{universal_lines}
 use Rattle.report.proofs.dependents.write_lines.Given as goal
 
 abbrev pub invariant-loop-place : goal.invariant-loop-place

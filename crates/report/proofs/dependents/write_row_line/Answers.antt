@@ -5,7 +5,6 @@ use Rattle.formula.specs.Prefix.{prefix_of}
 use Rattle.formula.specs.Store.Laws.{stores_append, below_first, below_rest}
 use Rattle.dependency.specs.Scratch.{row_in}
 use Rattle.report.specs.Dependents.Listing.{marked, row_line}
-use borrow.Author.Rules.{rules}
 use Rattle.report.proofs.dependents.write_row_line.Goals as goal
 
 pub write_number-next-requires : goal.write_number-next-requires

@@ -13,7 +13,6 @@ use Rattle.report.specs.Settle.{tables_read}
 use Rattle.report.specs.Check.{Room, lent}
 use Rattle.report.specs.Printing.Laws.{stores_instead}
 use Rattle.report.specs.Dependents.Laws.{text_refused, text_read, settled_admitted}
-use borrow.Author.Rules.{rules}
 use Rattle.report.proofs.dependents.write_settled.Tie as tie
 use Rattle.report.proofs.dependents.write_settled.Lts as lts
 use Rattle.report.proofs.dependents.write_settled.Reads as reads

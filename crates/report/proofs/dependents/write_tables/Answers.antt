@@ -5,7 +5,6 @@ use lib.ListN.{length}
 use Rattle.dependency.specs.Scratch.{scratch_bound}
 use Rattle.report.specs.Dependents.{tables_text}
 use Rattle.report.specs.Dependents.Length.{universal_lines_short}
-use borrow.Author.Rules.{rules}
 use Rattle.report.proofs.dependents.write_tables.Goals as goal
 
 pub returns-then-scratch-lt-SCRATCH : goal.returns-then-scratch-lt-SCRATCH

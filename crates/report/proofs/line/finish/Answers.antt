@@ -1,5 +1,4 @@
 -- `finish` answers by what `keep_used` says of the room. Assumes nothing.
-use borrow.Author.Rules.{rules}
 use Rattle.report.proofs.line.finish.Goals as goal
 
 pub returns-then-keep_used : goal.returns-then-keep_used

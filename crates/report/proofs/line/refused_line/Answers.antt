@@ -2,7 +2,6 @@
 use native.Mathlib.Omega.{arith}
 use Rattle.formula.specs.Store.Laws.{stores_append}
 use Rattle.report.specs.Line.{refused_line}
-use borrow.Author.Rules.{rules}
 use Rattle.report.proofs.line.refused_line.Goals as goal
 
 pub returns : goal.returns

@@ -3,7 +3,6 @@ use mathlib.Core.Path.{sym, ◌∙◌}
 use native.Mathlib.Omega.{arith}
 use Rattle.formula.specs.Store.Laws.{stores_append}
 use Rattle.report.specs.Line.{refused_end}
-use borrow.Author.Rules.{rules}
 use Rattle.report.proofs.line.write_end.Goals as goal
 
 pub returns-in-Alone : goal.returns-in-Alone
@@ -19,5 +18,8 @@ returns-in-Blocked c =
     let block = c in
     let variable = block.before.before.before.before in
     let column = variable.before.before.before.before in
-    let blocked = column.before.before in record { stores = rw (sym blocked.numbers.ensures ∙ blocked.in-Blocked.is)
-          (stores_append column.write_spaced-next.ensures.stores (stores_append variable.write_spaced-next-in-Blocked.ensures.stores block.write_last-in-Blocked.ensures.stores)); upper_bound = omega (arith, column.write_spaced-next.ensures.upper_bound, variable.write_spaced-next-in-Blocked.ensures.upper_bound, block.write_last-in-Blocked.ensures.upper_bound) }
+    let blocked = column.before.before in record {
+      stores = rw (sym blocked.numbers.ensures ∙ blocked.in-Blocked.is)
+          (stores_append column.write_spaced-next.ensures.stores (stores_append variable.write_spaced-next-in-Blocked.ensures.stores block.write_last-in-Blocked.ensures.stores));
+      upper_bound = omega (arith, column.write_spaced-next.ensures.upper_bound, variable.write_spaced-next-in-Blocked.ensures.upper_bound, block.write_last-in-Blocked.ensures.upper_bound);
+    }

@@ -2,7 +2,6 @@
 use native.Mathlib.Omega.{arith}
 use Rattle.formula.specs.Decimal.Laws.{length_decimal}
 use Rattle.formula.specs.Store.Laws.{stores_append}
-use borrow.Author.Rules.{rules}
 use Rattle.report.proofs.line.write_last.Goals as goal
 
 pub write_number-next-requires : goal.write_number-next-requires

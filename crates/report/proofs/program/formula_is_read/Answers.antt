@@ -3,7 +3,6 @@ use mathlib.Core.Path.{sym}
 use lib.IntN.{ℤ, pos}
 use lib.ListN.{length-replicate}
 use Rattle.report.specs.Program.Laws.{settled_tells}
-use borrow.Author.Rules.{rules}
 use Rattle.report.proofs.program.formula_is_read.Goals as goal
 
 pub returns-in-Read : goal.returns-in-Read

@@ -8,7 +8,6 @@ use Rattle.dependency.specs.Scratch.{scratch_bound}
 use Rattle.report.specs.Check.{lent}
 use Rattle.report.specs.Line.{file_bound}
 use Rattle.report.specs.Program.Laws.{text_printed}
-use borrow.Author.Rules.{rules}
 use Rattle.report.proofs.program.program_text.Goals as goal
 
 pub returns : goal.returns

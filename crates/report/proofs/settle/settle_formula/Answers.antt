@@ -1,7 +1,6 @@
 -- `settle_formula` goes by the test on the file's length. Assumes nothing.
 use mathlib.Core.Path.{sym, ◌∙◌}
 use Rattle.report.specs.Settle.Laws.{fit_within, fit_oversized, formula_oversized, formula_read_lem}
-use borrow.Author.Rules.{rules}
 use Rattle.report.proofs.settle.settle_formula.Goals as goal
 
 pub returns-in-Oversized : goal.returns-in-Oversized

@@ -1,7 +1,6 @@
 -- `settle_proof` goes by the test on the file's length. Assumes nothing.
 use mathlib.Core.Path.{sym, ◌∙◌}
 use Rattle.report.specs.Settle.Laws.{fit_within, fit_oversized, proof_oversized, proof_read}
-use borrow.Author.Rules.{rules}
 use Rattle.report.proofs.settle.settle_proof.Goals as goal
 
 pub returns-in-Oversized : goal.returns-in-Oversized

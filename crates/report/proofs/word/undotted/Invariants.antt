@@ -1,12 +1,8 @@
 -- `undotted` counts the bytes before the first dot: what is left of the word from here on makes up its length. Assumes nothing.
 use Prim.Native.Nat.{◌+◌, ◌-◌, ◌≤◌}
 use mathlib.Core.Path.{◌≡◌}
-use native.Mathlib.Numerals.{add-one}
-use native.Mathlib.Omega.{arith}
 use lib.ListN.{length, drop}
 use Rattle.report.specs.Word.{word_in}
-use Rattle.report.specs.Word.Laws.{word_dot, word_byte, word_end}
-use borrow.Author.Rules.{rules}
 use Rattle.report.proofs.word.undotted.Given as goal
 
 abbrev pub invariant-loop-n : goal.invariant-loop-n

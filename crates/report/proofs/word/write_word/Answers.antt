@@ -1,12 +1,11 @@
 -- `write_word`: the reason's row of the list, up to its first dot, is the word of its row of the table. Assumes nothing.
 use Prim.Native.Nat.{ℕ, ◌-◌, ◌≤◌}
-use mathlib.Core.Path.{◌≡◌, sym, ◌∙◌, ap}
+use mathlib.Core.Path.{◌≡◌, sym, ◌∙◌}
 use mathlib.Core.List.{List, []}
 use native.Mathlib.Omega.{arith}
 use lib.ListN.{length, get_or, take, length-take}
 use Rattle.formula.specs.Refusal.{word}
 use Rattle.report.specs.Word.Laws.{word_first, word_shorter, row_length, row_word}
-use borrow.Author.Rules.{rules}
 use Rattle.report.proofs.word.write_word.Tie as tie
 use Rattle.report.proofs.word.write_word.Lts as lts
 use Rattle.report.proofs.word.write_word.Reads as reads

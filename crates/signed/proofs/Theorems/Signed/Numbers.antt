@@ -21,8 +21,8 @@ use Rattle.inference.specs.Steps.{Scope, Step, resolution, reduction, stated_by,
 use Rattle.checker.specs.Verdict.{conclude, scope_verdict, verdict_of}
 use Rattle.inference.specs.Scope.{scope_in}
 use Rattle.checker.specs.declared.verdict.Verdict.{Verdict}
-use Rattle.checker.specs.declared.verdict.Verdict.TheVariants.{Accepted, Refused}
-use Rattle.signed.specs.Signed.{signed_prefix, signed_formula, Said, accepted, refused, said, blockless}
+use Rattle.checker.specs.declared.verdict.Verdict.TheVariants.{Refused}
+use Rattle.signed.specs.Signed.{signed_prefix, signed_formula, refused, said, blockless}
 use Rattle.signed.proofs.Theorems.Signed.Laws.{verdict_same}
 
 -- Steps judged alike: both right and the same, or wrong for reasons of one number.
