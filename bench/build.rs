@@ -1,4 +1,4 @@
-//! Links the proved static library, `libcapi.a`, where it stands: in `../target/staticlib`, or in the
+//! Links the proved static library, `libcapi.a`, where it stands: in `../crates/capi/out`, or in the
 //! folder that the environment variable QDR_STATICLIB names. With the archive the program is built
 //! under `cfg(proved)`; without it the reference and its tests build alone.
 
@@ -12,7 +12,7 @@ fn main() {
     let here = env::var_os("CARGO_MANIFEST_DIR").expect("cargo names the manifest's folder");
     let folder = named
         .clone()
-        .unwrap_or_else(|| Path::new(&here).join("../target/staticlib"));
+        .unwrap_or_else(|| Path::new(&here).join("../crates/capi/out"));
     let archive = folder.join("libcapi.a");
     println!("cargo:rerun-if-changed={}", archive.display());
     if archive.is_file() {

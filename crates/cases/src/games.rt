@@ -6,19 +6,20 @@ use caselist::words::first_words;
 use evaluator::evaluation::{Evaluation, evaluate};
 
 // Evaluates the tables and prints the answer.
-pub fn case(name: &[u8], prefix: &[i32], clauses: &[i32]) {
-    show::name(b"game", name);
+pub fn case(rt: &impl Print, name: &[u8], prefix: &[i32], clauses: &[i32]) {
+    show::name(rt, b"game", name);
     match evaluate(prefix, clauses) {
-        Evaluation::True => show::say(b"true"),
-        Evaluation::False => show::say(b"false"),
-        Evaluation::Refused(r) => show::refused(r),
+        Evaluation::True => show::say(rt, b"true"),
+        Evaluation::False => show::say(rt, b"false"),
+        Evaluation::Refused(r) => show::refused(rt, r),
     }
-    show::say(b"\n");
+    show::say(rt, b"\n");
 }
 
 // The lettered positions.
-fn lettered() {
+fn lettered(rt: &impl Print) {
     run_list(
+        rt,
         Kind::Game,
         b"a|1 1 1  2 2 2  3 1 3  4 1 3|2 3 0 -2 4 0 -4 1 0 -1 -3 0|\
           c|1 2 1  2 2 1  3 1 2|1 2 -3 0 -1 -2 3 0|\
@@ -34,8 +35,9 @@ fn lettered() {
 }
 
 // Who moves first decides; a variable that no clause has; tables that are refused.
-fn orders() {
+fn orders(rt: &impl Print) {
     run_list(
+        rt,
         Kind::Game,
         b"universal first|1 2 1  2 1 2|1 -2 0 -1 2 0|\
           existential first|2 1 1  1 2 2|1 -2 0 -1 2 0|\
@@ -47,7 +49,7 @@ fn orders() {
 }
 
 // 16 and 17 variables, in one block and in turns: records are counted, not words. Tables are refused ahead of 17.
-fn lengths() {
+fn lengths(rt: &impl Print) {
     let mut most = [0i32; 48];
     let mut turns = [0i32; 48];
     let mut over = [0i32; 51];
@@ -55,17 +57,22 @@ fn lengths() {
     tables::number_words(&mut most, false);
     tables::number_words(&mut turns, true);
     tables::number_words(&mut over, true);
-    case(b"16 variables", &most, &[16, 0]);
-    case(b"16 variables, the last universal", &turns, &[16, 0]);
-    case(b"16 variables, one before the last", &turns, &[15, 16, 0]);
-    case(b"17 variables", &over, &[17, 0]);
-    case(b"17 times variable 1", &broken, &[]);
-    case(b"50 words", first_words(&over, 50), &[]);
+    case(rt, b"16 variables", &most, &[16, 0]);
+    case(rt, b"16 variables, the last universal", &turns, &[16, 0]);
+    case(
+        rt,
+        b"16 variables, one before the last",
+        &turns,
+        &[15, 16, 0],
+    );
+    case(rt, b"17 variables", &over, &[17, 0]);
+    case(rt, b"17 times variable 1", &broken, &[]);
+    case(rt, b"50 words", first_words(&over, 50), &[]);
 }
 
 // All of them.
-pub fn run() {
-    lettered();
-    orders();
-    lengths();
+pub fn run(rt: &impl Print) {
+    lettered(rt);
+    orders(rt);
+    lengths(rt);
 }

@@ -18,13 +18,13 @@ pub enum Kind {
 }
 
 // A case of tables; `rest` is what stands after them in the list.
-fn judge(kind: Kind, name: &[u8], prefix: &[i32], clauses: &[i32], rest: &[u8]) {
+fn judge(rt: &impl Print, kind: Kind, name: &[u8], prefix: &[i32], clauses: &[i32], rest: &[u8]) {
     match kind {
         Kind::Text(_) => (),
-        Kind::Tables => tables::case(name, prefix, clauses),
-        Kind::Written => written::case(name, prefix, clauses),
-        Kind::Game => games::case(name, prefix, clauses),
-        Kind::Row => rows::case(name, prefix, clauses, word(rest)),
+        Kind::Tables => tables::case(rt, name, prefix, clauses),
+        Kind::Written => written::case(rt, name, prefix, clauses),
+        Kind::Game => games::case(rt, name, prefix, clauses),
+        Kind::Row => rows::case(rt, name, prefix, clauses, word(rest)),
     }
 }
 
@@ -42,12 +42,21 @@ fn behind(kind: Kind, list: &[u8], at: usize) -> usize
 }
 
 // The prefix and the clauses stand at `second` and `third`, the place behind them is `fourth`.
-fn tables_case(kind: Kind, name: &[u8], list: &[u8], second: usize, third: usize, fourth: usize) {
+fn tables_case(
+    rt: &impl Print,
+    kind: Kind,
+    name: &[u8],
+    list: &[u8],
+    second: usize,
+    third: usize,
+    fourth: usize,
+) {
     let mut prefix = [0i32; 24];
     let mut clauses = [0i32; 16];
     let p = words(field(list, second), &mut prefix);
     let c = words(field(list, third), &mut clauses);
     judge(
+        rt,
         kind,
         name,
         first_words(&prefix, p),
@@ -57,7 +66,7 @@ fn tables_case(kind: Kind, name: &[u8], list: &[u8], second: usize, third: usize
 }
 
 // Runs the case at a place and answers where the next begins.
-fn run_case(kind: Kind, list: &[u8], at: usize) -> usize
+fn run_case(rt: &impl Print, kind: Kind, list: &[u8], at: usize) -> usize
     ensures { (at < length list.now) → at < result }
 {
     let name = field(list, at);
@@ -65,21 +74,21 @@ fn run_case(kind: Kind, list: &[u8], at: usize) -> usize
     let third = next_field(list, second);
     match kind {
         Kind::Text(room) => {
-            text::case(name, field(list, second), room);
+            text::case(rt, name, field(list, second), room);
             third
         }
         _ => {
             let fourth = next_field(list, third);
-            tables_case(kind, name, list, second, third, fourth);
+            tables_case(rt, kind, name, list, second, third, fourth);
             behind(kind, list, fourth)
         }
     }
 }
 
 // Runs the cases of a list one after the other.
-pub fn run_list(kind: Kind, list: &[u8]) {
+pub fn run_list(rt: &impl Print, kind: Kind, list: &[u8]) {
     let mut at = 0;
     while at < list.len() {
-        at = run_case(kind, list, at);
+        at = run_case(rt, kind, list, at);
     }
 }

@@ -3,6 +3,7 @@
 // answer; the file stdout beside src/ holds what the specification says of each. What a proof and its file are refused for is in
 // the program `refusals`. Cases stand in lists, a list one byte string: that keeps the check short.
 #![tactic(auto)]
+
 mod games;
 mod list;
 mod rows;
@@ -11,10 +12,10 @@ mod text;
 mod written;
 
 // All cases, by kind.
-fn main() {
-    text::run();
-    tables::run();
-    written::run();
-    rows::run();
-    games::run();
+fn main(rt: HostRuntime) {
+    text::run(&rt);
+    tables::run(&rt);
+    written::run(&rt);
+    rows::run(&rt);
+    games::run(&rt);
 }

@@ -6,6 +6,7 @@ use dependency::answer::{RowAnswer, dependency_row};
 
 // A row into the buffers lent.
 fn row(
+    rt: &impl Print,
     name: &[u8],
     prefix: &[i32],
     clauses: &[i32],
@@ -13,31 +14,40 @@ fn row(
     row: &mut [u8],
     scratch: &mut [u8],
 ) {
-    show::name(b"row", name);
+    show::name(rt, b"row", name);
     match dependency_row(prefix, clauses, variable, row, scratch) {
         RowAnswer::Filled => {
-            show::say(b"filled");
-            show::dependents(row);
+            show::say(rt, b"filled");
+            show::dependents(rt, row);
         }
         RowAnswer::Refused(r) => {
-            show::refused(r);
-            show::expect_bytes_clear(row, 0);
+            show::refused(rt, r);
+            show::expect_bytes_clear(rt, row, 0);
         }
     }
-    show::expect_bytes_clear(scratch, 0);
-    show::say(b"\n");
+    show::expect_bytes_clear(rt, scratch, 0);
+    show::say(rt, b"\n");
 }
 
 // A row of 1,025 bytes, with scratch of 8,200.
-pub fn case(name: &[u8], prefix: &[i32], clauses: &[i32], variable: i32) {
+pub fn case(rt: &impl Print, name: &[u8], prefix: &[i32], clauses: &[i32], variable: i32) {
     let mut bytes = [7u8; 1025];
     let mut scratch = [7u8; 8200];
-    row(name, prefix, clauses, variable, &mut bytes, &mut scratch);
+    row(
+        rt,
+        name,
+        prefix,
+        clauses,
+        variable,
+        &mut bytes,
+        &mut scratch,
+    );
 }
 
 // The lettered positions.
-fn lettered() {
+fn lettered(rt: &impl Print) {
     run_list(
+        rt,
         Kind::Row,
         b"a, 2|1 1 1  2 2 2  3 1 3  4 1 3|2 3 0 -2 4 0 -4 1 0 -1 -3 0|2|\
           c, 1|1 2 1  2 2 1  3 1 2|1 2 -3 0 -1 -2 3 0|1|\
@@ -48,8 +58,9 @@ fn lettered() {
 }
 
 // What a path may pass and what not.
-fn paths() {
+fn paths(rt: &impl Print) {
     run_list(
+        rt,
         Kind::Row,
         b"no clauses|1 2 1  2 1 2||1|\
           joined both ways|1 2 1  2 1 2|1 2 0 -1 -2 0|1|\
@@ -63,8 +74,9 @@ fn paths() {
 }
 
 // 20 for anything but a universal, behind the tables.
-fn not_universal() {
+fn not_universal(rt: &impl Print) {
     run_list(
+        rt,
         Kind::Row,
         b"asked for 0|1 1 1  2 2 2|1 2 0|0|\
           asked for -2|1 1 1  2 2 2|1 2 0|-2|\
@@ -83,6 +95,7 @@ fn not_universal() {
 
 // A row into the first `row_bytes` bytes of one buffer, with the first `scratch_bytes` of the other as scratch.
 fn parted(
+    rt: &impl Print,
     name: &[u8],
     variable: i32,
     bytes: &mut [u8],
@@ -93,6 +106,7 @@ fn parted(
     if row_bytes <= bytes.len() {
         if scratch_bytes <= scratch.len() {
             row(
+                rt,
                 name,
                 &[1, 2, 1, 2, 1, 2],
                 &[1, 2, 0, -1, -2, 0],
@@ -105,10 +119,11 @@ fn parted(
 }
 
 // A row into so many bytes, with so many of scratch.
-fn lent(name: &[u8], variable: i32, row_bytes: usize, scratch_bytes: usize) {
+fn lent(rt: &impl Print, name: &[u8], variable: i32, row_bytes: usize, scratch_bytes: usize) {
     let mut bytes = [7u8; 1040];
     let mut scratch = [7u8; 9000];
     parted(
+        rt,
         name,
         variable,
         &mut bytes,
@@ -119,18 +134,18 @@ fn lent(name: &[u8], variable: i32, row_bytes: usize, scratch_bytes: usize) {
 }
 
 // Buffers too short, just long enough and longer.
-fn buffers() {
-    lent(b"1,024 bytes", 1, 1_024, 8_200);
-    lent(b"1,024 bytes, asked for 2", 2, 1_024, 8_200);
-    lent(b"scratch 8,199", 1, 1_025, 8_199);
-    lent(b"no buffers", 1, 0, 0);
-    lent(b"1,040 bytes, scratch 9,000", 1, 1_040, 9_000);
+fn buffers(rt: &impl Print) {
+    lent(rt, b"1,024 bytes", 1, 1_024, 8_200);
+    lent(rt, b"1,024 bytes, asked for 2", 2, 1_024, 8_200);
+    lent(rt, b"scratch 8,199", 1, 1_025, 8_199);
+    lent(rt, b"no buffers", 1, 0, 0);
+    lent(rt, b"1,040 bytes, scratch 9,000", 1, 1_040, 9_000);
 }
 
 // All of them.
-pub fn run() {
-    lettered();
-    paths();
-    not_universal();
-    buffers();
+pub fn run(rt: &impl Print) {
+    lettered(rt);
+    paths(rt);
+    not_universal(rt);
+    buffers(rt);
 }

@@ -5,21 +5,21 @@ use caselist::words::first_words;
 use formula::tables::{TablesAnswer, check_tables};
 
 // Checks the tables and prints the answer.
-pub fn case(name: &[u8], prefix: &[i32], clauses: &[i32]) {
-    show::name(b"tables", name);
+pub fn case(rt: &impl Print, name: &[u8], prefix: &[i32], clauses: &[i32]) {
+    show::name(rt, b"tables", name);
     match check_tables(prefix, clauses) {
         TablesAnswer::Admitted {
             variables,
             clauses: count,
         } => {
-            show::say(b"admitted ");
-            show::number(variables);
-            show::say(b" ");
-            show::number(count);
+            show::say(rt, b"admitted ");
+            show::number(rt, variables);
+            show::say(rt, b" ");
+            show::number(rt, count);
         }
-        TablesAnswer::Refused(r) => show::refused(r),
+        TablesAnswer::Refused(r) => show::refused(rt, r),
     }
-    show::say(b"\n");
+    show::say(rt, b"\n");
 }
 
 // The word of a variable, 1 for what is none.
@@ -64,8 +64,9 @@ pub fn number_words(table: &mut [i32], in_turn: bool) {
 }
 
 // Tables that pass.
-fn admitted() {
+fn admitted(rt: &impl Print) {
     run_list(
+        rt,
         Kind::Tables,
         b"nothing at all|||\
           the word 0 alone||0|\
@@ -78,41 +79,42 @@ fn admitted() {
 }
 
 // 1,024 variables in one block and in 1,024; 3,075 words and 3,073: 2 comes ahead of 5 and of 9, and 9 ahead of 5.
-fn variables() {
+fn variables(rt: &impl Print) {
     let mut most = [0i32; 3072];
     let mut blocks = [0i32; 3072];
     let none = [0i32; 3075];
     number_words(&mut most, false);
     number_words(&mut blocks, true);
-    case(b"1,024 variables", &most, &[]);
-    case(b"1,024 variables, 1,024 blocks", &blocks, &[]);
-    case(b"1,025 variables", &none, &[]);
-    case(b"3,073 words", first_words(&none, 3_073), &[]);
-    case(b"3,072 times 0", first_words(&none, 3_072), &[]);
-    case(b"3,071 times 0", first_words(&none, 3_071), &[]);
+    case(rt, b"1,024 variables", &most, &[]);
+    case(rt, b"1,024 variables, 1,024 blocks", &blocks, &[]);
+    case(rt, b"1,025 variables", &none, &[]);
+    case(rt, b"3,073 words", first_words(&none, 3_073), &[]);
+    case(rt, b"3,072 times 0", first_words(&none, 3_072), &[]);
+    case(rt, b"3,071 times 0", first_words(&none, 3_071), &[]);
 }
 
 // The bound on clauses and one more: 2 comes ahead of the prefix's 9.
-fn clause_counts() {
+fn clause_counts(rt: &impl Print) {
     let most = [0i32; 8192];
     let over = [0i32; 8193];
-    case(b"8,192 clauses", &[], &most);
-    case(b"8,193 clauses", &[], &over);
-    case(b"8,193 clauses, one prefix word", &[1], &over);
+    case(rt, b"8,192 clauses", &[], &most);
+    case(rt, b"8,193 clauses", &[], &over);
+    case(rt, b"8,193 clauses, one prefix word", &[1], &over);
 }
 
 // The bound on clause words and one more: 8 and the prefix's 9 come behind 2.
-fn clause_words() {
+fn clause_words(rt: &impl Print) {
     let most = [1i32; 65536];
     let over = [1i32; 65537];
-    case(b"65,536 times 1", &[1, 1, 1], &most);
-    case(b"65,537 times 1", &[1, 1, 1], &over);
-    case(b"65,537 times 1, two prefix words", &[1, 1], &over);
+    case(rt, b"65,536 times 1", &[1, 1, 1], &most);
+    case(rt, b"65,537 times 1", &[1, 1, 1], &over);
+    case(rt, b"65,537 times 1, two prefix words", &[1, 1], &over);
 }
 
 // Prefixes that are not in threes, 9 at the length: ahead of the records and of the clauses.
-fn lengths() {
+fn lengths(rt: &impl Print) {
     run_list(
+        rt,
         Kind::Tables,
         b"one prefix word|1||\
           two prefix words|1 1||\
@@ -129,8 +131,9 @@ fn lengths() {
 }
 
 // The variables of records: 5, 6.
-fn prefix_variables() {
+fn prefix_variables(rt: &impl Print) {
     run_list(
+        rt,
         Kind::Tables,
         b"variable 0|1 1 1  0 1 1  2 1 1||\
           variable 0 first|0 1 1||\
@@ -148,8 +151,9 @@ fn prefix_variables() {
 }
 
 // The quantifiers of records: 5.
-fn quantifiers() {
+fn quantifiers(rt: &impl Print) {
     run_list(
+        rt,
         Kind::Tables,
         b"quantifier 0|1 0 1||\
           quantifier 3|1 1 1  2 3 2||\
@@ -163,8 +167,9 @@ fn quantifiers() {
 }
 
 // The blocks of records, any number but the one that is due: 6.
-fn blocks() {
+fn blocks(rt: &impl Print) {
     run_list(
+        rt,
         Kind::Tables,
         b"block 0 first|1 1 0||\
           block 2 first|1 1 2||\
@@ -186,8 +191,9 @@ fn blocks() {
 }
 
 // Prefixes that are wrong in two ways: the words of a record in turn, record by record, then the clauses.
-fn prefix_orders() {
+fn prefix_orders(rt: &impl Print) {
     run_list(
+        rt,
         Kind::Tables,
         b"variable 0, quantifier 3, block 2|0 3 2||\
           variable 1,025, block 0|1 1 1  1025 2 0||\
@@ -205,8 +211,9 @@ fn prefix_orders() {
 }
 
 // Clause words that are refused: 5, 7, 8, 9.
-fn clauses() {
+fn clauses(rt: &impl Print) {
     run_list(
+        rt,
         Kind::Tables,
         b"clause word 1,025|1 1 1|1 1025 0|\
           clause word -1,025|1 1 1|-1025 0|\
@@ -225,15 +232,15 @@ fn clauses() {
 }
 
 // All of them.
-pub fn run() {
-    admitted();
-    variables();
-    clause_counts();
-    clause_words();
-    lengths();
-    prefix_variables();
-    quantifiers();
-    blocks();
-    prefix_orders();
-    clauses();
+pub fn run(rt: &impl Print) {
+    admitted(rt);
+    variables(rt);
+    clause_counts(rt);
+    clause_words(rt);
+    lengths(rt);
+    prefix_variables(rt);
+    quantifiers(rt);
+    blocks(rt);
+    prefix_orders(rt);
+    clauses(rt);
 }

@@ -5,35 +5,36 @@ use caselist::show;
 use formula::read::{ReadAnswer, read_formula};
 
 // The answer of reading into the tables lent, to the end of the line.
-pub fn reading(text: &[u8], prefix: &mut [i32], clauses: &mut [i32]) {
+pub fn reading(rt: &impl Print, text: &[u8], prefix: &mut [i32], clauses: &mut [i32]) {
     match read_formula(text, prefix, clauses) {
         ReadAnswer::Read {
             prefix_used,
             clauses_used,
             clauses: count,
         } => {
-            show::say(b"read ");
-            show::number(prefix_used);
-            show::say(b" ");
-            show::number(clauses_used);
-            show::say(b" ");
-            show::number(count);
-            show::say(b", prefix");
-            show::words(prefix);
-            show::say(b", clauses");
-            show::words(clauses);
+            show::say(rt, b"read ");
+            show::number(rt, prefix_used);
+            show::say(rt, b" ");
+            show::number(rt, clauses_used);
+            show::say(rt, b" ");
+            show::number(rt, count);
+            show::say(rt, b", prefix");
+            show::words(rt, prefix);
+            show::say(rt, b", clauses");
+            show::words(rt, clauses);
         }
         ReadAnswer::Refused(r) => {
-            show::refused(r);
-            show::expect_words_clear(prefix);
-            show::expect_words_clear(clauses);
+            show::refused(rt, r);
+            show::expect_words_clear(rt, prefix);
+            show::expect_words_clear(rt, clauses);
         }
     }
-    show::say(b"\n");
+    show::say(rt, b"\n");
 }
 
 // A text read into the first words of the two tables.
 fn parted(
+    rt: &impl Print,
     name: &[u8],
     text: &[u8],
     prefix: &mut [i32],
@@ -43,8 +44,9 @@ fn parted(
 ) {
     if prefix_words <= prefix.len() {
         if clause_words <= clauses.len() {
-            show::name(b"text", name);
+            show::name(rt, b"text", name);
             reading(
+                rt,
                 text,
                 &mut prefix[0..prefix_words],
                 &mut clauses[0..clause_words],
@@ -54,10 +56,11 @@ fn parted(
 }
 
 // A text read into tables of so many words.
-fn lent(name: &[u8], text: &[u8], prefix_words: usize, clause_words: usize) {
+fn lent(rt: &impl Print, name: &[u8], text: &[u8], prefix_words: usize, clause_words: usize) {
     let mut prefix = [7i32; 12];
     let mut clauses = [7i32; 6];
     parted(
+        rt,
         name,
         text,
         &mut prefix,
@@ -68,18 +71,19 @@ fn lent(name: &[u8], text: &[u8], prefix_words: usize, clause_words: usize) {
 }
 
 // A text read into tables of so many words and six.
-pub fn case(name: &[u8], text: &[u8], room: usize) {
-    lent(name, text, room, 6);
+pub fn case(rt: &impl Print, name: &[u8], text: &[u8], room: usize) {
+    lent(rt, name, text, room, 6);
 }
 
 // Texts read with room for four variables, twelve words.
-fn texts(list: &[u8]) {
-    run_list(Kind::Text(12), list);
+fn texts(rt: &impl Print, list: &[u8]) {
+    run_list(rt, Kind::Text(12), list);
 }
 
 // The known positions of texts.
-fn known() {
+fn known(rt: &impl Print) {
     texts(
+        rt,
         b"comma in a clause|p cnf 2 1\ne 1 2 0\n1,2 0\n|\
           clause over two lines|p cnf 2 1\ne 1 2 0\n1\n2 0\n|\
           1,024 variables in the header|p cnf 1024 0\n|\
@@ -90,8 +94,9 @@ fn known() {
 }
 
 // Headers that are not complete: 1.
-fn headless() {
+fn headless(rt: &impl Print) {
     texts(
+        rt,
         b"blanks only| \t\r\n|\
           comments only|c one\nc two|\
           no p|1 2 0\n|\
@@ -104,8 +109,9 @@ fn headless() {
 }
 
 // The numbers of the header: 1, 2.
-fn header_numbers() {
+fn header_numbers(rt: &impl Print) {
     texts(
+        rt,
         b"C with a leading zero|p cnf 1 01\n|\
           V with a letter|p cnf 1x 0\n|\
           NUL glued to C|p cnf 1 1\0\n|\
@@ -120,8 +126,9 @@ fn header_numbers() {
 }
 
 // What parts tokens, and what closes nothing.
-fn blanks() {
+fn blanks(rt: &impl Print) {
     texts(
+        rt,
         b"header over lines|p\ncnf\n1\n0\n|\
           sets and clauses on the line of C|p cnf 1 1 e 1 0 1 0|\
           CRLF line ends|p cnf 1 1\r\ne 1 0\r\n1 0\r\n|\
@@ -132,8 +139,9 @@ fn blanks() {
 }
 
 // Where comments stand, and where a `c` is a token.
-fn comments() {
+fn comments(rt: &impl Print) {
     texts(
+        rt,
         b"comments before p|c\nc p cnf 9 9\ncnf\np cnf 0 0\n|\
           comment after empty lines|\n\nc x\np cnf 0 0\n|\
           comment holding a CR|c x\rp cnf 9 9\np cnf 0 0\n|\
@@ -146,8 +154,9 @@ fn comments() {
 }
 
 // Sets: 4, 9.
-fn sets() {
+fn sets(rt: &impl Print) {
     texts(
+        rt,
         b"neighbouring sets, universal last|p cnf 4 0\na 1 0\na 2 0\ne 3 0\na 4 0\n|\
           empty set|p cnf 1 1\ne 0\n0\n|\
           letter inside a set|p cnf 2 0\na 1 e 2 0\n|\
@@ -160,8 +169,9 @@ fn sets() {
 }
 
 // The numbers of a set: 4, 5, 6.
-fn set_numbers() {
+fn set_numbers(rt: &impl Print) {
     texts(
+        rt,
         b"negative in a set|p cnf 2 0\na 1 -2 0\n|\
           negative above V in a set|p cnf 2 0\na -9 0\n|\
           minus zero in a set|p cnf 2 0\na -0 0\n|\
@@ -176,8 +186,9 @@ fn set_numbers() {
 
 // Blocks: sets of one letter that stand together share one, and so do free variables and an `e` set that comes first; before an `a` set
 // they have block 1 for themselves.
-fn blocks() {
+fn blocks(rt: &impl Print) {
     texts(
+        rt,
         b"four blocks|p cnf 4 0\ne 4 0\na 3 0\ne 2 0\na 1 0\n|\
           a set first|p cnf 3 0\na 3 1 0\ne 2 0\n|\
           neighbouring e sets|p cnf 3 0\ne 2 0\ne 1 0\na 3 0\n|\
@@ -189,8 +200,9 @@ fn blocks() {
 }
 
 // Literals: 5.
-fn literals() {
+fn literals(rt: &impl Print) {
     texts(
+        rt,
         b"literal above V|p cnf 1 1\ne 1 0\n2 0\n|\
           negative literal above V|p cnf 1 1\ne 1 0\n1 -2 0\n|\
           literal of 30 digits|p cnf 1 1\ne 1 0\n-100000000000000000000000000001 0\n|\
@@ -200,8 +212,9 @@ fn literals() {
 }
 
 // Tokens of clauses that are no literals: 4.
-fn literal_tokens() {
+fn literal_tokens(rt: &impl Print) {
     texts(
+        rt,
         b"minus zero for 0|p cnf 1 1\ne 1 0\n1 -0\n|\
           two zeros in one token|p cnf 1 1\ne 1 0\n1 00\n|\
           literal with a leading zero|p cnf 1 1\ne 1 0\n01 0\n|\
@@ -212,8 +225,9 @@ fn literal_tokens() {
 }
 
 // Literals repeated and opposed: 8; clauses that are read.
-fn clauses() {
+fn clauses(rt: &impl Print) {
     texts(
+        rt,
         b"literal repeated|p cnf 2 1\ne 1 2 0\n1 2 1 0\n|\
           literal opposed|p cnf 2 1\ne 1 2 0\n1 2 -1 0\n|\
           two oppositions|p cnf 2 1\ne 1 2 0\n1 2 -2 -1 0\n|\
@@ -225,8 +239,9 @@ fn clauses() {
 
 // Variables that no set binds: added in front, rising; refused where their clause holds them already (8), above V (5), and last of all
 // where the completed prefix has no room (3 at the end, after 9 and 10).
-fn free() {
+fn free(rt: &impl Print) {
     texts(
+        rt,
         b"free, no sets|p cnf 3 2\n3 -1 0\n1 0\n|\
           free before an e set|p cnf 3 1\ne 2 0\n3 -2 1 0\n|\
           free before an a set|p cnf 3 1\na 2 0\n-3 2 1 0\n|\
@@ -246,8 +261,9 @@ fn free() {
 }
 
 // Texts that end too soon: 1, 9, 10.
-fn ends() {
+fn ends(rt: &impl Print) {
     texts(
+        rt,
         b"clause not closed|p cnf 1 1\ne 1 0\n1\n|\
           clause not closed, one missing|p cnf 1 2\ne 1 0\n1|\
           fewer clauses than C|p cnf 1 2\ne 1 0\n1 0\n|\
@@ -262,8 +278,9 @@ fn ends() {
 }
 
 // Tables too short: 3.
-fn room() {
+fn room(rt: &impl Print) {
     texts(
+        rt,
         b"fifth variable without room|p cnf 5 0\ne 1 2 3 4 5 0\n|\
           above V ahead of no room|p cnf 4 0\ne 1 2 3 4 5 0\n|\
           bound twice ahead of no room|p cnf 5 0\ne 1 2 3 4 1 0\n|\
@@ -275,25 +292,37 @@ fn room() {
 }
 
 // A record has room where three words are left: 3 at its token where one or two are, behind 5 and 6.
-fn record_room() {
-    run_list(Kind::Text(1), b"variable in 1 word|p cnf 1 0\ne 1 0\n|");
-    run_list(Kind::Text(2), b"variable in 2 words|p cnf 1 0\ne 1 0\n|");
-    run_list(Kind::Text(3), b"variable in 3 words|p cnf 1 0\ne 1 0\n|");
+fn record_room(rt: &impl Print) {
+    run_list(rt, Kind::Text(1), b"variable in 1 word|p cnf 1 0\ne 1 0\n|");
     run_list(
+        rt,
+        Kind::Text(2),
+        b"variable in 2 words|p cnf 1 0\ne 1 0\n|",
+    );
+    run_list(
+        rt,
+        Kind::Text(3),
+        b"variable in 3 words|p cnf 1 0\ne 1 0\n|",
+    );
+    run_list(
+        rt,
         Kind::Text(4),
         b"two variables in 4 words|p cnf 2 0\na 2 1 0\n|",
     );
     run_list(
+        rt,
         Kind::Text(5),
         b"two variables in 5 words|p cnf 2 0\na 2 1 0\n|\
           above V in 5 words|p cnf 2 0\na 2 3 0\n|\
           bound twice in 5 words|p cnf 2 0\na 2 2 0\n|",
     );
     run_list(
+        rt,
         Kind::Text(6),
         b"two variables in 6 words|p cnf 2 0\na 2 1 0\n|",
     );
     run_list(
+        rt,
         Kind::Text(8),
         b"two variables in 8 words|p cnf 2 0\na 2 1 0\n|\
           three variables in 8 words|p cnf 3 0\na 3 0\ne 1 2 0\n|",
@@ -301,32 +330,38 @@ fn record_room() {
 }
 
 // The records of free variables: 3 at the text's end, behind a listed one's at its token and behind 9.
-fn free_room() {
-    run_list(Kind::Text(1), b"free in 1 word|p cnf 1 1\n-1 0\n|");
+fn free_room(rt: &impl Print) {
+    run_list(rt, Kind::Text(1), b"free in 1 word|p cnf 1 1\n-1 0\n|");
     run_list(
+        rt,
         Kind::Text(2),
         b"free in 2 words|p cnf 1 1\n-1 0\n|\
           free and listed in 2 words|p cnf 2 1\ne 2 0\n1 0\n|",
     );
     run_list(
+        rt,
         Kind::Text(3),
         b"free in 3 words|p cnf 1 1\n-1 0\n|\
           free and listed in 3 words|p cnf 2 1\ne 2 0\n1 0\n|",
     );
     run_list(
+        rt,
         Kind::Text(5),
         b"free and listed in 5 words|p cnf 2 1\ne 2 0\n1 0\n|\
           free and listed in 5 words, clause not closed|p cnf 2 1\ne 2 0\n1|",
     );
     run_list(
+        rt,
         Kind::Text(6),
         b"free and listed in 6 words|p cnf 2 1\ne 2 0\n1 0\n|",
     );
     run_list(
+        rt,
         Kind::Text(7),
         b"two free and one listed in 7 words|p cnf 3 1\na 2 0\n3 1 0\n|",
     );
     run_list(
+        rt,
         Kind::Text(9),
         b"two free and one listed in 9 words|p cnf 3 1\na 2 0\n3 1 0\n|",
     );
@@ -334,8 +369,9 @@ fn free_room() {
 
 // Each refusal of a text on a later line, with a tab, a CR LF, a comment line and bytes over 127 before it: lines and columns count
 // bytes, and only LF ends a line.
-fn later_lines() {
+fn later_lines(rt: &impl Print) {
     texts(
+        rt,
         b"later, headless|c \xc3\xa4\r\n\r\n\tp cnf 1\tx\r\n|\
           later, headless at the end|c \xc3\xa4\tx\r\np\tcnf\r\n1\r\n|\
           later, oversized|c \xc3\xa4\r\np cnf\r\n\t1025 1\n|\
@@ -353,12 +389,13 @@ fn later_lines() {
 }
 
 // Tables of no words at all, and tables that are just long enough.
-fn tables() {
+fn tables(rt: &impl Print) {
     let text = b"p cnf 1 1\ne 1 0\n1 0\n";
-    lent(b"no prefix table", text, 0, 2);
-    lent(b"no clause table", text, 3, 0);
-    lent(b"three words and two words", text, 3, 2);
+    lent(rt, b"no prefix table", text, 0, 2);
+    lent(rt, b"no clause table", text, 3, 0);
+    lent(rt, b"three words and two words", text, 3, 2);
     lent(
+        rt,
         b"no prefix table, a free variable",
         b"p cnf 1 1\n1 0\n",
         0,
@@ -367,24 +404,24 @@ fn tables() {
 }
 
 // Both tables whole after a refusal.
-fn refused_tables() {
+fn refused_tables(rt: &impl Print) {
     let mut three = [7i32; 3];
     let mut two = [7i32; 2];
-    show::name(b"text", b"three words and two words refused");
-    reading(b"p cnf 1 1\ne 1 0\n1 1 0\n", &mut three, &mut two);
-    show::say(b"text, the tables then:");
-    show::words(&three);
-    show::words(&two);
-    show::say(b"\n");
+    show::name(rt, b"text", b"three words and two words refused");
+    reading(rt, b"p cnf 1 1\ne 1 0\n1 1 0\n", &mut three, &mut two);
+    show::say(rt, b"text, the tables then:");
+    show::words(rt, &three);
+    show::words(rt, &two);
+    show::say(rt, b"\n");
 }
 
 // A text one byte longer than the bound.
-fn longest() {
+fn longest(rt: &impl Print) {
     let mut none = [7i32; 1];
     let mut words = [7i32; 1];
     let text = [b' '; 1_048_577];
-    show::name(b"text", b"1,048,577 bytes");
-    reading(&text, &mut none, &mut words);
+    show::name(rt, b"text", b"1,048,577 bytes");
+    reading(rt, &text, &mut none, &mut words);
 }
 
 // The first `n` bytes of a text, or all of one that is shorter.
@@ -393,46 +430,46 @@ pub fn first_bytes(text: &[u8], n: usize) -> &[u8] {
 }
 
 // The first `n` bytes of a text, read.
-fn cut(text: &[u8], n: usize) {
+fn cut(rt: &impl Print, text: &[u8], n: usize) {
     let mut prefix = [7i32; 4];
     let mut clauses = [7i32; 3];
-    show::say(b"text cut at ");
-    show::number(n);
-    show::say(b": ");
-    reading(first_bytes(text, n), &mut prefix, &mut clauses);
+    show::say(rt, b"text cut at ");
+    show::number(rt, n);
+    show::say(rt, b": ");
+    reading(rt, first_bytes(text, n), &mut prefix, &mut clauses);
 }
 
 // A text cut at each byte.
-fn cuts(text: &[u8]) {
+fn cuts(rt: &impl Print, text: &[u8]) {
     let mut n = 0;
     while n < text.len() {
-        cut(text, n);
+        cut(rt, text, n);
         n += 1;
     }
-    cut(text, n);
+    cut(rt, text, n);
 }
 
 // All of them.
-pub fn run() {
-    known();
-    headless();
-    header_numbers();
-    blanks();
-    comments();
-    sets();
-    set_numbers();
-    blocks();
-    literals();
-    literal_tokens();
-    clauses();
-    free();
-    ends();
-    room();
-    record_room();
-    free_room();
-    later_lines();
-    tables();
-    refused_tables();
-    longest();
-    cuts(b"c\np cnf 1 1\na 1 0\n-1 0\n");
+pub fn run(rt: &impl Print) {
+    known(rt);
+    headless(rt);
+    header_numbers(rt);
+    blanks(rt);
+    comments(rt);
+    sets(rt);
+    set_numbers(rt);
+    blocks(rt);
+    literals(rt);
+    literal_tokens(rt);
+    clauses(rt);
+    free(rt);
+    ends(rt);
+    room(rt);
+    record_room(rt);
+    free_room(rt);
+    later_lines(rt);
+    tables(rt);
+    refused_tables(rt);
+    longest(rt);
+    cuts(rt, b"c\np cnf 1 1\na 1 0\n-1 0\n");
 }

@@ -7,53 +7,60 @@ use formula::read::{ReadAnswer, read_formula};
 use formula::write::{WriteAnswer, write_formula};
 
 // The used part of a text, and what reading it gives.
-fn read_back(text: &[u8], used: usize) {
+fn read_back(rt: &impl Print, text: &[u8], used: usize) {
     let mut prefix = [7i32; 13];
     let mut clauses = [7i32; 13];
     let part = text::first_bytes(text, used);
-    show::say(part);
-    show::say(b"read back: ");
-    text::reading(part, &mut prefix, &mut clauses);
+    show::say(rt, part);
+    show::say(rt, b"read back: ");
+    text::reading(rt, part, &mut prefix, &mut clauses);
 }
 
 // Writing into the text lent.
-fn writing(name: &[u8], prefix: &[i32], clauses: &[i32], text: &mut [u8]) {
-    show::name(b"written", name);
+fn writing(rt: &impl Print, name: &[u8], prefix: &[i32], clauses: &[i32], text: &mut [u8]) {
+    show::name(rt, b"written", name);
     match write_formula(prefix, clauses, text) {
         WriteAnswer::Written(used) => {
-            show::number(used);
-            show::expect_bytes_clear(text, used);
-            show::say(b"\n");
-            read_back(text, used);
+            show::number(rt, used);
+            show::expect_bytes_clear(rt, text, used);
+            show::say(rt, b"\n");
+            read_back(rt, text, used);
         }
         WriteAnswer::Refused(r) => {
-            show::refused(r);
-            show::expect_bytes_clear(text, 0);
-            show::say(b"\n");
+            show::refused(rt, r);
+            show::expect_bytes_clear(rt, text, 0);
+            show::say(rt, b"\n");
         }
     }
 }
 
 // Writing into the first bytes of a text.
-fn parted(name: &[u8], prefix: &[i32], clauses: &[i32], text: &mut [u8], bytes: usize) {
+fn parted(
+    rt: &impl Print,
+    name: &[u8],
+    prefix: &[i32],
+    clauses: &[i32],
+    text: &mut [u8],
+    bytes: usize,
+) {
     if bytes <= text.len() {
-        writing(name, prefix, clauses, &mut text[0..bytes]);
+        writing(rt, name, prefix, clauses, &mut text[0..bytes]);
     }
 }
 
 // Writing into so many bytes.
-fn lent(name: &[u8], prefix: &[i32], clauses: &[i32], bytes: usize) {
+fn lent(rt: &impl Print, name: &[u8], prefix: &[i32], clauses: &[i32], bytes: usize) {
     let mut text = [7u8; 64];
-    parted(name, prefix, clauses, &mut text, bytes);
+    parted(rt, name, prefix, clauses, &mut text, bytes);
 }
 
 // Writing into 64 bytes.
-pub fn case(name: &[u8], prefix: &[i32], clauses: &[i32]) {
-    lent(name, prefix, clauses, 64);
+pub fn case(rt: &impl Print, name: &[u8], prefix: &[i32], clauses: &[i32]) {
+    lent(rt, name, prefix, clauses, 64);
 }
 
 // A text read, and its tables written: what is written speaks of the completed prefix.
-fn rewritten(name: &[u8], text: &[u8]) {
+fn rewritten(rt: &impl Print, name: &[u8], text: &[u8]) {
     let mut prefix = [7i32; 12];
     let mut clauses = [7i32; 6];
     match read_formula(text, &mut prefix, &mut clauses) {
@@ -62,31 +69,35 @@ fn rewritten(name: &[u8], text: &[u8]) {
             clauses_used,
             clauses: _,
         } => case(
+            rt,
             name,
             first_words(&prefix, prefix_used),
             first_words(&clauses, clauses_used),
         ),
-        ReadAnswer::Refused(r) => show::refused(r),
+        ReadAnswer::Refused(r) => show::refused(rt, r),
     }
 }
 
 // Free variables share the run of an `e` set that comes first, and stand in one of their own before an `a` set; a block is one line.
-fn runs() {
-    rewritten(b"free before an e set", b"p cnf 3 1\ne 2 0\n3 -2 1 0\n");
-    rewritten(b"free before an a set", b"p cnf 3 1\na 2 0\n-3 2 1 0\n");
+fn runs(rt: &impl Print) {
+    rewritten(rt, b"free before an e set", b"p cnf 3 1\ne 2 0\n3 -2 1 0\n");
+    rewritten(rt, b"free before an a set", b"p cnf 3 1\na 2 0\n-3 2 1 0\n");
     rewritten(
+        rt,
         b"neighbouring sets",
         b"p cnf 4 0\na 4 0\na 3 0\ne 2 0\ne 1 0\n",
     );
     rewritten(
+        rt,
         b"free before neighbouring sets",
         b"p cnf 4 1\ne 4 0\ne 2 0\na 3 0\n-1 0\n",
     );
 }
 
 // The example into so many bytes.
-fn example(name: &[u8], bytes: usize) {
+fn example(rt: &impl Print, name: &[u8], bytes: usize) {
     lent(
+        rt,
         name,
         &[1, 1, 1, 2, 2, 2, 3, 1, 3, 4, 1, 3],
         &[2, 3, 0, -2, 4, 0, -4, 1, 0, -1, -3, 0],
@@ -95,8 +106,9 @@ fn example(name: &[u8], bytes: usize) {
 }
 
 // Formulas of several kinds, and tables that are refused.
-fn formulas() {
+fn formulas(rt: &impl Print) {
     run_list(
+        rt,
         Kind::Written,
         b"nothing at all|||\
           the word 0 alone||0|\
@@ -111,11 +123,11 @@ fn formulas() {
 }
 
 // Room to the byte.
-fn room() {
-    example(b"the example in 58 bytes", 58);
-    example(b"the example in 57 bytes", 57);
-    lent(b"nothing at all in no bytes", &[], &[], 0);
-    lent(b"tables refused ahead of room", &[1, 1, 1], &[2, 0], 0);
+fn room(rt: &impl Print) {
+    example(rt, b"the example in 58 bytes", 58);
+    example(rt, b"the example in 57 bytes", 57);
+    lent(rt, b"nothing at all in no bytes", &[], &[], 0);
+    lent(rt, b"tables refused ahead of room", &[1, 1, 1], &[2, 0], 0);
 }
 
 // Are the two tables the same, word by word?
@@ -135,7 +147,7 @@ fn same_words(a: &[i32], b: &[i32]) -> bool {
 }
 
 // The used part read back, for a prefix alone: whether the same words come back.
-fn same_prefix(prefix: &[i32], text: &[u8], used: usize) {
+fn same_prefix(rt: &impl Print, prefix: &[i32], text: &[u8], used: usize) {
     let mut again = [7i32; 3072];
     let mut none = [7i32; 0];
     match read_formula(text::first_bytes(text, used), &mut again, &mut none) {
@@ -144,38 +156,38 @@ fn same_prefix(prefix: &[i32], text: &[u8], used: usize) {
             clauses_used: _,
             clauses: _,
         } => {
-            show::say(b", read back ");
-            show::number(prefix_used);
+            show::say(rt, b", read back ");
+            show::number(rt, prefix_used);
             if same_words(prefix, &again) {
-                show::say(b", the same");
+                show::say(rt, b", the same");
             }
         }
-        ReadAnswer::Refused(r) => show::refused(r),
+        ReadAnswer::Refused(r) => show::refused(rt, r),
     }
 }
 
 // The longest prefix, in one block or in 1,024, written and read back.
-fn longest_prefix(name: &[u8], in_turn: bool) {
+fn longest_prefix(rt: &impl Print, name: &[u8], in_turn: bool) {
     let mut prefix = [0i32; 3072];
     let mut text = [7u8; 9000];
     tables::number_words(&mut prefix, in_turn);
-    show::name(b"written", name);
+    show::name(rt, b"written", name);
     match write_formula(&prefix, &[], &mut text) {
         WriteAnswer::Written(used) => {
-            show::number(used);
-            show::expect_bytes_clear(&text, used);
-            same_prefix(&prefix, &text, used);
+            show::number(rt, used);
+            show::expect_bytes_clear(rt, &text, used);
+            same_prefix(rt, &prefix, &text, used);
         }
-        WriteAnswer::Refused(r) => show::refused(r),
+        WriteAnswer::Refused(r) => show::refused(rt, r),
     }
-    show::say(b"\n");
+    show::say(rt, b"\n");
 }
 
 // All of them.
-pub fn run() {
-    formulas();
-    runs();
-    room();
-    longest_prefix(b"1,024 variables", false);
-    longest_prefix(b"1,024 variables, 1,024 blocks", true);
+pub fn run(rt: &impl Print) {
+    formulas(rt);
+    runs(rt);
+    room(rt);
+    longest_prefix(rt, b"1,024 variables", false);
+    longest_prefix(rt, b"1,024 variables, 1,024 blocks", true);
 }

@@ -1,25 +1,48 @@
 // Files for the programs: a file read whole into a buffer or not at all, and bytes printed.
 #![tactic(auto)]
+
 pub mod reading;
 
-ghost use Rattle.io.specs.Counts.{IsPrefixLen};
+ghost use Rattle.std.specs.Counts.{IsPrefixLen};
+ghost use Rattle.std.specs.IoError.{error_kind};
+ghost use Rattle.files.specs.Calls.{IsNumberOf};
 
-use crate::reading::{Reading, after_read};
-use libc::STDOUT_FILENO;
+use crate::reading::{EINTR, EIO, Reading, after_read};
+use std::fs;
+use std::io::{Error, ErrorKind, Read};
+use std::rt::Files;
+use std::str::from_utf8;
 
 // How often a call of `read` that was interrupted is tried again, in one reading.
 const TRIES: usize = 100;
 
+// The error number by which the reading goes on after a call that failed: an interruption's, or another.
+fn error_number(error: Error) -> i32
+    ensures { IsNumberOf (error_kind error) result }
+{
+    match error.kind() {
+        ErrorKind::Interrupted => EINTR,
+        _ => EIO,
+    }
+}
+
+// One call of `read`: the count that it answered and 0, or -1 and the error number.
+fn read_once(file: &mut impl Read, buffer: &mut [u8]) -> (isize, i32) {
+    match file.read(buffer) {
+        Ok(n) => (n as isize, 0),
+        Err(error) => (-1, error_number(error)),
+    }
+}
+
 // Reads on until the end is seen, the buffer is full or the file is unreadable, and answers how many bytes it has: 0 where it
 // is unreadable. `after_read` decides after each call.
-fn read_open(fd: i32, buffer: &mut [u8]) -> usize
+fn read_open(file: &mut impl Read, buffer: &mut [u8]) -> usize
     ensures { IsPrefixLen result buffer.new }
 {
     let mut at = 0;
     let mut tries = TRIES;
     loop {
-        let got = libc::read(fd, &mut buffer[at..]);
-        let error = os::errno();
+        let (got, error) = read_once(file, &mut buffer[at..]);
         match after_read(got, error, at, buffer.len(), tries) {
             Reading::On {
                 at: next,
@@ -36,25 +59,36 @@ fn read_open(fd: i32, buffer: &mut [u8]) -> usize
 
 // Reads the file into the buffer and answers how many bytes it has, at most as many as the buffer; a file that cannot be
 // read, at its start or later, is as empty. A caller that has to see a longer file lends one byte more than it takes.
-// Past the count the buffer may hold anything.
-pub fn read_file(path: &[u8], buffer: &mut [u8]) -> usize
+// Past the count the buffer may hold anything. A path that is not UTF-8 names no file.
+pub fn read_file(rt: &impl Files, path: &[u8], buffer: &mut [u8]) -> usize
     ensures { IsPrefixLen result buffer.new }
 {
-    let fd = os::open_read(path);
-    if fd < 0 {
+    let Ok(name) = from_utf8(path) else {
         return 0;
-    }
-    let n = read_open(fd, buffer);
-    libc::close(fd);
-    n
+    };
+    let Ok(mut file) = fs::open(rt, name) else {
+        return 0;
+    };
+    read_open(&mut file, buffer)
+}
+
+// Says on standard error that standard output was not written, with the reason.
+fn tell_unwritten(rt: &impl Eprint, error: Error) {
+    let _ = eprintln!(rt; "standard output: {error}");
 }
 
 // Prints the first n bytes of the text. Where they cannot be written, standard error says so.
-pub fn print_first(text: &[u8], n: usize) {
+pub fn print_first(rt: &(impl Print + Eprint), text: &[u8], n: usize) {
     if n <= text.len() {
-        if io::write_all(STDOUT_FILENO, &text[..n]) {
-            return;
+        if let Err(error) = rt.write_all(&text[..n]) {
+            tell_unwritten(rt, error);
         }
-        os::fail(b"standard output");
+    }
+}
+
+// Prints a number. Where it cannot be written, standard error says so.
+pub fn print_number(rt: &(impl Print + Eprint), n: usize) {
+    if let Err(error) = rt.print(n) {
+        tell_unwritten(rt, error);
     }
 }

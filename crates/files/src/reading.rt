@@ -3,6 +3,11 @@
 ghost use Rattle.std.specs.Prelude.{◌≡◌};
 ghost use Rattle.files.specs.Reading.{outcome_of, after_outcome, after_read, placed};
 
+// The error number of a call that was interrupted, and that of one whose device failed.
+pub const EINTR: i32 = 4;
+
+pub const EIO: i32 = 5;
+
 // What a call of `read` came to.
 #[derive(Clone, Copy)]
 pub enum Outcome {
@@ -27,7 +32,7 @@ pub fn outcome_of(got: isize, error: i32) -> Outcome
     if 0 <= got {
         return Outcome::Moved(got as usize);
     }
-    if error == libc::EINTR {
+    if error == EINTR {
         return Outcome::Interrupted;
     }
     Outcome::Failed

@@ -2,8 +2,9 @@
 // reading and writing alone. Each buffer is proved long enough: for a file one byte more than is taken, so that a longer one is seen
 // as such, and for what is printed all that can be.
 #![tactic(auto)]
+
 ghost use Rattle.std.specs.Prelude.{◌<◌, ◌≤◌, length};
-ghost use Rattle.io.specs.Counts.{IsPrefixLen};
+ghost use Rattle.std.specs.Counts.{IsPrefixLen};
 ghost use Rattle.report.specs.Check.{check_line};
 ghost use Rattle.report.specs.Dependents.{dependency_text, text_room};
 ghost use Rattle.report.specs.Line.{file_bound, line_room};
@@ -11,13 +12,14 @@ ghost use Rattle.report.specs.Program.{program_room, Whole};
 
 use files::{print_first, read_file};
 use report::program::{formula_is_read, program_line, program_text};
+use std::rt::Files;
 
 // The file in a buffer in which a file that is too long is seen to be so. Answers how many bytes it has there.
-fn read_taken(path: &[u8], buffer: &mut [u8]) -> usize
+fn read_taken(rt: &impl Files, path: &[u8], buffer: &mut [u8]) -> usize
     requires { file_bound < length buffer.old }
     ensures { IsPrefixLen result buffer.new }
 {
-    read_file(path, buffer)
+    read_file(rt, path, buffer)
 }
 
 // The first program's line, whole. Answers its length.
@@ -29,33 +31,33 @@ fn whole_line(formula: &[u8], proof: &[u8], line: &mut [u8]) -> usize
 }
 
 // Prints the first program's line.
-fn print_line(formula: &[u8], proof: &[u8]) {
+fn print_line(rt: &(impl Print + Eprint), formula: &[u8], proof: &[u8]) {
     let mut line = [0u8; 160];
     let n = whole_line(formula, proof, &mut line);
-    print_first(&line, n);
+    print_first(rt, &line, n);
 }
 
 // The line for a formula that is read: now the proof file is opened.
-fn check_read(formula: &[u8], proof_path: &[u8]) {
+fn check_read(rt: &(impl Files + Print + Eprint), formula: &[u8], proof_path: &[u8]) {
     let mut proof = [0u8; 65_537];
-    let n = read_taken(proof_path, &mut proof);
-    print_line(formula, &proof[..n]);
+    let n = read_taken(rt, proof_path, &mut proof);
+    print_line(rt, formula, &proof[..n]);
 }
 
 // Where the formula is refused the line is the same whatever the proof, so none is looked at.
-fn check_formula(formula: &[u8], proof_path: &[u8]) {
+fn check_formula(rt: &(impl Files + Print + Eprint), formula: &[u8], proof_path: &[u8]) {
     if formula_is_read(formula) {
-        check_read(formula, proof_path);
+        check_read(rt, formula, proof_path);
     } else {
-        print_line(formula, b"");
+        print_line(rt, formula, b"");
     }
 }
 
 // The first program: prints the line for the two files.
-pub fn check_files(formula_path: &[u8], proof_path: &[u8]) {
+pub fn check_files(rt: &(impl Files + Print + Eprint), formula_path: &[u8], proof_path: &[u8]) {
     let mut formula = [0u8; 65_537];
-    let n = read_taken(formula_path, &mut formula);
-    check_formula(&formula[..n], proof_path);
+    let n = read_taken(rt, formula_path, &mut formula);
+    check_formula(rt, &formula[..n], proof_path);
 }
 
 // The second program's text, whole. Answers its length.
@@ -67,15 +69,15 @@ fn whole_text(formula: &[u8], text: &mut [u8]) -> usize
 }
 
 // Prints the second program's text.
-fn print_text(formula: &[u8]) {
+fn print_text(rt: &(impl Print + Eprint), formula: &[u8]) {
     let mut text = [0u8; 1_316_864];
     let n = whole_text(formula, &mut text);
-    print_first(&text, n);
+    print_first(rt, &text, n);
 }
 
 // The second program: prints a line for each universal of the formula, or the refused line.
-pub fn dependency_file(formula_path: &[u8]) {
+pub fn dependency_file(rt: &(impl Files + Print + Eprint), formula_path: &[u8]) {
     let mut formula = [0u8; 65_537];
-    let n = read_taken(formula_path, &mut formula);
-    print_text(&formula[..n]);
+    let n = read_taken(rt, formula_path, &mut formula);
+    print_text(rt, &formula[..n]);
 }

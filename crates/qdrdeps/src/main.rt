@@ -1,8 +1,9 @@
 // 01's second program: reads formula.qdimacs in its working directory and prints, for each universal, its dependents.
 #![tactic(auto)]
+
 use programs::dependency_file;
 
 // The second program on the file that 01 names.
-fn main() {
-    dependency_file(b"formula.qdimacs");
+fn main(rt: HostRuntime) {
+    dependency_file(&rt, b"formula.qdimacs");
 }

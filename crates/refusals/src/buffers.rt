@@ -3,53 +3,66 @@ use crate::judge::{Check, example_lent, judged, lent};
 use caselist::words::first_words;
 
 // Tables ahead of everything: the scratch and the starts are too short, and the step is broken.
-fn tables() {
-    lent(b"1 1 1  2", b"", 8_199, 0, b"prefix not in threes|0|");
-    lent(b"1 1 1  0 1 1", b"", 8_199, 0, b"variable 0|0|");
+fn tables(rt: &impl Print) {
+    lent(rt, b"1 1 1  2", b"", 8_199, 0, b"prefix not in threes|0|");
+    lent(rt, b"1 1 1  0 1 1", b"", 8_199, 0, b"variable 0|0|");
     lent(
+        rt,
         b"1 1 1  2 1 1  1 2 2",
         b"",
         8_199,
         0,
         b"variable bound twice|0|",
     );
-    lent(b"1 1 1  2 3 2", b"", 8_199, 0, b"quantifier 3|0|");
-    lent(b"1 1 1  2 2 1", b"", 8_199, 0, b"block not raised|0|");
-    lent(b"1 1 1", b"1 -2 0", 8_199, 0, b"variable not bound|0|");
+    lent(rt, b"1 1 1  2 3 2", b"", 8_199, 0, b"quantifier 3|0|");
+    lent(rt, b"1 1 1  2 2 1", b"", 8_199, 0, b"block not raised|0|");
+    lent(rt, b"1 1 1", b"1 -2 0", 8_199, 0, b"variable not bound|0|");
 }
 
 // Clause words refused ahead of short buffers.
-fn clauses() {
-    lent(b"1 1 1", b"1 1025 0", 8_199, 0, b"clause word 1,025|0|");
+fn clauses(rt: &impl Print) {
+    lent(rt, b"1 1 1", b"1 1025 0", 8_199, 0, b"clause word 1,025|0|");
     lent(
+        rt,
         b"1 1 1  2 1 1",
         b"1 2 -1 0",
         8_199,
         0,
         b"literal opposed|0|",
     );
-    lent(b"1 1 1", b"1 0 -1", 8_199, 0, b"last clause not closed|0|");
+    lent(
+        rt,
+        b"1 1 1",
+        b"1 0 -1",
+        8_199,
+        0,
+        b"last clause not closed|0|",
+    );
 }
 
 // 3 for the scratch, ahead of the starts and of the steps.
-fn scratch() {
+fn scratch(rt: &impl Print) {
     example_lent(
+        rt,
         8_199,
         16,
         b"scratch 8,199|2 1 2 3 0 2 2 -2 4 0 1 6 3 4 1 0 1 5 4 3 -1 0 1 7 8 1 0|\
           scratch 8,199, a broken step|0|",
     );
     example_lent(
+        rt,
         0,
         16,
         b"no scratch|2 1 2 3 0 2 2 -2 4 0 1 6 3 4 1 0 1 5 4 3 -1 0 1 7 8 1 0|",
     );
     example_lent(
+        rt,
         8_199,
         3,
         b"scratch 8,199, three starts for four clauses|2 1 2 3 0 2 2 -2 4 0 1 6 3 4 1 0 1 5 4 3 -1 0 1 7 8 1 0|",
     );
     example_lent(
+        rt,
         8_200,
         9,
         b"scratch 8,200, nine starts for nine clauses|2 1 2 3 0 2 2 -2 4 0 1 6 3 4 1 0 1 5 4 3 -1 0 1 7 8 1 0|",
@@ -57,15 +70,17 @@ fn scratch() {
 }
 
 // 3 for the starts of input clauses, at the first without one, ahead of the steps.
-fn input_starts() {
-    example_lent(8_200, 0, b"no starts||");
+fn input_starts(rt: &impl Print) {
+    example_lent(rt, 8_200, 0, b"no starts||");
     example_lent(
+        rt,
         8_200,
         3,
         b"three starts for four clauses||\
           three starts for four clauses, a broken step|0|",
     );
     lent(
+        rt,
         b"1 1 1",
         b"",
         8_200,
@@ -76,8 +91,9 @@ fn input_starts() {
 }
 
 // 3 for the start of a step, after its 13 and ahead of its 14.
-fn step_starts() {
+fn step_starts(rt: &impl Print) {
     example_lent(
+        rt,
         8_200,
         4,
         b"four starts, no steps||\
@@ -88,6 +104,7 @@ fn step_starts() {
           four starts, a wrong pivot|2 1 3 2 0|",
     );
     example_lent(
+        rt,
         8_200,
         5,
         b"five starts, a right step|2 1 2 3 0|\
@@ -96,6 +113,7 @@ fn step_starts() {
           five starts, the second step broken|2 1 2 3 0 0|",
     );
     example_lent(
+        rt,
         8_200,
         8,
         b"eight starts for nine clauses|2 1 2 3 0 2 2 -2 4 0 1 6 3 4 1 0 1 5 4 3 -1 0 1 7 8 1 0|",
@@ -103,13 +121,15 @@ fn step_starts() {
 }
 
 // The same of kinds 3 and 4 (02, P14): a kind of the other family is 13, ahead of its start.
-fn long_starts() {
+fn long_starts(rt: &impl Print) {
     example_lent(
+        rt,
         8_199,
         16,
         b"scratch 8,199, kind 1 behind kind 3|3 1 4 3 2 -1 0 1 1 4 3 2 -1 0|",
     );
     example_lent(
+        rt,
         8_200,
         4,
         b"four starts, kind 3|3 1 4 3 2 -1 0|\
@@ -117,6 +137,7 @@ fn long_starts() {
           four starts, 4 0 0|4 0 0|",
     );
     example_lent(
+        rt,
         8_200,
         5,
         b"five starts, kind 4|4 1 2 3 0|\
@@ -124,6 +145,7 @@ fn long_starts() {
           five starts, kind 1 behind kind 4|4 1 2 3 0 1 5 4 3 -1 0|",
     );
     lent(
+        rt,
         b"2 2 1  1 1 2",
         b"1 2 0 -1 -2 0",
         8_200,
@@ -131,6 +153,7 @@ fn long_starts() {
         b"two starts, a pair to the left|3 1 2 1 2 -2 0|",
     );
     lent(
+        rt,
         b"2 2 1  1 1 2",
         b"1 2 0 -1 -2 0",
         8_200,
@@ -140,8 +163,9 @@ fn long_starts() {
 }
 
 // A step behind an empty clause (02, P10): behind the tables, the scratch and the starts of input clauses, ahead of its own start.
-fn ended() {
+fn ended(rt: &impl Print) {
     lent(
+        rt,
         b"1 2 1",
         b"0 2 0",
         8_199,
@@ -149,6 +173,7 @@ fn ended() {
         b"variable not bound, behind an empty clause|9|",
     );
     lent(
+        rt,
         b"1 2 1",
         b"0 1 0",
         8_199,
@@ -156,6 +181,7 @@ fn ended() {
         b"scratch 8,199, behind an empty clause|9|",
     );
     lent(
+        rt,
         b"1 2 1",
         b"0 1 0",
         8_200,
@@ -163,6 +189,7 @@ fn ended() {
         b"one start for two clauses, behind an empty clause|9|",
     );
     lent(
+        rt,
         b"1 2 1",
         b"0 1 0",
         8_200,
@@ -173,10 +200,11 @@ fn ended() {
 }
 
 // Proofs of one word more than the bound, and of as many words as it allows; there are no clauses.
-fn long_proofs<'a>(clauses: &'a [i32], steps: &'a [i32]) {
+fn long_proofs<'a>(rt: &impl Print, clauses: &'a [i32], steps: &'a [i32]) {
     let mut scratch = [7u8; 8199];
     let mut starts = [7u32; 1];
     judged(
+        rt,
         Check::Large,
         b"1,048,577 step words, variable 0",
         &[0, 1, 1],
@@ -186,6 +214,7 @@ fn long_proofs<'a>(clauses: &'a [i32], steps: &'a [i32]) {
         &mut starts,
     );
     judged(
+        rt,
         Check::Large,
         b"1,048,577 step words, scratch 8,199",
         &[],
@@ -195,6 +224,7 @@ fn long_proofs<'a>(clauses: &'a [i32], steps: &'a [i32]) {
         &mut starts,
     );
     judged(
+        rt,
         Check::Large,
         b"1,048,576 step words, scratch 8,199",
         &[],
@@ -206,10 +236,11 @@ fn long_proofs<'a>(clauses: &'a [i32], steps: &'a [i32]) {
 }
 
 // The same many words behind an empty clause.
-fn long_ended<'a>(clauses: &'a [i32], steps: &'a [i32]) {
+fn long_ended<'a>(rt: &impl Print, clauses: &'a [i32], steps: &'a [i32]) {
     let mut scratch = [7u8; 8200];
     let mut starts = [7u32; 1];
     judged(
+        rt,
         Check::Large,
         b"1,048,577 step words, behind an empty clause",
         &[],
@@ -221,20 +252,20 @@ fn long_ended<'a>(clauses: &'a [i32], steps: &'a [i32]) {
 }
 
 // 2 on step words, behind the tables and ahead of the scratch and of 23.
-fn oversized() {
+fn oversized(rt: &impl Print) {
     let steps = [0i32; 1_048_577];
-    long_proofs(&[], &steps);
-    long_ended(&[0], &steps);
+    long_proofs(rt, &[], &steps);
+    long_ended(rt, &[0], &steps);
 }
 
 // All of them.
-pub fn run() {
-    tables();
-    clauses();
-    scratch();
-    input_starts();
-    step_starts();
-    long_starts();
-    ended();
-    oversized();
+pub fn run(rt: &impl Print) {
+    tables(rt);
+    clauses(rt);
+    scratch(rt);
+    input_starts(rt);
+    step_starts(rt);
+    long_starts(rt);
+    ended(rt);
+    oversized(rt);
 }

@@ -7,65 +7,66 @@ use caselist::show;
 use prooffile::file::{ProofAnswer, read_proof};
 
 // Says whether the table was left wholly 0.
-fn tell_clear(table: &[i32]) {
+fn tell_clear(rt: &impl Print, table: &[i32]) {
     if show::words_clear(table) {
-        show::say(b", table clear");
+        show::say(rt, b", table clear");
         return;
     }
-    show::say(b", table not clear");
+    show::say(rt, b", table not clear");
 }
 
 // A file read into the table lent.
-fn reading(name: &[u8], file: &[u8], count: u32, table: &mut [i32]) {
-    show::name(b"file", name);
+fn reading(rt: &impl Print, name: &[u8], file: &[u8], count: u32, table: &mut [i32]) {
+    show::name(rt, b"file", name);
     match read_proof(file, count, table) {
         ProofAnswer::Read(words) => {
-            show::say(b"read ");
-            show::number(words);
-            show::say(b", table");
-            show::words(table);
+            show::say(rt, b"read ");
+            show::number(rt, words);
+            show::say(rt, b", table");
+            show::words(rt, table);
         }
         ProofAnswer::Refused(r) => {
-            show::refused(r);
-            tell_clear(table);
+            show::refused(rt, r);
+            tell_clear(rt, table);
         }
     }
-    show::say(b"\n");
+    show::say(rt, b"\n");
 }
 
 // The table lent is the first `room` words of this one.
-fn parted(name: &[u8], file: &[u8], count: u32, table: &mut [i32], room: usize) {
+fn parted(rt: &impl Print, name: &[u8], file: &[u8], count: u32, table: &mut [i32], room: usize) {
     if room <= table.len() {
-        reading(name, file, count, &mut table[0..room]);
+        reading(rt, name, file, count, &mut table[0..room]);
     }
 }
 
 // At most four words.
-fn case(name: &[u8], file: &[u8], count: u32, room: usize) {
+fn case(rt: &impl Print, name: &[u8], file: &[u8], count: u32, room: usize) {
     let mut table = [7i32; 4];
-    parted(name, file, count, &mut table, room);
+    parted(rt, name, file, count, &mut table, room);
 }
 
 // Runs the case at a place, a name and the bytes of a file, and answers where the next begins.
-fn run_case(count: u32, room: usize, list: &[u8], at: usize) -> usize
+fn run_case(rt: &impl Print, count: u32, room: usize, list: &[u8], at: usize) -> usize
     ensures { (at < length list.now) → at < result }
 {
     let second = next_field(list, at);
-    case(field(list, at), field(list, second), count, room);
+    case(rt, field(list, at), field(list, second), count, room);
     next_field(list, second)
 }
 
 // Files for a formula of `count` clauses, with `room` words for the steps.
-fn run_list(count: u32, room: usize, list: &[u8]) {
+fn run_list(rt: &impl Print, count: u32, room: usize, list: &[u8]) {
     let mut at = 0;
     while at < list.len() {
-        at = run_case(count, room, list, at);
+        at = run_case(rt, count, room, list, at);
     }
 }
 
 // 11 for fewer bytes than a trailer has.
-fn lengths() {
+fn lengths(rt: &impl Print) {
     run_list(
+        rt,
         4,
         4,
         b"no bytes||\
@@ -76,8 +77,9 @@ fn lengths() {
 }
 
 // 11 for a mark that is wrong or does not end the file.
-fn marks() {
+fn marks(rt: &impl Print) {
     run_list(
+        rt,
         4,
         4,
         b"first byte of the mark wrong|\0\0\0\0\x04\0\0\0qDR1|\
@@ -89,8 +91,9 @@ fn marks() {
 }
 
 // 11 for a distance that is no multiple of 4 or passes the start. Distances are unsigned and never wrapped.
-fn distances() {
+fn distances(rt: &impl Print) {
     run_list(
+        rt,
         4,
         4,
         b"distance 1|\0\0\0\0\x01\0\0\0\x04\0\0\0QDR1|\
@@ -104,8 +107,9 @@ fn distances() {
 }
 
 // 12 for another C. Counts are unsigned and never wrapped.
-fn counts() {
+fn counts(rt: &impl Print) {
     run_list(
+        rt,
         4,
         4,
         b"C 5 for 4|\0\0\0\0\x05\0\0\0QDR1|\
@@ -116,8 +120,9 @@ fn counts() {
 }
 
 // C of the trailer for a formula without clauses.
-fn counts_of_none() {
+fn counts_of_none(rt: &impl Print) {
     run_list(
+        rt,
         0,
         4,
         b"C 0 for 0|\0\0\0\0\0\0\0\0QDR1|\
@@ -126,8 +131,9 @@ fn counts_of_none() {
 }
 
 // The highest C that a trailer can have.
-fn highest_count() {
+fn highest_count(rt: &impl Print) {
     run_list(
+        rt,
         4_294_967_295,
         1,
         b"C 4,294,967,295|\0\0\0\0\xff\xff\xff\xffQDR1|",
@@ -135,8 +141,9 @@ fn highest_count() {
 }
 
 // 3 for the step table.
-fn short_tables() {
+fn short_tables(rt: &impl Print) {
     run_list(
+        rt,
         4,
         4,
         b"four words in four|\x01\0\0\0\x02\0\0\0\xff\xff\xff\xff\0\0\0\0\x10\0\0\0\x04\0\0\0QDR1|\
@@ -145,8 +152,9 @@ fn short_tables() {
 }
 
 // A table of no words.
-fn no_table() {
+fn no_table(rt: &impl Print) {
     run_list(
+        rt,
         4,
         0,
         b"no words in no table|\0\0\0\0\x04\0\0\0QDR1|\
@@ -155,8 +163,9 @@ fn no_table() {
 }
 
 // 11, 2, 12, 3: files that are wrong in two ways.
-fn orders() {
+fn orders(rt: &impl Print) {
     run_list(
+        rt,
         4,
         4,
         b"distance above the bound, past the start|\0\0\0\0\x04\0\x40\0\x04\0\0\0QDR1|\
@@ -168,8 +177,9 @@ fn orders() {
 }
 
 // What stands before the steps is not read; the table is 0 behind them.
-fn notes() {
+fn notes(rt: &impl Print) {
     run_list(
+        rt,
         4,
         4,
         b"two words in four|\x02\0\0\0\xfe\xff\xff\xff\x08\0\0\0\x04\0\0\0QDR1|\
@@ -181,15 +191,15 @@ fn notes() {
 }
 
 // All of them.
-pub fn run() {
-    lengths();
-    marks();
-    distances();
-    counts();
-    counts_of_none();
-    highest_count();
-    short_tables();
-    no_table();
-    orders();
-    notes();
+pub fn run(rt: &impl Print) {
+    lengths(rt);
+    marks(rt);
+    distances(rt);
+    counts(rt);
+    counts_of_none(rt);
+    highest_count(rt);
+    short_tables(rt);
+    no_table(rt);
+    orders(rt);
+    notes(rt);
 }

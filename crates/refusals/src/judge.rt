@@ -24,38 +24,39 @@ pub enum Kind {
 }
 
 // Says whether buffers were left wholly 0.
-fn tell_clear(buffers: &[u8], clear: bool) {
-    show::say(buffers);
+fn tell_clear(rt: &impl Print, buffers: &[u8], clear: bool) {
+    show::say(rt, buffers);
     if clear {
-        show::say(b" clear");
+        show::say(rt, b" clear");
         return;
     }
-    show::say(b" not clear");
+    show::say(rt, b" not clear");
 }
 
 // Begins the line of a small entry's case: the length of the scratch is told.
-fn small_name(kind: &[u8], scratch: usize, name: &[u8]) {
-    show::say(kind);
-    show::say(b", scratch ");
-    show::number(scratch);
-    show::name(b"", name);
+fn small_name(rt: &impl Print, kind: &[u8], scratch: usize, name: &[u8]) {
+    show::say(rt, kind);
+    show::say(rt, b", scratch ");
+    show::number(rt, scratch);
+    show::name(rt, b"", name);
 }
 
 // Prints a verdict.
-fn tell(verdict: Verdict) {
+fn tell(rt: &impl Print, verdict: Verdict) {
     match verdict {
         Verdict::Accepted { empty, steps } => {
-            show::say(b"accepted ");
-            show::number(empty.0);
-            show::say(b" ");
-            show::number(steps);
+            show::say(rt, b"accepted ");
+            show::number(rt, empty.0);
+            show::say(rt, b" ");
+            show::number(rt, steps);
         }
-        Verdict::Refused(r) => show::refused(r),
+        Verdict::Refused(r) => show::refused(rt, r),
     }
 }
 
 // Begins the line of a proof's case and calls the check.
 fn checked<'a>(
+    rt: &impl Print,
     check: Check,
     name: &[u8],
     prefix: &[i32],
@@ -66,11 +67,11 @@ fn checked<'a>(
 ) -> Verdict {
     match check {
         Check::Large => {
-            show::name(b"proof", name);
+            show::name(rt, b"proof", name);
             check_proof(prefix, clauses, steps, scratch, starts)
         }
         Check::Small => {
-            small_name(b"small proof", scratch.len(), name);
+            small_name(rt, b"small proof", scratch.len(), name);
             check_proof_small(prefix, clauses, steps, scratch, starts)
         }
     }
@@ -78,6 +79,7 @@ fn checked<'a>(
 
 // A proof checked in the buffers lent.
 pub fn judged<'a>(
+    rt: &impl Print,
     check: Check,
     name: &[u8],
     prefix: &[i32],
@@ -86,12 +88,16 @@ pub fn judged<'a>(
     scratch: &mut [u8],
     starts: &mut [u32],
 ) {
-    tell(checked(check, name, prefix, clauses, steps, scratch, starts));
+    tell(
+        rt,
+        checked(rt, check, name, prefix, clauses, steps, scratch, starts),
+    );
     tell_clear(
+        rt,
         b", buffers",
         show::bytes_clear(scratch, 0) & show::numbers_clear(starts),
     );
-    show::say(b"\n");
+    show::say(rt, b"\n");
 }
 
 // The first `n` bytes of a buffer, or all of one that is shorter.
@@ -114,6 +120,7 @@ fn first_numbers(numbers: &mut [u32], n: usize) -> &mut [u32] {
 
 // A proof whose steps are written, in at most 8,200 bytes and 16 numbers.
 fn proof_case(
+    rt: &impl Print,
     check: Check,
     name: &[u8],
     prefix: &[i32],
@@ -127,6 +134,7 @@ fn proof_case(
     let mut numbers = [7u32; 16];
     let used = words(steps, &mut s);
     judged(
+        rt,
         check,
         name,
         prefix,
@@ -139,6 +147,7 @@ fn proof_case(
 
 // A row by the small entry, in the buffers lent. A byte of it that is neither 0 nor 1 shows as `?`.
 fn asked(
+    rt: &impl Print,
     name: &[u8],
     prefix: &[i32],
     clauses: &[i32],
@@ -146,26 +155,28 @@ fn asked(
     scratch: &mut [u8],
     row: &mut [u8],
 ) {
-    small_name(b"small row", scratch.len(), name);
+    small_name(rt, b"small row", scratch.len(), name);
     match dependency_row_small(prefix, clauses, variable, row, scratch) {
         RowAnswer::Filled => {
-            show::say(b"filled");
-            show::dependents(row);
-            tell_clear(b", scratch", show::bytes_clear(scratch, 0));
+            show::say(rt, b"filled");
+            show::dependents(rt, row);
+            tell_clear(rt, b", scratch", show::bytes_clear(scratch, 0));
         }
         RowAnswer::Refused(r) => {
-            show::refused(r);
+            show::refused(rt, r);
             tell_clear(
+                rt,
                 b", buffers",
                 show::bytes_clear(scratch, 0) & show::bytes_clear(row, 0),
             );
         }
     }
-    show::say(b"\n");
+    show::say(rt, b"\n");
 }
 
 // A row of at most 1,040 bytes, in at most 8,200 bytes.
 fn row_case(
+    rt: &impl Print,
     name: &[u8],
     prefix: &[i32],
     clauses: &[i32],
@@ -176,6 +187,7 @@ fn row_case(
     let mut bytes = [7u8; 8200];
     let mut row = [7u8; 1040];
     asked(
+        rt,
         name,
         prefix,
         clauses,
@@ -186,17 +198,26 @@ fn row_case(
 }
 
 // A case of either kind; `last` writes a proof's steps, or the variable that a row is asked for.
-fn case(kind: Kind, name: &[u8], prefix: &[i32], clauses: &[i32], last: &[u8], scratch: usize) {
+fn case(
+    rt: &impl Print,
+    kind: Kind,
+    name: &[u8],
+    prefix: &[i32],
+    clauses: &[i32],
+    last: &[u8],
+    scratch: usize,
+) {
     match kind {
         Kind::Proof(check, starts) => {
-            proof_case(check, name, prefix, clauses, last, scratch, starts)
+            proof_case(rt, check, name, prefix, clauses, last, scratch, starts)
         }
-        Kind::Row(room) => row_case(name, prefix, clauses, word(last), scratch, room),
+        Kind::Row(room) => row_case(rt, name, prefix, clauses, word(last), scratch, room),
     }
 }
 
 // Takes the words of the tables apart.
 fn written_case(
+    rt: &impl Print,
     kind: Kind,
     name: &[u8],
     prefix: &[u8],
@@ -209,6 +230,7 @@ fn written_case(
     let used_p = words(prefix, &mut p);
     let used_c = words(clauses, &mut c);
     case(
+        rt,
         kind,
         name,
         first_words(&p, used_p),
@@ -220,6 +242,7 @@ fn written_case(
 
 // Runs the case at a place, a name and its words, and answers where the next begins.
 fn run_case(
+    rt: &impl Print,
     kind: Kind,
     prefix: &[u8],
     clauses: &[u8],
@@ -231,6 +254,7 @@ fn run_case(
 {
     let second = next_field(list, at);
     written_case(
+        rt,
         kind,
         field(list, at),
         prefix,
@@ -242,16 +266,31 @@ fn run_case(
 }
 
 // A list of cases for one formula, with so many bytes of scratch.
-pub fn listed(kind: Kind, prefix: &[u8], clauses: &[u8], scratch: usize, list: &[u8]) {
+pub fn listed(
+    rt: &impl Print,
+    kind: Kind,
+    prefix: &[u8],
+    clauses: &[u8],
+    scratch: usize,
+    list: &[u8],
+) {
     let mut at = 0;
     while at < list.len() {
-        at = run_case(kind, prefix, clauses, scratch, list, at);
+        at = run_case(rt, kind, prefix, clauses, scratch, list, at);
     }
 }
 
 // Proofs, in buffers of these lengths.
-pub fn lent(prefix: &[u8], clauses: &[u8], scratch: usize, starts: usize, list: &[u8]) {
+pub fn lent(
+    rt: &impl Print,
+    prefix: &[u8],
+    clauses: &[u8],
+    scratch: usize,
+    starts: usize,
+    list: &[u8],
+) {
     listed(
+        rt,
         Kind::Proof(Check::Large, starts),
         prefix,
         clauses,
@@ -261,13 +300,14 @@ pub fn lent(prefix: &[u8], clauses: &[u8], scratch: usize, starts: usize, list: 
 }
 
 // The same in buffers that are long enough.
-pub fn on(prefix: &[u8], clauses: &[u8], list: &[u8]) {
-    lent(prefix, clauses, 8_200, 16, list);
+pub fn on(rt: &impl Print, prefix: &[u8], clauses: &[u8], list: &[u8]) {
+    lent(rt, prefix, clauses, 8_200, 16, list);
 }
 
 // Proofs for the specification's example, which has four clauses.
-pub fn example_lent(scratch: usize, starts: usize, list: &[u8]) {
+pub fn example_lent(rt: &impl Print, scratch: usize, starts: usize, list: &[u8]) {
     lent(
+        rt,
         b"1 1 1  2 2 2  3 1 3  4 1 3",
         b"2 3 0 -2 4 0 -4 1 0 -1 -3 0",
         scratch,
@@ -277,6 +317,6 @@ pub fn example_lent(scratch: usize, starts: usize, list: &[u8]) {
 }
 
 // The same with all the room that it asks for.
-pub fn example(list: &[u8]) {
-    example_lent(8_200, 16, list);
+pub fn example(rt: &impl Print, list: &[u8]) {
+    example_lent(rt, 8_200, 16, list);
 }

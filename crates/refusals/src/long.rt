@@ -4,8 +4,9 @@
 use crate::judge::{example, on};
 
 // 13: the kind, and the 0 that closes L, looked for from the first word of L on.
-fn kinds() {
+fn kinds(rt: &impl Print) {
     example(
+        rt,
         b"the word 3 alone|3|\
           the word 4 alone|4|\
           3 0 0 0 0|3 0 0 0 0|\
@@ -21,8 +22,9 @@ fn kinds() {
 }
 
 // 13: a kind of the family that the first step is not of; 3 and 4 go together.
-fn families() {
+fn families(rt: &impl Print) {
     example(
+        rt,
         b"kind 1 behind kind 3|3 1 4 3 2 -1 0 1 1 4 3 2 -1 0|\
           kind 2 behind kind 3|3 1 4 3 2 -1 0 2 1 2 3 0|\
           kind 1 behind kind 4|4 1 2 3 0 1 1 4 3 2 -1 0|\
@@ -41,8 +43,9 @@ fn families() {
 }
 
 // A wrong first step decides ahead of the other family; that is 13 ahead of whatever else is wrong with its own step.
-fn family_orders() {
+fn family_orders(rt: &impl Print) {
     example(
+        rt,
         b"a 14 ahead of the other family|3 0 4 3 2 -1 0 1 1 4 3 2 -1 0|\
           a 15 ahead of the other family|4 1 3 2 0 2 1 2 3 0|\
           an 18 ahead of the other family|4 1 2 0 2 1 2 3 0|\
@@ -55,8 +58,9 @@ fn family_orders() {
 }
 
 // 14: the antecedents, ahead of the pivot.
-fn numbers() {
+fn numbers(rt: &impl Print) {
     example(
+        rt,
         b"kind 3, i 0|3 0 4 3 2 -1 0|\
           kind 3, j negative|3 1 -4 3 2 -1 0|\
           kind 3, i above the own number|3 6 4 3 2 -1 0|\
@@ -73,8 +77,9 @@ fn numbers() {
 }
 
 // 15: e, a positive existential variable, in clause i and opposed in clause j.
-fn resolved_pivots() {
+fn resolved_pivots(rt: &impl Print) {
     example(
+        rt,
         b"kind 3, e 0|3 1 4 0 2 -1 0|\
           kind 3, e negative|3 4 1 -3 2 -1 0|\
           kind 3, e universal|3 1 2 2 3 4 0|\
@@ -91,8 +96,9 @@ fn resolved_pivots() {
 }
 
 // 15: a, a universal literal of the clause, of a sign that is there.
-fn reduced_pivots() {
+fn reduced_pivots(rt: &impl Print) {
     example(
+        rt,
         b"kind 4, a 0|4 1 0 2 3 0|\
           kind 4, a existential|4 1 3 2 0|\
           kind 4, a not in the clause|4 3 2 -4 1 0|\
@@ -110,8 +116,9 @@ fn reduced_pivots() {
 }
 
 // 18 where nothing is opposed, as with kinds 1 and 2; the example's proof in kinds 3 and 4.
-fn statements() {
+fn statements(rt: &impl Print) {
     example(
+        rt,
         b"kind 3, the result stated|3 1 4 3 2 -1 0|\
           kind 3, a literal missing|3 1 4 3 2 0|\
           kind 3, one twice|3 1 4 3 2 -1 2 0|\
@@ -129,8 +136,9 @@ fn statements() {
 }
 
 // Two universals merged, right of a pivot whose number is above theirs: both signs of each are stated. For kind 1 they are 16.
-fn merged() {
+fn merged(rt: &impl Print) {
     on(
+        rt,
         b"9 1 1  2 2 2  7 2 2",
         b"9 2 7 0 -9 -2 -7 0",
         b"two merged|3 1 2 9 2 7 -2 -7 0|\
@@ -151,29 +159,34 @@ fn merged() {
 }
 
 // 16 for a universal to the left, whichever number is higher, and for an existential on either side; a universal further right merges.
-fn opposed() {
+fn opposed(rt: &impl Print) {
     on(
+        rt,
         b"9 2 1  2 1 2",
         b"2 9 0 -2 -9 0",
         b"a universal of a higher number to the left|3 1 2 2 9 -9 0|",
     );
     on(
+        rt,
         b"2 2 1  9 1 2",
         b"9 -2 0 -9 2 0",
         b"a universal of a lower number to the left|3 1 2 9 2 -2 0|",
     );
     on(
+        rt,
         b"1 1 1  2 2 2  3 1 3  4 2 4",
         b"1 -4 0 -1 4 0",
         b"a universal three blocks to the right|3 1 2 1 4 -4 0|",
     );
     on(
+        rt,
         b"1 1 1  2 2 2  3 1 3",
         b"1 3 0 -1 -3 0",
         b"an existential to the right|3 1 2 1 3 -3 0|\
           an existential to the left|3 1 2 3 1 -1 0|",
     );
     on(
+        rt,
         b"1 1 1  3 1 1",
         b"1 3 0 -1 -3 0",
         b"an existential behind the pivot in its block|3 1 2 1 3 -3 0|\
@@ -182,24 +195,28 @@ fn opposed() {
 }
 
 // Two opposed pairs, of which one or none is allowed; a literal that both hold is no pair.
-fn two_pairs() {
+fn two_pairs(rt: &impl Print) {
     on(
+        rt,
         b"2 2 1  1 1 2  3 2 3",
         b"1 2 3 0 -1 -2 -3 0",
         b"a pair to the left and one to the right|3 1 2 1 2 3 -2 -3 0|",
     );
     on(
+        rt,
         b"2 2 1  1 1 2  3 2 3",
         b"1 3 2 0 -1 -3 -2 0",
         b"a pair to the right and one to the left|3 1 2 1 3 2 -3 -2 0|",
     );
     on(
+        rt,
         b"2 2 1  1 1 2  3 2 3",
         b"1 2 3 0 -1 2 -3 0",
         b"one sign to the left in both, a pair to the right|3 1 2 1 2 3 -3 0|\
           one sign to the left in both, stated twice|3 1 2 1 2 2 3 -3 0|",
     );
     on(
+        rt,
         b"1 1 1  3 2 2  2 1 3",
         b"1 3 2 0 -1 -3 -2 0",
         b"a universal and an existential to the right|3 1 2 1 3 2 -3 -2 0|\
@@ -208,8 +225,9 @@ fn two_pairs() {
 }
 
 // 13, 14 and 15 ahead of 16, and 16 ahead of 18.
-fn orders() {
+fn orders(rt: &impl Print) {
     on(
+        rt,
         b"2 2 1  1 1 2",
         b"1 2 0 -1 -2 0",
         b"a pair to the left, not closed|3 1 2 1 2 -2|\
@@ -223,8 +241,9 @@ fn orders() {
 }
 
 // Proofs for five clauses, of which the first two merge 3 on the pivot 1.
-fn merging(list: &[u8]) {
+fn merging(rt: &impl Print, list: &[u8]) {
     on(
+        rt,
         b"1 1 1  2 1 1  3 2 2  4 1 3",
         b"1 3 2 4 0 -1 -3 0 -2 3 0 -4 -3 0 -4 0",
         list,
@@ -232,8 +251,9 @@ fn merging(list: &[u8]) {
 }
 
 // A pair that clause i holds whole, from a merge on 1. The pivot 2 stands left of it, 4 right.
-fn whole_in_i() {
+fn whole_in_i(rt: &impl Print) {
     merging(
+        rt,
         b"kind 1 for the merge|1 1 2 1 3 2 4 -3 0|\
           whole in i, one sign in j, pivot left|3 1 2 1 3 2 4 -3 0 3 6 3 2 3 -3 4 0|\
           whole in i, one sign in j, one stated|3 1 2 1 3 2 4 -3 0 3 6 3 2 3 4 0|\
@@ -246,8 +266,9 @@ fn whole_in_i() {
 }
 
 // The same with clauses i and j exchanged, and the sign that stands alone opposed.
-fn whole_in_j() {
+fn whole_in_j(rt: &impl Print) {
     on(
+        rt,
         b"1 1 1  2 1 1  3 2 2  4 1 3",
         b"1 3 -2 -4 0 -1 -3 0 2 -3 0 4 3 0 4 0",
         b"whole in j, one sign in i, pivot left|3 1 2 1 3 -2 -4 -3 0 3 3 6 2 3 -3 -4 0|\
@@ -260,8 +281,9 @@ fn whole_in_j() {
 }
 
 // A pair that both clauses hold whole.
-fn whole_in_both() {
+fn whole_in_both(rt: &impl Print) {
     on(
+        rt,
         b"1 1 1  2 1 1  3 2 2  4 1 3",
         b"1 3 2 4 0 -1 -3 0 1 3 -2 0 1 3 -4 0",
         b"whole in both, pivot left|3 1 2 1 3 2 4 -3 0 3 3 2 1 3 -2 -3 0 3 5 6 2 3 -3 4 0|\
@@ -271,18 +293,21 @@ fn whole_in_both() {
 }
 
 // A whole pair carried over 4 beside another universal, opposed or not; one that an inner pivot does not pass, and passes once it is removed.
-fn beside_whole() {
+fn beside_whole(rt: &impl Print) {
     on(
+        rt,
         b"1 1 1  3 2 2  5 2 2  4 1 3",
         b"1 3 5 4 0 -1 -3 0 -4 -5 0",
         b"one pair whole, another opposed to the left|3 1 2 1 3 5 4 -3 0 3 4 3 4 3 -3 5 -5 0|",
     );
     on(
+        rt,
         b"1 1 1  3 2 2  5 2 2  4 1 3",
         b"1 3 5 4 0 -1 -3 0 -4 5 0",
         b"one pair whole, another's sign in both|3 1 2 1 3 5 4 -3 0 3 4 3 4 3 -3 5 0|",
     );
     on(
+        rt,
         b"1 1 1  2 2 2  3 1 3",
         b"1 2 3 0 -1 -2 0 -3 2 0",
         b"a merged pair at an inner pivot|3 1 2 1 2 -2 3 0 3 4 3 3 2 -2 0|\
@@ -291,8 +316,9 @@ fn beside_whole() {
 }
 
 // What is right of one pivot is forgotten at the next, which stands further in or further out.
-fn pivots_in_turn() {
+fn pivots_in_turn(rt: &impl Print) {
     on(
+        rt,
         b"1 1 1  2 2 2  3 1 3  4 2 4",
         b"1 2 3 4 0 -1 -2 0 -3 -4 0 -3 -2 0",
         b"inner pivot, the pair to its right|3 1 3 3 1 2 4 -4 0|\
@@ -305,23 +331,27 @@ fn pivots_in_turn() {
 }
 
 // Variables 1, 8, 512 and 1,024 as what is opposed, 1,023 and 1,024 as pivots.
-fn high_numbers() {
+fn high_numbers(rt: &impl Print) {
     on(
+        rt,
         b"1023 1 1  1024 2 2",
         b"1023 1024 0 -1023 -1024 0",
         b"1,024 right of 1,023|3 1 2 1023 1024 -1024 0 4 3 -1024 0|",
     );
     on(
+        rt,
         b"1024 2 1  1023 1 2",
         b"1023 1024 0 -1023 -1024 0",
         b"1,024 left of 1,023|3 1 2 1023 1024 -1024 0|",
     );
     on(
+        rt,
         b"1024 1 1  1 2 2  8 2 2  512 2 2",
         b"1024 1 8 512 0 -1024 -1 -8 -512 0",
         b"1, 8 and 512 right of 1,024|3 1 2 1024 1 8 512 -1 -8 -512 0|",
     );
     on(
+        rt,
         b"512 2 1  1024 1 2  1 2 3  8 2 3",
         b"1024 1 8 512 0 -1024 -1 -8 -512 0",
         b"512 alone left of 1,024|3 1 2 1024 1 8 512 -1 -8 -512 0|",
@@ -329,8 +359,9 @@ fn high_numbers() {
 }
 
 // 17 over a merged clause, by either sign, ahead of 18 and behind 15: 4 depends on 3, in block 3.
-fn blocked() {
+fn blocked(rt: &impl Print) {
     merging(
+        rt,
         b"both signs, blocked|3 1 2 1 3 2 4 -3 0 4 6 3 2 4 0|\
           both signs, blocked, a negative|3 1 2 1 3 2 4 -3 0 4 6 -3 2 4 0|\
           both signs, blocked, one stated|3 1 2 1 3 2 4 -3 0 4 6 3 -3 2 4 0|\
@@ -342,20 +373,23 @@ fn blocked() {
 }
 
 // What blocks is the leftmost dependent of the merged clause, or the only one that depends on the reduced variable; an independent one does not.
-fn blockers() {
+fn blockers(rt: &impl Print) {
     on(
+        rt,
         b"6 1 1  1 2 2  5 1 3  3 1 3",
         b"6 1 3 5 0 -6 -1 0 -1 -3 0 -1 -5 0",
         b"both signs, blocked by 5 and 3|3 1 2 6 1 3 5 -1 0 4 5 1 3 5 0|\
           one sign, blocked by 3|4 3 -1 -3 0|",
     );
     on(
+        rt,
         b"6 1 1  1 2 2  4 1 3  3 2 4  2 1 5",
         b"6 2 3 1 4 0 -6 -1 -3 0 -1 -4 0 -3 -2 0",
         b"two pairs, the outer blocked by block 3|3 1 2 6 2 3 1 4 -1 -3 0 4 5 1 2 3 -3 4 0|\
           two pairs, the inner blocked by block 5|3 1 2 6 2 3 1 4 -1 -3 0 4 5 -3 2 1 -1 4 0|",
     );
     on(
+        rt,
         b"1 1 1  2 2 2  3 1 3",
         b"1 2 3 0 -1 -2 0",
         b"both signs, 3 to the right independent|3 1 2 1 2 -2 3 0 4 3 2 3 0|",
@@ -363,8 +397,9 @@ fn blockers() {
 }
 
 // Both signs removed by either one, and none left stated; a long-distance refutation.
-fn removed() {
+fn removed(rt: &impl Print) {
     merging(
+        rt,
         b"both signs removed|3 1 2 1 3 2 4 -3 0 3 6 5 4 3 -3 2 0 4 7 3 2 0|\
           both signs removed, a negative|3 1 2 1 3 2 4 -3 0 3 6 5 4 3 -3 2 0 4 7 -3 2 0|\
           both signs removed, the other stated|3 1 2 1 3 2 4 -3 0 3 6 5 4 3 -3 2 0 4 7 3 -3 2 0|\
@@ -378,8 +413,9 @@ fn removed() {
 }
 
 // 23 behind an empty clause, ahead of the other family's 13.
-fn ended() {
+fn ended(rt: &impl Print) {
     on(
+        rt,
         b"1 2 1",
         b"1 0",
         b"an empty clause by kind 4|4 1 1 0|\
@@ -389,18 +425,21 @@ fn ended() {
           the word 3 behind an empty clause by kind 4|4 1 1 0 3|",
     );
     on(
+        rt,
         b"1 1 1",
         b"1 0 -1 0",
         b"an empty clause by kind 3|3 1 2 1 0|\
           kind 3 behind an empty clause|3 1 2 1 0 3 1 2 1 0|",
     );
     on(
+        rt,
         b"1 2 1",
         b"1 0 0",
         b"kind 4 behind an empty input clause|4 1 1 0|\
           the word 4 behind an empty input clause|4|",
     );
     on(
+        rt,
         b"1 1 1  2 2 2",
         b"1 2 0 -1 -2 0",
         b"kind 4 behind a pair removed|3 1 2 1 -2 2 0 4 3 2 0 4 3 2 0|\
@@ -409,26 +448,26 @@ fn ended() {
 }
 
 // All of them.
-pub fn run() {
-    kinds();
-    families();
-    family_orders();
-    numbers();
-    resolved_pivots();
-    reduced_pivots();
-    statements();
-    merged();
-    opposed();
-    two_pairs();
-    orders();
-    whole_in_i();
-    whole_in_j();
-    whole_in_both();
-    beside_whole();
-    pivots_in_turn();
-    high_numbers();
-    blocked();
-    blockers();
-    removed();
-    ended();
+pub fn run(rt: &impl Print) {
+    kinds(rt);
+    families(rt);
+    family_orders(rt);
+    numbers(rt);
+    resolved_pivots(rt);
+    reduced_pivots(rt);
+    statements(rt);
+    merged(rt);
+    opposed(rt);
+    two_pairs(rt);
+    orders(rt);
+    whole_in_i(rt);
+    whole_in_j(rt);
+    whole_in_both(rt);
+    beside_whole(rt);
+    pivots_in_turn(rt);
+    high_numbers(rt);
+    blocked(rt);
+    blockers(rt);
+    removed(rt);
+    ended(rt);
 }

@@ -4,6 +4,7 @@
 // its case, gives the answer and tells whether the buffers lent were left wholly 0, of a row that was filled the scratch; the file stdout beside
 // src/ was worked out from the specification.
 #![tactic(auto)]
+
 mod buffers;
 mod file;
 mod judge;
@@ -12,10 +13,10 @@ mod small;
 mod steps;
 
 // All cases, by kind.
-fn main() {
-    file::run();
-    buffers::run();
-    steps::run();
-    long::run();
-    small::run();
+fn main(rt: HostRuntime) {
+    file::run(&rt);
+    buffers::run(&rt);
+    steps::run(&rt);
+    long::run(&rt);
+    small::run(&rt);
 }

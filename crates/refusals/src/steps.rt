@@ -3,8 +3,9 @@
 use crate::judge::{example, on};
 
 // 13: the kind, and the 0 that closes L, looked for from the first word of L on.
-fn broken() {
+fn broken(rt: &impl Print) {
     example(
+        rt,
         b"kind 0|0 1 2 3 0|\
           kind 5|5 1 2 3 0|\
           kind -1|-1 1 2 3 0|\
@@ -23,8 +24,9 @@ fn broken() {
 }
 
 // 14: the antecedents of a resolution.
-fn resolved_numbers() {
+fn resolved_numbers(rt: &impl Print) {
     example(
+        rt,
         b"i 0|1 0 4 3 2 -1 0|\
           j 0|1 1 0 3 2 -1 0|\
           i negative|1 -1 4 3 2 -1 0|\
@@ -43,8 +45,9 @@ fn resolved_numbers() {
 }
 
 // 14: the antecedent of a reduction.
-fn reduced_numbers() {
+fn reduced_numbers(rt: &impl Print) {
     example(
+        rt,
         b"clause 0 reduced|2 0 2 3 0|\
           clause -1 reduced|2 -1 2 3 0|\
           the own number reduced|2 5 2 3 0|\
@@ -57,8 +60,9 @@ fn reduced_numbers() {
 }
 
 // 15: e, a positive existential variable, in clause i and opposed in clause j.
-fn resolved_pivots() {
+fn resolved_pivots(rt: &impl Print) {
     example(
+        rt,
         b"e 0|1 1 4 0 2 -1 0|\
           e negative|1 4 1 -3 2 -1 0|\
           e universal|1 1 2 2 3 4 0|\
@@ -75,8 +79,9 @@ fn resolved_pivots() {
 }
 
 // 15: a, a universal literal of the clause.
-fn reduced_pivots() {
+fn reduced_pivots(rt: &impl Print) {
     example(
+        rt,
         b"a 0|2 1 0 2 3 0|\
           a existential|2 1 3 2 0|\
           a not in the clause|2 3 2 -4 1 0|\
@@ -90,8 +95,9 @@ fn reduced_pivots() {
 }
 
 // 16, ahead of 18 and behind 15. Both signs in L alone are 18.
-fn tautologies() {
+fn tautologies(rt: &impl Print) {
     on(
+        rt,
         b"1 1 1  2 1 1",
         b"1 2 0 -1 -2 0",
         b"both signs in the result|1 1 2 1 2 -2 0|\
@@ -100,6 +106,7 @@ fn tautologies() {
           both signs in the result, e negative|1 2 1 -1 -2 2 0|",
     );
     on(
+        rt,
         b"1 1 1  2 2 2",
         b"1 2 0 -1 -2 0",
         b"both signs of a universal|1 1 2 1 2 -2 0|",
@@ -107,13 +114,15 @@ fn tautologies() {
 }
 
 // A universal as pivot is 15: ahead of 16, and where the result would be empty.
-fn universal_pivots() {
+fn universal_pivots(rt: &impl Print) {
     on(
+        rt,
         b"1 2 1  2 1 2",
         b"1 2 0 -1 -2 0",
         b"both signs in the result, e universal|1 1 2 1 2 -2 0|",
     );
     on(
+        rt,
         b"1 2 1",
         b"1 0 -1 0",
         b"e universal, the result empty|1 1 2 1 0|",
@@ -121,8 +130,9 @@ fn universal_pivots() {
 }
 
 // 17, ahead of 18 and behind 15: each universal here has 3 as a dependent, in block 2.
-fn blocked() {
+fn blocked(rt: &impl Print) {
     on(
+        rt,
         b"1 2 1  2 2 1  3 1 2",
         b"1 2 -3 0 -1 -2 3 0",
         b"blocked|2 1 1 2 -3 0|\
@@ -136,8 +146,9 @@ fn blocked() {
 }
 
 // What blocks is the dependent of the clause that stands leftmost in the prefix, not the one of the lowest number, nor the clause's first.
-fn leftmost() {
+fn leftmost(rt: &impl Print) {
     on(
+        rt,
         b"1 2 1  5 1 2  3 1 2  4 1 2",
         b"4 -3 1 5 0 -1 3 0 -1 -4 0 -5 -3 0",
         b"blocked by 5, 3 and 4|2 1 1 4 -3 5 0|\
@@ -146,6 +157,7 @@ fn leftmost() {
           blocked by 4|2 3 -1 -4 0|",
     );
     on(
+        rt,
         b"7 2 1  1024 1 2  6 1 2",
         b"6 7 -1024 0 -7 1024 0 -7 -6 0",
         b"blocked by 1,024 and 6|2 1 7 6 -1024 0|",
@@ -153,8 +165,9 @@ fn leftmost() {
 }
 
 // Dependents of two blocks: the outer one is told, or the only one that depends on the reduced variable.
-fn blocks() {
+fn blocks(rt: &impl Print) {
     on(
+        rt,
         b"1 2 1  4 1 2  3 2 3  2 1 4",
         b"2 3 1 4 0 -1 -2 0 -1 -4 0 -3 -2 0",
         b"blocked by blocks 2 and 4|2 1 1 2 3 4 0|\
@@ -166,13 +179,15 @@ fn blocks() {
 }
 
 // What does not block is not told: an existential to the left, one that does not depend, a dependent that is not in the clause.
-fn passed_over() {
+fn passed_over(rt: &impl Print) {
     on(
+        rt,
         b"5 1 1  4 2 2  3 1 3  2 1 3",
         b"5 3 4 2 0 -4 -2 0",
         b"blocked, 5 to the left and 3 independent|2 1 4 5 3 2 0|",
     );
     on(
+        rt,
         b"1 2 1  2 1 2  3 1 2",
         b"1 2 0 -1 2 0 -2 3 0 -2 -3 0",
         b"blocked, 2 resolved away|1 1 3 2 1 3 0 2 5 1 3 0|",
@@ -180,14 +195,21 @@ fn passed_over() {
 }
 
 // An existential joined on one side alone, one to the left, and dependents that are resolved away first.
-fn independent() {
+fn independent(rt: &impl Print) {
     on(
+        rt,
         b"1 2 1  2 1 2",
         b"1 2 0 -1 2 0",
         b"joined on one side|2 1 1 2 0|",
     );
-    on(b"1 1 1  2 2 2", b"1 2 0", b"to the left of a|2 1 2 1 0|");
     on(
+        rt,
+        b"1 1 1  2 2 2",
+        b"1 2 0",
+        b"to the left of a|2 1 2 1 0|",
+    );
+    on(
+        rt,
         b"1 2 1  2 1 2  3 1 2",
         b"1 2 0 -1 2 0 -2 3 0 -2 -3 0",
         b"blocked by paths over the dependent itself|2 1 1 2 0|\
@@ -196,8 +218,9 @@ fn independent() {
 }
 
 // 18: L after a resolution, in any order, no literal twice.
-fn resolvents() {
+fn resolvents(rt: &impl Print) {
     example(
+        rt,
         b"a literal missing|1 1 4 3 2 0|\
           nothing stated|1 1 4 3 0|\
           one too many|1 1 4 3 2 -1 4 0|\
@@ -214,8 +237,9 @@ fn resolvents() {
 }
 
 // 18: L after a reduction; a literal that both antecedents hold is stated once.
-fn reducts() {
+fn reducts(rt: &impl Print) {
     example(
+        rt,
         b"reduced, a literal missing|2 1 2 0|\
           reduced, a stated|2 1 2 3 2 0|\
           reduced, one twice|2 1 2 3 3 0|\
@@ -224,6 +248,7 @@ fn reducts() {
           the second step's 4 made 3|2 1 2 3 0 2 2 -2 3 0 1 6 3 4 1 0 1 5 4 3 -1 0 1 7 8 1 0|",
     );
     on(
+        rt,
         b"1 1 1  2 1 1",
         b"1 2 0 -1 2 0",
         b"in both antecedents, stated once|1 1 2 1 2 0|\
@@ -232,8 +257,9 @@ fn reducts() {
 }
 
 // Steps are judged one after the other: the earlier one decides.
-fn turns() {
+fn turns(rt: &impl Print) {
     example(
+        rt,
         b"a broken step behind a 14|1 0 4 3 0 9|\
           a broken step behind a 15|2 1 3 2 0 1|\
           a broken step behind an 18|2 1 2 0 0|\
@@ -243,6 +269,7 @@ fn turns() {
           no steps||",
     );
     on(
+        rt,
         b"",
         b"",
         b"nothing at all||\
@@ -252,8 +279,9 @@ fn turns() {
 }
 
 // 23 for whatever stands behind an empty clause, a step's or an input clause's (02, P10); the last clause, or without steps the first empty one, is told.
-fn empty_clauses() {
+fn empty_clauses(rt: &impl Print) {
     on(
+        rt,
         b"1 2 1",
         b"1 0",
         b"an empty clause|2 1 1 0|\
@@ -267,6 +295,7 @@ fn empty_clauses() {
           an 18 ahead of an empty clause|2 1 1 1 0 2 1 1 0|",
     );
     on(
+        rt,
         b"1 2 1",
         b"1 0 0 0",
         b"two empty input clauses||\
@@ -279,21 +308,21 @@ fn empty_clauses() {
 }
 
 // All of them.
-pub fn run() {
-    broken();
-    resolved_numbers();
-    reduced_numbers();
-    resolved_pivots();
-    reduced_pivots();
-    tautologies();
-    universal_pivots();
-    blocked();
-    leftmost();
-    blocks();
-    passed_over();
-    independent();
-    resolvents();
-    reducts();
-    turns();
-    empty_clauses();
+pub fn run(rt: &impl Print) {
+    broken(rt);
+    resolved_numbers(rt);
+    reduced_numbers(rt);
+    resolved_pivots(rt);
+    reduced_pivots(rt);
+    tautologies(rt);
+    universal_pivots(rt);
+    blocked(rt);
+    leftmost(rt);
+    blocks(rt);
+    passed_over(rt);
+    independent(rt);
+    resolvents(rt);
+    reducts(rt);
+    turns(rt);
+    empty_clauses(rt);
 }
