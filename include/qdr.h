@@ -1,5 +1,5 @@
 /* Warpmaroon for C: reading and writing formulas, dependency rows, checking refutations, evaluating small formulas, and the lines
- * that the two programs print. Link with libcapi.a, which `rt staticlib capi` makes for x86-64 Linux.
+ * that the two programs print. Link with libcapi.a, which `rt lib` in crates/capi makes for x86-64 Linux.
  *
  * The first nine functions return 0, or the number of a refusal (enum qdr_refusal), and fill all five words of `out`. After 0
  * these are the numbers that the function names below, and zeros; after a refusal they are its place, line, column, variable and

@@ -135,7 +135,7 @@ fn long(words: &str, folder: &str, damage: bool) -> ExitCode {
 
 #[cfg(not(proved))]
 fn no_library() -> ExitCode {
-    eprintln!("no static library: make it with 'rt staticlib capi' and build again");
+    eprintln!("no static library: make it with 'rt lib' in crates/capi and build again");
     ExitCode::FAILURE
 }
 

@@ -1,15 +1,16 @@
--- Tests on what a call answered and on the error number, as the code makes them, and what they say of `outcomeOf`. All reasoning
+-- Tests on what a call answered and on the error number, as the code makes them, and what they say of `outcome_of`. All reasoning
 -- on signs is here. Assumes nothing.
 use Prim.Native.Nat.{ℕ}
-use mathlib.Core.Path.{◌≡◌, refl}
+use mathlib.Core.Path.{◌≡◌, refl, sym}
 use mathlib.Core.Bool.{true, false}
 use native.Mathlib.Omega.{arith}
 use borrow.Author.Tests.{eq-eqb, ne_eqb, leb-false}
+use borrow.Author.Rules.{rules}
 use lib.Dec.{T}
 use lib.IntN.{ℤ, pos, negsuc, nat_abs}
 use lib.Signed.{le_z, non_neg}
 use mir.Syntax.{w32, w64}
-use mir.Val.{of_z, Fits, SFits}
+use mir.Val.{of_z, to_z, Fits, SFits}
 use Rattle.files.specs.Reading.{interrupted, outcome_of}
 use Rattle.files.specs.declared.reading.Outcome.TheVariants.{Moved, Interrupted, Failed}
 
@@ -43,3 +44,21 @@ pub failure_answered : (got error : ℤ) → le_z (pos 0) got ≡ false → (of_
 unfolding outcome_of
 failure_answered (pos n) error f e = absurd (omega (arith, leb-false 0 n f))
 failure_answered (negsuc n) error f e = rw (other_bits error e)
+
+-- The three answers as the code's goals have them.
+pub count_told : (got error : ℤ) → SFits w64 got → le_z (pos 0) (to_z w64 (of_z w64 got)) ≡ true → Moved (nat_abs (to_z w64 (of_z w64 got))) ≡ outcome_of got error
+count_told got error h e =
+    let f : to_z w64 (of_z w64 got) ≡ got = search rules in
+    rw f (sym (count_answered got error h (rw f at e)).is)
+
+pub interruption_told :
+    (got error : ℤ) → SFits w64 got → SFits w32 error → le_z (pos 0) (to_z w64 (of_z w64 got)) ≡ false → of_z w32 error ≡ 4 → Interrupted ≡ outcome_of got error
+interruption_told got error h k e f =
+    let z : to_z w64 (of_z w64 got) ≡ got = search rules in
+    sym (interruption_answered got error k (rw z at e) f)
+
+pub failure_told :
+    (got error : ℤ) → SFits w64 got → le_z (pos 0) (to_z w64 (of_z w64 got)) ≡ false → (of_z w32 error ≡ 4 → ⊥) → Failed ≡ outcome_of got error
+failure_told got error h e f =
+    let z : to_z w64 (of_z w64 got) ≡ got = search rules in
+    sym (failure_answered got error (rw z at e) f)

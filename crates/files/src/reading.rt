@@ -26,6 +26,7 @@ pub enum Reading {
 }
 
 // The outcome by the count that the call answered and the error number after it: all that is asked of their signs.
+#[tactic(auto, using(crate::proofs::Signed::count_told, crate::proofs::Signed::interruption_told, crate::proofs::Signed::failure_told))]
 pub fn outcome_of(got: isize, error: i32) -> Outcome
     ensures { result ≡ outcome_of got error }
 {
