@@ -46,7 +46,7 @@ pub record FirstEmpty (known : List Words) (place : ℕ) : Type 0 where
 
 -- The proof is within 01's bounds and room: at most 1,048,576 step words, scratch of 8,200 bytes, and a clause offset for every
 -- numbered clause, whatever steps the words are written from (for a refutation that is no more than one for each of its own:
--- `refutation-within` of Laws). `scratch` and `offsets` are the lengths of what is lent.
+-- `refutation_within` of Laws). `scratch` and `offsets` are the lengths of what is lent.
 pub record Within (clauses words : List ℤ) (scratch offsets : ℕ) : Type 0 where
   pub sized : length words ≤ proof_bound
   pub scratch_fits : scratch_bound ≤ scratch

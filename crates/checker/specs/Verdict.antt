@@ -1,5 +1,5 @@
 -- The verdict on a proof (01, "What the checker says no with", order "A proof"): tables, 2 on step words, 3 for scratch and
--- clause offsets, the steps, 19. `verdictOf plainRules` is what `check_proof` answers, `verdictOf smallRules` what `check_proof_small` does,
+-- clause offsets, the steps, 19. `verdict_of plain_rules` is what `check_proof` answers, `verdict_of small_rules` what `check_proof_small` does,
 -- Checked what each promises. That the two agree where both have room is in Verdict/Sizes.antt, what 02's P10 changed in Verdict/Ending.antt.
 pub mod Examples
 pub mod Conclusion

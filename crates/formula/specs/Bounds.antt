@@ -21,7 +21,7 @@ use Rattle.formula.specs.declared.literal.LiteralFit.TheVariants.{Within as Lite
 use Rattle.formula.specs.declared.literal.NumberFit.{NumberFit}
 use Rattle.formula.specs.declared.literal.NumberFit.TheVariants.{Within as NumberWithin, Outside as NumberOutside}
 
--- Variables, and their numbers; prefix words, three a variable (02, P6); input clauses; clause words; step words. That on bytes of text, `textBound`,
+-- Variables, and their numbers; prefix words, three a variable (02, P6); input clauses; clause words; step words. That on bytes of text, `text_bound`,
 -- stands in the scanner's Position.antt.
 abbrev pub variable_bound : ℕ
 variable_bound = 1024

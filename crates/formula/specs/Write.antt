@@ -35,7 +35,7 @@ letter_of existential = 101
 letter_of universal = 97
 
 -- The runs of a prefix: neighbours of one quantifier, as many as stand together. No run is empty, so the second case of
--- `joinRun` is never met.
+-- `join_run` is never met.
 abbrev pub join_if : Bool → Entry → Prefix → List Prefix → List Prefix
 join_if true x run later = (x ∷ run) ∷ later
 join_if false x run later = (x ∷ []) ∷ (run ∷ later)

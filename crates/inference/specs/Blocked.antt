@@ -1,4 +1,4 @@
--- A row against a clause, as the code looks it up. That this is `blocked`, and what blocks `blockerOf`, is in
+-- A row against a clause, as the code looks it up. That this is `blocked`, and what blocks `blocker_of`, is in
 -- proofs/Theorems/Blocked/Laws.antt.
 use Rattle.std.specs.Prelude.{ℕ, Bool, false, ◌&&◌, ◌||◌, List, [], ◌∷◌, get_or, eqb, nat_abs}
 use Rattle.formula.specs.Free.{occurs}

@@ -43,7 +43,7 @@ Reduct Ordinary C a x = Memᴰ x C × (x ≢ a)
 Reduct LongDistance C a x = Memᴰ x C × (nat_abs x ≢ nat_abs a)
 
 -- The result does not hold both signs of a variable; or, long-distance, what one antecedent holds and the other opposes, apart from the pivot, is of a
--- universal right of the pivot (02, P14). Apart from the pivot: no antecedent holds both of the pivot's signs (`clause-one-sign` of Derived/Laws.antt).
+-- universal right of the pivot (02, P14). Apart from the pivot: no antecedent holds both of the pivot's signs (`clause_one_sign` of Derived/Laws.antt).
 abbrev pub Resolvable : Formula → Family → Words → Words → ℤ → Type 0
 Resolvable F Ordinary C D e = (x : ℤ) → Resolvent C D e x → Resolvent C D e (neg_ℤ x) → ⊥
 Resolvable F LongDistance C D e =

@@ -15,8 +15,8 @@ use Rattle.evaluator.specs.declared.evaluation.Evaluation.TheVariants.{True, Fal
 use Rattle.evaluator.specs.Evaluation.{game_bound, evaluation_of}
 use Rattle.evaluator.specs.Evaluation.Laws.{evaluation_false_lost, evaluation_oversized}
 
--- Whatever tables, step words and buffers the checker is handed. `verdictOf plainRules` is what `check_proof` answers on them,
--- `evaluationOf` what `evaluate` answers.
+-- Whatever tables, step words and buffers the checker is handed. `verdict_of plain_rules` is what `check_proof` answers on them,
+-- `evaluation_of` what `evaluate` answers.
 module _ (prefix clauses steps : List ℤ) (scratch room empty count : ℕ) where
   -- Where the checker accepts, the game on the tables is lost, for prefixes of every length that 01 admits.
   pub accepted_game_lost : verdict_of plain_rules prefix clauses steps scratch room ≡ Accepted (record { 0 = empty }) count → Lost (formula_of prefix clauses)

@@ -1,5 +1,5 @@
 -- A line end closes nothing (01, "Formula text"), said of two texts: from the first token on, a space, tab, CR or LF may stand in another's place
--- (`Reblanked`), and what is read is alike (`Alike`). That it is so is `blanks-alike` of Blanks/Laws.antt.
+-- (`Reblanked`), and what is read is alike (`Alike`). That it is so is `blanks_alike` of Blanks/Laws.antt.
 pub mod Laws
 use Rattle.std.specs.Prelude.{ℕ, ◌≡◌, true, List, [], ◌∷◌}
 use Rattle.scanner.specs.Token.{is_blank}

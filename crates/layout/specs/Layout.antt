@@ -1,7 +1,7 @@
 -- What a formula's text is (01, "Formula text"), apart from the reader: no state, and no order of tests. A text is comment lines and blanks,
 -- then tokens parted by blanks: the header's, those of the quantifier sets, those of the clauses (`Layout`). It is read where its numbers are as 01
 -- has them (`Regular`) and within bounds and room (`Fits`), and then to the tables that it lays out; no other text is read. These are
--- `layout-read` and `read-layout` of Layout/Laws.antt. Sentences in quotation marks are 01's.
+-- `layout_read` and `read_layout` of Layout/Laws.antt. Sentences in quotation marks are 01's.
 pub mod Examples
 pub mod Pieces
 pub mod Lead

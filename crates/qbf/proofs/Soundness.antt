@@ -1,5 +1,5 @@
 -- Soundness of Q(D)-resolution, ordinary and long-distance: a proper formula with a derivation of the empty clause is lost.
--- The proof plays the game: `refutation-begins`, a turn of each player, `refutation-ends`. At every position the derivation,
+-- The proof plays the game: `refutation_begins`, a turn of each player, `refutation_ends`. At every position the derivation,
 -- restricted by the values set so far one at a time, refutes the position.
 pub mod Restricting
 pub mod MoveLemma

@@ -2,7 +2,7 @@
 -- ordinary ones are the case in which no pair is merged and a reduction removes the one sign there is. Of 003 (Figure 1) this has
 -- the reduction of both signs, and not the condition on merges: 003 asks that the pivot does not depend on the merged universal;
 -- here that universal stands right of the pivot, as in long-distance Q-resolution. No variable depends on one right of it
--- (`right-independent` of Soundness/Merges), so a merge allowed here is one that 003 allows.
+-- (`right_independent` of Soundness/Merges), so a merge allowed here is one that 003 allows.
 use Rattle.std.specs.Prelude.{ℕ, ◌≢◌, Bool, true, false}
 use mathlib.Core.List.{Memᴰ}
 use Rattle.qbf.specs.Literal.{Literal, literal, neg, Clause}

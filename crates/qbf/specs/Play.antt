@@ -60,7 +60,7 @@ WonTurn existential after = (b : Bool) × after b
 WonTurn universal after = (b : Bool) → after b
 
 -- The position with these entries left and these values is won for the existential side, by the rules of play; with none left,
--- every clause has a true literal. "A position not false is true" (01): `position-won` of Laws.
+-- every clause has a true literal. "A position not false is true" (01): `position_won` of Laws.
 abbrev pub WonAt : Prefix → Values → Matrix → Type 0
 WonAt [] τ M = (C : Clause) → Memᴰ C M → TrueClause τ C
 WonAt (x ∷ rest) τ M = WonTurn x.quantifier (λ b. WonAt rest (assign τ x.variable b) M)

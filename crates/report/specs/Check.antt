@@ -68,7 +68,7 @@ pub record DenotesLost (room : Room) (formula : List ℕ) : Type 0 where
   pub denotes : reading formula room.prefix room.clauses ≡ read prefix clauses count
   pub lost : Lost (formula_of prefix clauses)
 
--- What `check_line` promises; `lineRoom` bytes hold every line. Its tables, scratch and clause offsets end as zeros, each of its own length.
+-- What `check_line` promises; `line_room` bytes hold every line. Its tables, scratch and clause offsets end as zeros, each of its own length.
 pub record LineChecked (room : Room) (formula proof line line' : List ℕ) (answer : ℕ) (prefix' clauses' steps' : List ℤ) (scratch' offsets' : List ℕ) : Type 0 where
   pub answers : answer ≡ used (check_line room formula proof) (length line)
   pub prints : line' ≡ held (check_line room formula proof) (length line)

@@ -61,7 +61,7 @@ dependency_text room formula = lines_of room.scratch (settled room.file formula 
 abbrev pub text_room : ℕ
 text_room = 1316864
 
--- What `dependency_lines` promises; `textRoom` bytes hold every text. Its tables and scratch end as zeros.
+-- What `dependency_lines` promises; `text_room` bytes hold every text. Its tables and scratch end as zeros.
 pub record LinesPrinted (room : Room) (formula text text' : List ℕ) (answer : ℕ) (prefix' clauses' : List ℤ) (scratch' : List ℕ) : Type 0 where
   pub answers : answer ≡ used (dependency_text room formula) (length text)
   pub prints : text' ≡ held (dependency_text room formula) (length text)

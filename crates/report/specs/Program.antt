@@ -26,14 +26,14 @@ pub record Whole (text : List ℕ) (room answer : ℕ) (after : List ℕ) : Type
   pub answers : answer ≡ length text
   pub prints : after ≡ text ++ replicate (room - length text) 0
 
--- What `program_line` promises: `lineRoom` bytes always do, and an `accepted` line is to be trusted.
+-- What `program_line` promises: `line_room` bytes always do, and an `accepted` line is to be trusted.
 pub record ProgramLine (formula proof line line' : List ℕ) (answer : ℕ) : Type 0 where
   pub answers : answer ≡ used (check_line program_room formula proof) (length line)
   pub prints : line' ≡ held (check_line program_room formula proof) (length line)
   pub whole : line_room ≤ length line → Whole (check_line program_room formula proof) (length line) answer line'
   pub accepted_lost : take 9 line' ≡ accepted_text → DenotesLost program_room formula
 
--- What `program_text` promises: `textRoom` bytes always do.
+-- What `program_text` promises: `text_room` bytes always do.
 pub record ProgramText (formula text text' : List ℕ) (answer : ℕ) : Type 0 where
   pub answers : answer ≡ used (dependency_text program_room formula) (length text)
   pub prints : text' ≡ held (dependency_text program_room formula) (length text)

@@ -1,4 +1,4 @@
--- Laws of clause words: what a test on a place or a word says of `wordAt` and `placeAfter`, and how the end of a clause is
+-- Laws of clause words: what a test on a place or a word says of `word_at` and `place_after`, and how the end of a clause is
 -- found from the word at a place. Definitions: Words. Assumes nothing.
 use Rattle.std.specs.Prelude.{ℕ, zero, suc, ◌+◌, ◌<◌, ◌≤◌, ◌≡◌, refl, List, [], ◌∷◌, length, get_or, drop, ℤ, pos, negsuc}
 use Rattle.std.proofs.Common.{ap, le_of_suc-le-suc, not-suc-le-zero, arith}

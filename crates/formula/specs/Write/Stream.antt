@@ -1,5 +1,5 @@
 -- The written text as the writer's loops go through it, entry by entry and word by word, and what its inner functions ask and promise. That
--- it is the text of Write.antt is the law `written-stream` of proofs/Theorems/Write/Lines.antt.
+-- it is the text of Write.antt is the law `written_stream` of proofs/Theorems/Write/Lines.antt.
 use Rattle.std.specs.Prelude.{ℕ, zero, suc, ◌≤◌, ◌≡◌, Bool, true, false, List, [], ◌∷◌, ◌++◌, length, get_or, leb, eqb, ℤ, pos, negsuc, nat_abs}
 use Rattle.qbf.specs.Formula.{Prefix}
 use Rattle.formula.specs.Bounds.{variable_bound}

@@ -1,5 +1,5 @@
--- Texts that are laid out, are regular and fit are read, to the tables laid out (`layout-read`), and no others are (`read-layout`); so a text lays
--- out one pair of tables at most (`layout-unique`). What the writer writes is such a text (`written-layout`). Assumes nothing.
+-- Texts that are laid out, are regular and fit are read, to the tables laid out (`layout_read`), and no others are (`read_layout`); so a text lays
+-- out one pair of tables at most (`layout_unique`). What the writer writes is such a text (`written_layout`). Assumes nothing.
 use Rattle.std.specs.Prelude.{ℕ, zero, suc, ◌+◌, ◌≤◌, ◌≡◌, refl, Bool, true, false, ◌⊎◌, leb, ltb, ℤ, pos, negsuc, length, drop}
 use Rattle.std.proofs.Common.{ap, sym, ◌∙◌, subst, inl, inr, arith, le-leb, le-ltb, leb-true, length-append, drop_of_length-le, drop_at}
 use Rattle.std.proofs.lemmas.Bool.{false≢true}

@@ -1,4 +1,4 @@
--- At a universal's turn not both of its literals occur in a derivation that is valid there (`one-literal-occurs`).
+-- At a universal's turn not both of its literals occur in a derivation that is valid there (`one_literal_occurs`).
 -- Occurring literals reach every existential concluded; one that a reduction removed is blocked from the opposites; so
 -- both could meet only in a merge, whose pivot would stand left of the universal and is to be set after it.
 use Rattle.std.specs.Prelude.{ℕ, ◌≡◌, refl, ◌≢◌, ◌⊎◌, Bool, true, false, not}

@@ -1,4 +1,4 @@
--- How long the lines of the universals are: on admitted tables `textRoom` bytes hold them. A dependent is existential, so of u
+-- How long the lines of the universals are: on admitted tables `text_room` bytes hold them. A dependent is existential, so of u
 -- universals and e existentials at most u × e dependents are printed. Assumes nothing.
 use Rattle.std.specs.Prelude.{ℕ, ◌+◌, ◌*◌, ◌-◌, ◌^◌, ◌≤◌, ◌<◌, ◌≡◌, Bool, true, false, ℤ}
 use Rattle.std.proofs.Math.Path.{refl}

@@ -31,7 +31,7 @@ use Rattle.formula.specs.declared.refusal.Reason.TheVariants.{OutOfRange}
 refused : {r : Refusal} {A : Type 0} → ◌≡◌ {A = Option Refusal} (some r) none → A
 refused e = let z : ◌≡◌ {A = ℕ} 0 1 = cc in absurd (omega arith)
 
--- `isIn` tests membership.
+-- `is_in` tests membership.
 pub is_in_sound : (v : ℕ) (xs : List ℕ) → is_in v xs ≡ true → Memᴰ v xs
 unfolding is_in
 is_in_sound v [] h = absurd (false≢true h)
