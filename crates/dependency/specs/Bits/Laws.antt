@@ -15,14 +15,14 @@ unfolding tab
 length_tab f zero = refl
 length_tab f (suc n) = let k = length_tab f n in length-append (tab f n) (f n ∷ []) ∙ omega arith
 
-pub getD_tab : (f : ℕ → ℕ) (n i : ℕ) → i < n → get_or (tab f n) i 0 ≡ f i
+pub get_or_tab : (f : ℕ → ℕ) (n i : ℕ) → i < n → get_or (tab f n) i 0 ≡ f i
 unfolding tab
-getD_tab f zero i h = absurd (omega arith)
-getD_tab f (suc n) i h =
+get_or_tab f zero i h = absurd (omega arith)
+get_or_tab f (suc n) i h =
     let k = length_tab f n in
     dite (ℕ_discrete i n)
     (λ e. rw e (get_or_at (tab f n) (f n) [] 0 n k))
-    (λ e. get_or-append (tab f n) (f n ∷ []) 0 i (omega arith) ∙ getD_tab f n i (omega arith))
+    (λ e. get_or-append (tab f n) (f n ∷ []) 0 i (omega arith) ∙ get_or_tab f n i (omega arith))
 
 -- Each mark by its flags.
 pub length_marks : (s : Bool) (fs : List ℕ) → length (marks_of s fs) ≡ 2050
@@ -31,7 +31,7 @@ length_marks s fs = length_tab (mark_at s fs) 2050
 
 mark_is : (s : Bool) (fs : List ℕ) (p : ℕ) → p < 2050 → get_or (marks_of s fs) p 0 ≡ mark_at s fs p
 unfolding marks_of
-mark_is s fs p h = getD_tab (mark_at s fs) 2050 p h
+mark_is s fs p h = get_or_tab (mark_at s fs) 2050 p h
 
 pub mark_literal : (s : Bool) (fs : List ℕ) (p : ℕ) → 2 ≤ p → p < 2050 → get_or (marks_of s fs) p 0 ≡ mark_from (is_on fs (2047 + p / 2)) (is_on fs (base s + (p - 2)))
 mark_literal s fs p l h = mark_is s fs p h ∙ rw (le-ltb p 2 l)

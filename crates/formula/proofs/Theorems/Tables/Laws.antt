@@ -551,10 +551,10 @@ pub admitted_answer : (p c : List ℤ) → Admitted p c → tables_answer p c �
 admitted_answer p c a = rw a.passes
 
 -- A word read by its place stands in the table.
-pub getD_member : (ws : List ℤ) (i : ℕ) (d : ℤ) → i < length ws → Memᴰ (get_or ws i d) ws
-getD_member [] i d h = absurd (not-suc-le-zero h)
-getD_member (w ∷ ws) zero d h = mathlib.Core.List.Memᴰ.head refl
-getD_member (w ∷ ws) (suc i) d h = mathlib.Core.List.Memᴰ.tail (getD_member ws i d (le_of_suc-le-suc h))
+pub get_or_member : (ws : List ℤ) (i : ℕ) (d : ℤ) → i < length ws → Memᴰ (get_or ws i d) ws
+get_or_member [] i d h = absurd (not-suc-le-zero h)
+get_or_member (w ∷ ws) zero d h = mathlib.Core.List.Memᴰ.head refl
+get_or_member (w ∷ ws) (suc i) d h = mathlib.Core.List.Memᴰ.tail (get_or_member ws i d (le_of_suc-le-suc h))
 
 -- What the layers above read off tables that pass.
 module _ (p c : List ℤ) (a : Admitted p c) where
@@ -584,7 +584,7 @@ module _ (p c : List ℤ) (a : Admitted p c) where
   admitted_clause_word = (admitted_tables p c a).clause_range
 
   pub admitted_clause_at : (i : ℕ) (d : ℤ) → i < length c → nat_abs (get_or c i d) ≤ 1024
-  admitted_clause_at i d h = admitted_clause_word (get_or c i d) (getD_member c i d h)
+  admitted_clause_at i d h = admitted_clause_word (get_or c i d) (get_or_member c i d h)
 
   pub admitted_clause_bound : (w : ℤ) → Memᴰ w c → (w ≡ pos 0 → ⊥) → Memᴰ (nat_abs w) (listed (prefix_of p))
   admitted_clause_bound = (admitted_tables p c a).clause_bound

@@ -19,7 +19,7 @@ use Rattle.qbf.specs.Connectives.{and_both}
 use Rattle.formula.specs.Bounds.{variable_bound, in_range}
 use Rattle.formula.specs.Bounds.Laws.{literal_made, literal_refused}
 use Rattle.formula.specs.Tables.{is_in}
-use Rattle.formula.proofs.Theorems.Tables.Laws.{getD_member}
+use Rattle.formula.proofs.Theorems.Tables.Laws.{get_or_member}
 use Rattle.formula.specs.Tables.Scan.{variables_before, clash_free}
 use Rattle.formula.proofs.Signed.{negated_fits}
 use Rattle.formula.proofs.Scan.{clash_at_seen, clash_at_fresh, same_clashes, opposed_clashes, neither_clashes, before_fresh, before_found}
@@ -31,7 +31,7 @@ search-init c = (sym (zero-add _), omega arith)
 
 -- every word of the clause is in range
 range_at : (ws : List ℤ) (i : ℕ) → ((w : ℤ) → Memᴰ w ws → in_range (nat_abs w) variable_bound ≡ true) → i < length ws → in_range (nat_abs (get_or ws i (pos 0))) variable_bound ≡ true
-range_at ws i r h = r (get_or ws i (pos 0)) (getD_member ws i (pos 0) h)
+range_at ws i r h = r (get_or ws i (pos 0)) (get_or_member ws i (pos 0) h)
 
 small_at : (w : ℤ) → in_range (nat_abs w) variable_bound ≡ true → nat_abs w ≤ variable_bound
 small_at w r = leb-true (nat_abs w) variable_bound (and_both (leb 1 (nat_abs w)) (leb (nat_abs w) variable_bound) r).1
