@@ -1,2 +1,2 @@
-// The mathematics of quantified Boolean formulas: no code stands here, all of it is in specs/.
+// The mathematics of quantified Boolean formulas: no code stands here; definitions are in specs/, the theorems that join them in proofs/ too.
 #![tactic(auto)]
