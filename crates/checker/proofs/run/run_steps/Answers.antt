@@ -1,8 +1,6 @@
 -- `run_steps`: what is left to run comes to the same as the whole. Assumes nothing.
-use Prim.Native.Nat.{◌<◌}
 use mathlib.Core.Path.{refl, ◌∙◌}
 use native.Mathlib.Omega.{arith}
-use borrow.Author.Rules.{rules}
 use lib.ListN.{length}
 use Rattle.inference.specs.Scope.{scope_of}
 use Rattle.inference.specs.Numbered.{stored}
@@ -30,9 +28,6 @@ check_step-requires c =
       numbered_in_bounds_2 = g.in_range_lem;
     }
 
-pub shape_of-scratch-in-Wrong : goal.shape_of-scratch-in-Wrong
-shape_of-scratch-in-Wrong c = c.check_step.auto.scratch ∙ c.loop-at.invariant.1
-
 pub returns-in-Wrong : goal.returns-in-Wrong
 returns-in-Wrong c =
     rw c.new-in-Wrong.ensures (going_refused c.args.strict c.args.prefix.now c.args.clauses.now c.args.steps.now c.args.inputs (length c.args.offsets.now) c.loop-at.scratch c.loop-at.offsets c.loop-at.numbered c.loop-at.at c.loop-at.kept c.loop-at.empty c.loop-at.invariant.0 c.in-Wrong.reason c.check_step.new.scratch c.loop-at-test.true c.if-strict-empty.false (rw (c.in-Wrong.is, c.family_of-family.ensures) at c.check_step.ensures.answer) c.check_step.ensures.ready.ready)
@@ -41,21 +36,6 @@ pub bounds-offsets-numbered : goal.bounds-offsets-numbered
 bounds-offsets-numbered c =
     let f = (right_taken (scope_of c.args.prefix.now c.args.clauses.now) (length c.loop-at.offsets) (stored c.args.inputs c.args.clauses.now c.args.steps.now c.loop-at.offsets c.loop-at.numbered) c.args.steps.now c.loop-at.at c.loop-at.kept c.loop-at-test.true c.in-Right.next c.in-Right.row c.in-Right.ends (rw (c.in-Right.is, c.family_of-family.ensures) at c.check_step.ensures.answer)).fits in
     omega (arith, f, stored_length c.args.inputs c.args.clauses.now c.args.steps.now c.loop-at.offsets c.loop-at.numbered)
-
-pub overflow_cast-offsets : goal.overflow_cast-offsets
-overflow_cast-offsets c = omega (arith, c.loop-at-test.true, c.requires.ready_3)
-
-pub offset_bounds-offsets-numbered : goal.offset_bounds-offsets-numbered
-offset_bounds-offsets-numbered c =
-    let f = (right_taken (scope_of c.args.prefix.now c.args.clauses.now) (length c.loop-at.offsets) (stored c.args.inputs c.args.clauses.now c.args.steps.now c.loop-at.offsets c.loop-at.numbered) c.args.steps.now c.loop-at.at c.loop-at.kept c.loop-at-test.true c.in-Right.next c.in-Right.row c.in-Right.ends (rw (c.in-Right.is, c.family_of-family.ensures) at c.check_step.ensures.answer)).fits in
-    let room : c.loop-at.numbered < length c.loop-at.offsets = omega (arith, f, stored_length c.args.inputs c.args.clauses.now c.args.steps.now c.loop-at.offsets c.loop-at.numbered) in
-    search rules
-
-pub overflow_add-numbered-in-Right : goal.overflow_add-numbered-in-Right
-overflow_add-numbered-in-Right c =
-    let f = (right_taken (scope_of c.args.prefix.now c.args.clauses.now) (length c.loop-at.offsets) (stored c.args.inputs c.args.clauses.now c.args.steps.now c.loop-at.offsets c.loop-at.numbered) c.args.steps.now c.loop-at.at c.loop-at.kept c.loop-at-test.true c.in-Right.next c.in-Right.row c.in-Right.ends (rw (c.in-Right.is, c.family_of-family.ensures) at c.check_step.ensures.answer)).fits in
-    let room : c.loop-at.numbered < length c.loop-at.offsets = omega (arith, f, stored_length c.args.inputs c.args.clauses.now c.args.steps.now c.loop-at.offsets c.loop-at.numbered) in
-    search rules
 
 pub loop-at-smaller : goal.loop-at-smaller
 loop-at-smaller c =
@@ -70,18 +50,3 @@ loop-at-preserved c = (
 
 pub returns : goal.returns
 returns c = going_ends c.args.strict c.args.prefix.now c.args.clauses.now c.args.steps.now c.args.inputs (length c.args.offsets.now) c.loop-at.scratch c.loop-at.offsets c.loop-at.numbered c.loop-at.at c.loop-at.kept c.loop-at.empty c.loop-at.invariant.0 c.loop-at-test.false
-
-pub shape_of-scratch-then-strict-empty : goal.shape_of-scratch-then-strict-empty
-shape_of-scratch-then-strict-empty c = c.loop-at.invariant.1
-
-pub shape_of-offsets-then-strict-empty : goal.shape_of-offsets-then-strict-empty
-shape_of-offsets-then-strict-empty c = c.loop-at.invariant.0.room_is
-
-pub shape_of-offsets-in-Wrong : goal.shape_of-offsets-in-Wrong
-shape_of-offsets-in-Wrong c = c.loop-at.invariant.0.room_is
-
-pub shape_of-scratch : goal.shape_of-scratch
-shape_of-scratch c = c.loop-at.invariant.1
-
-pub shape_of-offsets : goal.shape_of-offsets
-shape_of-offsets c = c.loop-at.invariant.0.room_is
