@@ -104,17 +104,17 @@ four_valid = (
 
 one_valid : Valid two_reductions one
 one_valid = (
-  both_signs _ (four_valid) (Memᴰ.tail (Memᴰ.tail (Memᴰ.head refl))),
+  both_signs _ four_valid (Memᴰ.tail (Memᴰ.tail (Memᴰ.head refl))),
   Memᴰ.tail (Memᴰ.tail (Memᴰ.tail (Memᴰ.head refl))),
-  both_signs _ ((Memᴰ.tail (Memᴰ.head refl), λ e. omega arith)) (Memᴰ.head refl),
+  both_signs _ (Memᴰ.tail (Memᴰ.head refl), λ e. omega arith) (Memᴰ.head refl),
   merges_nothing 4 (Concludes four) (Concludes (leaf (n 4 ∷ p 1 ∷ []))) four_only,
 )
 
 not_one_valid : Valid two_reductions not_one
 not_one_valid = (
-  both_signs _ (three_valid) (Memᴰ.tail (Memᴰ.tail (Memᴰ.tail (Memᴰ.head refl)))),
+  both_signs _ three_valid (Memᴰ.tail (Memᴰ.tail (Memᴰ.tail (Memᴰ.head refl)))),
   Memᴰ.tail (Memᴰ.tail (Memᴰ.head refl)),
-  both_signs _ ((Memᴰ.tail (Memᴰ.head refl), λ e. omega arith)) (Memᴰ.tail (Memᴰ.head refl)),
+  both_signs _ (Memᴰ.tail (Memᴰ.head refl), λ e. omega arith) (Memᴰ.tail (Memᴰ.head refl)),
   merges_nothing 3 (Concludes three) (Concludes (leaf (n 1 ∷ n 3 ∷ []))) three_only,
 )
 
@@ -124,7 +124,7 @@ differ a b h e = h (ap (λ (l : Literal). l.variable) e)
 
 pub refutation_valid : Valid two_reductions refutation
 refutation_valid = (
-  both_signs _ (one_valid) (not_one_valid),
+  both_signs _ one_valid not_one_valid,
   Memᴰ.head refl,
   both_signs _
       (false, Memᴰ.tail (Memᴰ.head refl), differ (p 1) (n 4) (λ e. omega arith))
