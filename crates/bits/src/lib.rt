@@ -37,11 +37,5 @@ pub fn count(bytes: &[u8]) -> usize
     requires { length bytes.now < 2 ^ 32 }
     ensures { result ≡ total (flags bytes.now) }
 {
-    let mut n: usize = 0;
-    let mut i = bytes.len();
-    while 0 < i {
-        i -= 1;
-        n += u8::count_ones(bytes[i]) as usize;
-    }
-    n
+    bytes.iter().map(|b| b.count_ones() as usize).sum()
 }

@@ -2,13 +2,13 @@
 ghost use Rattle.prooffile.specs.File.{ProofRead};
 ghost use Rattle.inference.specs.Rules.{plain_rules, small_rules};
 ghost use Rattle.checker.specs.Verdict.{Checked};
-ghost use Rattle.checker.specs.declared.verdict.Verdict.{Verdict as Answer};
+ghost use Rattle.checker.specs.Verdict.{Verdict as Answer};
 ghost use Rattle.capi.specs.Codes.{Told, Tells, proof_code, verdict_code};
 
 use crate::codes::{accept, refuse};
 use checker::proof::{check_proof, check_proof_small};
 use checker::verdict::Verdict;
-use prooffile::file::{ProofAnswer, read_proof};
+use prooffile::file::read_proof;
 
 // Reads the steps of a proof file for a formula of `clause_count` clauses: `out` is the step words and zeros.
 #[unsafe(no_mangle)]
@@ -21,8 +21,8 @@ pub extern "C" fn qdr_read_proof(
     ensures { Tells proof_code (ProofRead file.now clause_count steps.old steps.new) result out.new }
 {
     match read_proof(file, clause_count, steps) {
-        ProofAnswer::Read(words) => accept(out, words, 0, 0),
-        ProofAnswer::Refused(r) => refuse(out, r),
+        Ok(words) => accept(out, words, 0, 0),
+        Err(r) => refuse(out, r),
     }
 }
 
@@ -31,8 +31,8 @@ fn tell_verdict(out: &mut [u64; 5], verdict: Verdict) -> u32
     ensures { Told (verdict_code verdict) result out.new }
 {
     match verdict {
-        Verdict::Accepted { empty, steps } => accept(out, empty.0, steps, 0),
-        Verdict::Refused(r) => refuse(out, r),
+        Ok(accepted) => accept(out, accepted.empty.0, accepted.steps, 0),
+        Err(r) => refuse(out, r),
     }
 }
 

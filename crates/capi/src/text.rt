@@ -1,13 +1,13 @@
 // C functions on the text of a formula: its reading into tables, and the writing of tables.
-ghost use Rattle.std.specs.Prelude.{length};
+ghost use Rattle.std.specs.Prelude.{ℕ, length, Result};
 ghost use Rattle.formula.specs.Text.{ReadPost};
 ghost use Rattle.formula.specs.Write.{Writes};
-ghost use Rattle.formula.specs.declared.write.WriteAnswer.{WriteAnswer as Answer};
+ghost use Rattle.formula.specs.declared.refusal.Refusal.{Refusal};
 ghost use Rattle.capi.specs.Codes.{Tells, read_code, write_code};
 
 use crate::codes::{accept, refuse};
-use formula::read::{ReadAnswer, read_formula};
-use formula::write::{WriteAnswer, write_formula};
+use formula::read::read_formula;
+use formula::write::write_formula;
 
 // Reads a text into the two tables: `out` is the prefix words used, the clause words used, C, 0, 0.
 #[unsafe(no_mangle)]
@@ -20,12 +20,8 @@ pub extern "C" fn qdr_read(
     ensures { Tells read_code (ReadPost text.now prefix.old clauses.old prefix.new clauses.new) result out.new }
 {
     match read_formula(text, prefix, clauses) {
-        ReadAnswer::Read {
-            prefix_used,
-            clauses_used,
-            clauses: count,
-        } => accept(out, prefix_used, clauses_used, count),
-        ReadAnswer::Refused(r) => refuse(out, r),
+        Ok(filled) => accept(out, filled.prefix_used, filled.clauses_used, filled.clauses),
+        Err(r) => refuse(out, r),
     }
 }
 
@@ -37,10 +33,10 @@ pub extern "C" fn qdr_write(
     text: &mut [u8],
     out: &mut [u64; 5],
 ) -> u32
-    ensures { Tells write_code (λ (a : Answer). Writes prefix.now clauses.now (length text.old) a text.new) result out.new }
+    ensures { Tells write_code (λ (a : Result ℕ Refusal). Writes prefix.now clauses.now (length text.old) a text.new) result out.new }
 {
     match write_formula(prefix, clauses, text) {
-        WriteAnswer::Written(used) => accept(out, used, 0, 0),
-        WriteAnswer::Refused(r) => refuse(out, r),
+        Ok(used) => accept(out, used, 0, 0),
+        Err(r) => refuse(out, r),
     }
 }

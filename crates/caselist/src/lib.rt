@@ -1,7 +1,8 @@
-// What the programs that run worked cases share: cases listed in a byte string, the words that a field of one writes, and
-// printing. No promise of the checker rests on this crate: its functions are proved safe and ending.
+// What the programs that run worked cases share: lists of cases, the words and the bytes that their fields write, and how answers are
+// shown. No promise of the checker rests on this crate: its functions are proved safe and ending.
 #![tactic(auto)]
 
-pub mod fields;
+pub mod bytes;
+pub mod list;
 pub mod show;
 pub mod words;

@@ -1,11 +1,12 @@
 -- What the run over the steps answers.
 pub mod Laws
+use Rattle.std.specs.Prelude.{Result, Err, Ok}
+use Rattle.formula.specs.declared.refusal.Refusal.{Refusal}
+use Rattle.checker.specs.declared.run.Ended.{Ended}
 use Rattle.std.specs.Prelude.{ℕ, zero, suc, ◌+◌, ◌-◌, ◌≤◌, ◌<◌, ◌≡◌, Bool, List, length, get_or, drop, ℤ}
 use Rattle.std.proofs.Math.Option.{Option, none, some}
 use Rattle.formula.specs.Decode.{clauses_of}
 use Rattle.inference.specs.Rules.{ending, plain_rules}
-use Rattle.checker.specs.declared.run.Run.{Run}
-use Rattle.checker.specs.declared.run.Run.TheVariants.{Ended, Refused}
 use Rattle.inference.specs.Words.{Words}
 use Rattle.inference.specs.Steps.{Step, family_of, stated_by, size_of, read_step, Outcome, ended, refused, run}
 use Rattle.inference.specs.Empty.{first_empty, empty_number}
@@ -14,23 +15,23 @@ use Rattle.inference.specs.Numbered.{stored_at, stored}
 use Rattle.checker.specs.Step.{Ready}
 
 -- The run's answer with the offsets it leaves.
-abbrev pub outcome_of : ℕ → Words → Words → List ℕ → Run → Outcome
-outcome_of inputs clauses steps offsets (Ended n empty) = ended (stored inputs clauses steps offsets n)
-outcome_of inputs clauses steps offsets (Refused r) = refused r
+abbrev pub outcome_of : ℕ → Words → Words → List ℕ → Result Ended Refusal → Outcome
+outcome_of inputs clauses steps offsets (Ok e) = ended (stored inputs clauses steps offsets e.numbered)
+outcome_of inputs clauses steps offsets (Err r) = refused r
 
-abbrev pub count_of : Run → ℕ
-count_of (Ended n empty) = n
-count_of (Refused r) = 0
+abbrev pub count_of : Result Ended Refusal → ℕ
+count_of (Ok e) = e.numbered
+count_of (Err r) = 0
 
 -- No numbered clause is lost.
-abbrev pub Grown : ℕ → Run → Type 0
-Grown inputs (Ended n empty) = inputs ≤ n
-Grown inputs (Refused r) = Unit {0}
+abbrev pub Grown : ℕ → Result Ended Refusal → Type 0
+Grown inputs (Ok e) = inputs ≤ e.numbered
+Grown inputs (Err r) = Unit {0}
 
 -- The first empty clause's number is told, 0 for none.
-abbrev pub EmptyTold : ℕ → Words → Words → List ℕ → Run → Type 0
-EmptyTold inputs clauses steps offsets (Ended n empty) = empty ≡ empty_number (first_empty 1 (stored inputs clauses steps offsets n))
-EmptyTold inputs clauses steps offsets (Refused r) = Unit {0}
+abbrev pub EmptyTold : ℕ → Words → Words → List ℕ → Result Ended Refusal → Type 0
+EmptyTold inputs clauses steps offsets (Ok e) = e.empty ≡ empty_number (first_empty 1 (stored inputs clauses steps offsets e.numbered))
+EmptyTold inputs clauses steps offsets (Err r) = Unit {0}
 
 -- How many words the step has that was read, none where there is no step.
 abbrev pub size_read : Option Step → ℕ
@@ -56,7 +57,7 @@ pub record Placed (clauses steps : Words) (inputs : ℕ) (offsets : List ℕ) (n
   pub derived : (k : ℕ) → inputs ≤ k → k < numbered → StepStands steps (k - inputs) (get_or offsets k 0) (stored_at inputs clauses steps offsets k)
 
 -- `scratch` and `offsets` are as the run leaves them: the scratch is ready for another run. A strict run refuses steps after an empty clause.
-pub record RunDone (strict : Bool) (prefix clauses steps : List ℤ) (inputs : ℕ) (r : Run) (scratch offsets : List ℕ) : Type 0 where
+pub record RunDone (strict : Bool) (prefix clauses steps : List ℤ) (inputs : ℕ) (r : Result Ended Refusal) (scratch offsets : List ℕ) : Type 0 where
   pub outcome : run (ending strict plain_rules) (family_of steps) (scope_of prefix clauses) (length offsets) (clauses_of clauses) zero steps ≡ outcome_of inputs clauses steps offsets r
   pub counted : count_of r ≤ length offsets
   pub grown : Grown inputs r

@@ -1,6 +1,10 @@
 -- What the parts of a step's check answer, and the scratch they work in: the marks of a step, the row that was made last, which variables are
 -- existential. That the parts make up the judgement of inference/specs/Steps.antt is in Step/Laws.antt.
 pub mod Laws
+use Rattle.std.specs.Prelude.{Option as Optional, Some, None, Result, Ok, Err, ⊤}
+use Rattle.formula.specs.declared.literal.Variable.{Variable}
+use Rattle.checker.specs.declared.step.StepTaken.{StepTaken}
+use Rattle.formula.specs.Refusal.{passes}
 use Rattle.std.specs.Prelude.{ℕ, ◌+◌, ◌≤◌, ◌≡◌, Bool, not, ◌&&◌, List, length, take, drop, ℤ, pos, neg_ℤ}
 use Rattle.std.proofs.Math.Option.{Option, none, some}
 use Rattle.bits.specs.Flags.{flags}
@@ -8,25 +12,19 @@ use Rattle.dependency.specs.Row.{row_of}
 use Rattle.dependency.specs.Scratch.{row_at, later, small_bound, row_in}
 use Rattle.formula.specs.Decode.{formula_of}
 use Rattle.formula.specs.Word.{word_of, variable_of}
-use Rattle.formula.specs.declared.literal.VariableFit.{VariableFit}
-use Rattle.formula.specs.declared.literal.VariableFit.TheVariants.{Within, Outside}
 use Rattle.formula.specs.declared.refusal.Reason.{Reason}
 use Rattle.formula.specs.declared.refusal.Reason.TheVariants.{NotEarlier, WrongPivot, Blocked}
 use Rattle.inference.specs.declared.read.Family.{Family}
 use Rattle.inference.specs.declared.read.StepKind.{StepKind}
 use Rattle.inference.specs.declared.read.StepKind.TheVariants.{Resolution, Reduction}
 use Rattle.inference.specs.declared.read.StepRead.{StepRead}
-use Rattle.inference.specs.declared.result.Judgement.{Judgement}
-use Rattle.inference.specs.declared.result.Judgement.TheVariants.{Right, Wrong}
-use Rattle.checker.specs.declared.step.StepAnswer.{StepAnswer}
-use Rattle.checker.specs.declared.step.StepAnswer.TheVariants.{Right as RightStep, Wrong as WrongStep}
 use Rattle.inference.specs.Words.{Words, holds}
 use Rattle.inference.specs.Steps.{Scope, stated_by, size_of, resolvent, unresolvable, reduct, blocked, blocker_of, demand, judge_statement, Judged, right, wrong}
 use Rattle.inference.specs.Empty.{is_empty}
 use Rattle.inference.specs.Read.{fields_of}
 use Rattle.inference.specs.Marks.{marks_in, clean}
 use Rattle.inference.specs.Existentials.{existentials_of, existential_of}
-use Rattle.inference.specs.Result.{judgement_of, result_reason}
+use Rattle.inference.specs.Result.{result_reason}
 
 -- The marks, before the row; the existentials, right behind it.
 abbrev pub marks_of : List ℕ → List ℕ
@@ -68,9 +66,9 @@ kept_after step kept = kept_by step.kind step kept
 abbrev pub pivot_reason : Family → (ℕ → Bool) → ℤ → Words → Words → Words → Option Reason
 pivot_reason f may e C D L = demand (holds e C && holds (neg_ℤ e) D) WrongPivot (result_reason (unresolvable f may e C D) (resolvent e C D) L)
 
-abbrev pub resolving_reason : Family → (ℕ → ℕ → Bool) → VariableFit → Words → Words → Words → Option Reason
-resolving_reason f mergeable Outside C D L = some WrongPivot
-resolving_reason f mergeable (Within v) C D L = pivot_reason f (mergeable v.0) (pos v.0) C D L
+abbrev pub resolving_reason : Family → (ℕ → ℕ → Bool) → Optional Variable → Words → Words → Words → Option Reason
+resolving_reason f mergeable None C D L = some WrongPivot
+resolving_reason f mergeable (Some v) C D L = pivot_reason f (mergeable v.0) (pos v.0) C D L
 
 -- With antecedents that may be missing; `existentials` are the flags in the scratch.
 abbrev pub resolution_reason : Family → (ℕ → ℕ → Bool) → List ℕ → ℤ → Words → Option Words → Option Words → Option Reason
@@ -83,32 +81,32 @@ abbrev pub free_reason : Family → Scope → ℕ → ℤ → Words → Words �
 free_reason f S u a C L = demand (not (blocked S u C)) (Blocked (blocker_of S u C)) (judge_statement (reduct f a C) L)
 
 -- An answer that leaves the marks clean, and the row and the existentials as they were.
-pub record Answers (reason : Option Reason) (r : Judgement) (scratch scratch' : List ℕ) : Type 0 where
-  pub answer : r ≡ judgement_of reason
+pub record Answers (reason : Option Reason) (r : Result ⊤ Reason) (scratch scratch' : List ℕ) : Type 0 where
+  pub answer : r ≡ passes reason
   pub size : length scratch' ≡ length scratch
   pub marks : marks_of scratch' ≡ clean
   pub kept : take 256 (drop row_at scratch') ≡ take 256 (drop row_at scratch)
 
 -- After a wrong step no row is kept.
-abbrev pub kept_if : Judgement → ℕ → ℕ
-kept_if Right kept = kept
-kept_if (Wrong r) kept = 0
+abbrev pub kept_if : Result ⊤ Reason → ℕ → ℕ
+kept_if (Ok tt) kept = kept
+kept_if (Err r) kept = 0
 
 -- An answer that leaves the scratch ready; if the step is right, the row of `kept` stands there.
-pub record JudgedReady (prefix clauses : List ℤ) (kept : ℕ) (reason : Option Reason) (r : Judgement) (scratch' : List ℕ) : Type 0 where
-  pub answer : r ≡ judgement_of reason
+pub record JudgedReady (prefix clauses : List ℤ) (kept : ℕ) (reason : Option Reason) (r : Result ⊤ Reason) (scratch' : List ℕ) : Type 0 where
+  pub answer : r ≡ passes reason
   pub ready : KeptReady prefix clauses (kept_if r kept) scratch'
 
 -- The step's answer: where the next step begins, whose row is kept then, and whether the step's clause is empty; `kept` is the variable of the
 -- row before the step.
-abbrev pub step_answer : ℕ → ℕ → Judged → StepAnswer
-step_answer at kept (right s) = RightStep (at + size_of s) (kept_after (fields_of at s) kept) (is_empty (stated_by s))
-step_answer at kept (wrong r) = WrongStep r
+abbrev pub step_answer : ℕ → ℕ → Judged → Result StepTaken Reason
+step_answer at kept (right s) = Ok (record { next = at + size_of s; kept = kept_after (fields_of at s) kept; empty = is_empty (stated_by s) })
+step_answer at kept (wrong r) = Err r
 
-abbrev pub kept_in : StepAnswer → ℕ
-kept_in (RightStep next kept empty) = kept
-kept_in (WrongStep r) = 0
+abbrev pub kept_in : Result StepTaken Reason → ℕ
+kept_in (Ok t) = t.kept
+kept_in (Err r) = 0
 
-pub record StepChecked (prefix clauses : List ℤ) (at kept : ℕ) (j : Judged) (r : StepAnswer) (scratch' : List ℕ) : Type 0 where
+pub record StepChecked (prefix clauses : List ℤ) (at kept : ℕ) (j : Judged) (r : Result StepTaken Reason) (scratch' : List ℕ) : Type 0 where
   pub answer : r ≡ step_answer at kept j
   pub ready : KeptReady prefix clauses (kept_in r) scratch'

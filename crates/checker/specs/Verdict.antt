@@ -8,7 +8,8 @@ pub mod Exact
 pub mod Ending
 pub mod Parts
 pub mod Sizes
-use Rattle.std.specs.Prelude.{ℕ, zero, suc, ◌-◌, ◌≡◌, Bool, true, false, cond, List, length, replicate, leb, ltb, ℤ}
+use Rattle.checker.specs.declared.verdict.Accepted.{Accepted}
+use Rattle.std.specs.Prelude.{ℕ, zero, suc, ◌-◌, ◌≡◌, Bool, true, false, cond, List, length, replicate, leb, ltb, ℤ, Result, Ok, Err}
 use Rattle.std.proofs.Math.Option.{Option, none, some}
 use Rattle.formula.specs.Bounds.{proof_bound}
 use Rattle.formula.specs.Decode.{formula_of, clauses_of}
@@ -18,13 +19,18 @@ use Rattle.qbf.specs.Play.{Lost}
 use Rattle.formula.specs.declared.literal.ClauseNumber.{ClauseNumber}
 use Rattle.formula.specs.declared.refusal.Refusal.{Refusal}
 use Rattle.formula.specs.declared.refusal.Reason.TheVariants.{Oversized, NoRoom, NoConclusion}
-use Rattle.checker.specs.declared.verdict.Verdict.{Verdict}
-use Rattle.checker.specs.declared.verdict.Verdict.TheVariants.{Accepted, Refused}
 use Rattle.inference.specs.Rules.{Rules}
 use Rattle.inference.specs.Words.{Words}
 use Rattle.inference.specs.Empty.{first_empty, last_empty}
 use Rattle.inference.specs.Steps.{Scope, family_of, Outcome, ended, refused, run}
 use Rattle.inference.specs.Scope.{scope_of}
+
+-- Accepted, with the first empty clause's number and the number of steps; or the refusal.
+abbrev pub Verdict : Type 0
+Verdict = Result Accepted Refusal
+
+abbrev pub accept : ClauseNumber → ℕ → Verdict
+accept empty steps = Ok (record { empty = empty; steps = steps })
 
 -- The number of the empty clause that a run concludes with; `inputs` of the numbered clauses are input clauses. By strict rules (02, P10) it is the last
 -- clause, or without steps the first empty input clause; by others the first empty one of all.
@@ -34,25 +40,25 @@ conclusion false inputs known = first_empty 1 known
 
 -- With so many numbered clauses, of which `inputs` are input clauses.
 abbrev pub concluded : ℕ → ℕ → Option ℕ → Verdict
-concluded inputs numbered none = Refused (refusal NoConclusion numbered)
-concluded inputs numbered (some n) = Accepted (record { 0 = n }) (numbered - inputs)
+concluded inputs numbered none = Err (refusal NoConclusion numbered)
+concluded inputs numbered (some n) = accept (record { 0 = n }) (numbered - inputs)
 
 abbrev pub conclude : Rules → ℕ → Outcome → Verdict
 conclude rules inputs (ended known) = concluded inputs (length known) (conclusion rules.strict inputs known)
-conclude rules inputs (refused r) = Refused r
+conclude rules inputs (refused r) = Err r
 
 abbrev pub if_admitted : Option Refusal → Verdict → Verdict
-if_admitted r later = unless Refused r later
+if_admitted r later = unless Err r later
 
 -- After the tables, by what steps know; `scratch` and `room` are the lengths of the scratch and of the clause offsets.
 abbrev pub scope_verdict : Rules → Scope → List ℤ → List ℤ → ℕ → ℕ → Verdict
 scope_verdict rules S clauses steps scratch room =
     require (leb (length steps) proof_bound)
-    (Refused (refusal Oversized 0))
+    (Err (refusal Oversized 0))
     (require (leb rules.scratch scratch)
-    (Refused (refusal NoRoom 0))
+    (Err (refusal NoRoom 0))
     (require (leb (zeros clauses) room)
-    (Refused (refusal NoRoom (suc room)))
+    (Err (refusal NoRoom (suc room)))
     (conclude rules (zeros clauses) (run rules (family_of steps) S room (clauses_of clauses) zero steps))))
 
 unfoldable pub sized_verdict : Rules → List ℤ → List ℤ → List ℤ → ℕ → ℕ → Verdict
@@ -67,10 +73,10 @@ pub record Checked (rules : Rules) (prefix clauses steps : List ℤ) (scratch of
   pub verdict : r ≡ verdict_of rules prefix clauses steps (length scratch) (length offsets)
   pub scratch_cleared : scratch' ≡ replicate (length scratch) 0
   pub offsets_cleared : offsets' ≡ replicate (length offsets) 0
-  pub lost : (empty : ClauseNumber) (count : ℕ) → r ≡ Accepted empty count → Lost (formula_of prefix clauses)
+  pub lost : (empty : ClauseNumber) (count : ℕ) → r ≡ accept empty count → Lost (formula_of prefix clauses)
 
 -- The verdict is accepted, with some numbers.
 pub record IsAccepted (v : Verdict) : Type 0 where
   pub empty : ℕ
   pub count : ℕ
-  pub accepted : v ≡ Accepted (record { 0 = empty }) count
+  pub accepted : v ≡ accept (record { 0 = empty }) count

@@ -9,14 +9,14 @@ ghost use Rattle.inference.specs.Empty.{number_found};
 ghost use Rattle.checker.specs.Verdict.{concluded, conclude, sized_verdict, verdict_of, Checked};
 ghost use Rattle.inference.specs.Scope.{scope_of};
 
-use crate::run::{Run, run_steps};
-use crate::verdict::Verdict;
+use crate::run::run_steps;
+use crate::verdict::{Accepted, Verdict};
 use dependency::scratch::{LATER, SCRATCH, SMALL};
-use formula::bounds::{ProofFit, ProofLength};
-use formula::clear::{clear_bytes, clear_numbers};
+use formula::bounds::ProofLength;
+use formula::clear::clear_tail;
 use formula::literal::ClauseNumber;
 use formula::refusal::{Reason, Refusal};
-use formula::tables::{TablesAnswer, check_tables_in};
+use formula::tables::check_tables_in;
 use inference::existentials::{EXISTENTIALS_END, fill_quantified};
 use inference::numbered::fill_offsets;
 
@@ -24,8 +24,8 @@ use inference::numbered::fill_offsets;
 fn clear_lent(scratch: &mut [u8], offsets: &mut [u32])
     ensures { (scratch.new ≡ replicate (length scratch.old) 0) × (offsets.new ≡ replicate (length offsets.old) 0) }
 {
-    clear_bytes(scratch, 0);
-    clear_numbers(offsets, 0);
+    clear_tail(scratch, 0, 0);
+    clear_tail(offsets, 0, 0);
 }
 
 // All steps are right: the first empty clause decides, `empty` being its number, 0 for none.
@@ -34,12 +34,12 @@ fn conclude_run(inputs: usize, numbered: usize, empty: usize) -> Verdict
     ensures { result ≡ concluded inputs numbered (number_found empty) }
 {
     if empty < 1 {
-        return Verdict::Refused(Refusal::new(Reason::NoConclusion, numbered));
+        return Err(Refusal::new(Reason::NoConclusion, numbered));
     }
-    Verdict::Accepted {
+    Ok(Accepted {
         empty: ClauseNumber::at(empty - 1),
         steps: numbered - inputs,
-    }
+    })
 }
 
 // The steps, in the scratch that they need: the existentials and the offsets of the input clauses are filled first.
@@ -51,22 +51,20 @@ fn judge_steps<'a>(
     scratch: &mut [u8],
     offsets: &mut [u32],
 ) -> Verdict
-    requires fact_1 { Admitted prefix.now clauses.now }
-    requires fact_2 { inputs ≡ zeros clauses.now }
-    requires fact_3 { length steps.now ≤ 1048576 }
-    requires fact_4 { length scratch.old ≡ small_bound }
-    requires fact_5 { inputs ≤ length offsets.old }
+    requires admitted { Admitted prefix.now clauses.now }
+    requires inputs_counted { inputs ≡ zeros clauses.now }
+    requires steps_in_bound { length steps.now ≤ 1048576 }
+    requires scratch_whole { length scratch.old ≡ small_bound }
+    requires inputs_have_room { inputs ≤ length offsets.old }
     ensures { result ≡ conclude plain_rules inputs (run plain_rules (family_of steps.now) (scope_of prefix.now clauses.now) (length offsets.old) (clauses_of clauses.now) zero steps.now) }
 {
     clear_lent(scratch, offsets);
     fill_quantified(prefix, 0, true, &mut scratch[LATER..EXISTENTIALS_END]);
     let first = fill_offsets(clauses, offsets);
-    match run_steps(
+    let ended = run_steps(
         prefix, clauses, steps, inputs, first, true, scratch, offsets,
-    ) {
-        Run::Refused(refusal) => Verdict::Refused(refusal),
-        Run::Ended { numbered, empty } => conclude_run(inputs, numbered, empty),
-    }
+    )?;
+    conclude_run(inputs, ended.numbered, ended.empty)
 }
 
 // The order of refusals after the tables; so many bytes of scratch are asked for.
@@ -79,30 +77,28 @@ fn judge_sized<'a>(
     offsets: &mut [u32],
     bytes: usize,
 ) -> Verdict
-    requires fact_1 { Admitted prefix.now clauses.now }
-    requires fact_2 { inputs ≡ zeros clauses.now }
-    requires fact_3 { small_bound ≤ bytes }
+    requires admitted { Admitted prefix.now clauses.now }
+    requires inputs_counted { inputs ≡ zeros clauses.now }
+    requires bytes_enough { small_bound ≤ bytes }
     ensures { result ≡ sized_verdict (resized bytes plain_rules) prefix.now clauses.now steps.now (length scratch.old) (length offsets.old) }
 {
-    match ProofLength::new(steps.len()) {
-        ProofFit::Oversized => Verdict::Refused(Refusal::new(Reason::Oversized, 0)),
-        ProofFit::Within(_) => {
-            if scratch.len() < bytes {
-                return Verdict::Refused(Refusal::new(Reason::NoRoom, 0));
-            }
-            if offsets.len() < inputs {
-                return Verdict::Refused(Refusal::new(Reason::NoRoom, offsets.len() + 1));
-            }
-            judge_steps(
-                prefix,
-                clauses,
-                steps,
-                inputs,
-                &mut scratch[..SMALL],
-                offsets,
-            )
-        }
+    let Some(_) = ProofLength::new(steps.len()) else {
+        return Err(Refusal::new(Reason::Oversized, 0));
+    };
+    if scratch.len() < bytes {
+        return Err(Refusal::new(Reason::NoRoom, 0));
     }
+    if offsets.len() < inputs {
+        return Err(Refusal::new(Reason::NoRoom, offsets.len() + 1));
+    }
+    judge_steps(
+        prefix,
+        clauses,
+        steps,
+        inputs,
+        &mut scratch[..SMALL],
+        offsets,
+    )
 }
 
 // The verdict; what was lent is left filled. The check of tables marks in the scratch.
@@ -117,13 +113,16 @@ fn judge_proof<'a>(
     requires { small_bound ≤ bytes }
     ensures { result ≡ verdict_of (resized bytes plain_rules) prefix.now clauses.now steps.now (length scratch.old) (length offsets.old) }
 {
-    match check_tables_in(prefix, clauses, scratch) {
-        TablesAnswer::Refused(refusal) => Verdict::Refused(refusal),
-        TablesAnswer::Admitted {
-            variables: _,
-            clauses: inputs,
-        } => judge_sized(prefix, clauses, steps, inputs, scratch, offsets, bytes),
-    }
+    let counts = check_tables_in(prefix, clauses, scratch)?;
+    judge_sized(
+        prefix,
+        clauses,
+        steps,
+        counts.clauses,
+        scratch,
+        offsets,
+        bytes,
+    )
 }
 
 // The check of a proof that asks for so many bytes of scratch. Scratch and offsets (01: starts) end as 0.

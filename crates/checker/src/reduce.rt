@@ -1,6 +1,6 @@
 // Kinds 2 and 4: a reduction. Each check costs a few passes over the prefix, the clause and the statement, and the row of its variable, unless that
 // is the row that stands in the scratch. `kept` is the variable whose row stands there, 0 for none.
-ghost use Rattle.std.specs.Prelude.{◌≡◌, true, ◌≤◌, length, nat_abs};
+ghost use Rattle.std.specs.Prelude.{◌≡◌, true, nat_abs};
 ghost use Rattle.std.proofs.Math.Option.{some};
 ghost use Rattle.formula.specs.Bounds.{variable_fit};
 ghost use Rattle.formula.specs.Tables.{Admitted};
@@ -9,46 +9,44 @@ ghost use Rattle.formula.specs.Prefix.{prefix_of, quantifies, Entries};
 ghost use Rattle.formula.specs.Decode.{clause_at};
 ghost use Rattle.formula.specs.Word.{word_of, variable_of};
 ghost use Rattle.inference.specs.Steps.{antecedent, judge_reduction};
-ghost use Rattle.inference.specs.Words.{AllWords, InRange, AllInRange};
+ghost use Rattle.inference.specs.Clause.{words_of};
+ghost use Rattle.inference.specs.Words.{InRange};
 ghost use Rattle.inference.specs.Scope.{scope_of};
-ghost use Rattle.inference.specs.Numbered.{stored};
+ghost use Rattle.inference.specs.Known.{known_in};
 ghost use Rattle.checker.specs.Step.{KeptReady, RowReady, free_reason, JudgedReady};
 
 use dependency::answer::is_universal;
 use dependency::row::make_row;
-use dependency::scratch::{LATER, ROW};
-use formula::literal::{Literal, LiteralFit, NumberFit, Variable, VariableFit};
+use dependency::scratch::LATER;
+use formula::literal::{Literal, Variable};
 use formula::refusal::Reason;
 use formula::word::Word;
 use inference::blocked::{find_blocker, row_touches};
-use inference::clause::has_word;
+use inference::clause::{ClauseAt, has_word};
 use inference::existentials::{EXISTENTIALS_END, fill_quantified};
-use inference::numbered::{antecedent_of, place_of, table_of};
+use inference::marks::MARK_BYTES;
+use inference::numbered::Known;
 use inference::read::{Family, StepRead};
-use inference::result::{Judgement, judge_reduct};
+use inference::result::judge_reduct;
 
-// The variable of a word that is a literal of a universal.
-fn universal_of(prefix: &[i32], word: i32) -> VariableFit
+// The variable of a word, if it is a literal of a universal.
+fn universal_of(prefix: &[i32], word: i32) -> Option<Variable>
     requires { Entries prefix.now }
     ensures { result ≡ variable_fit (quantifies universal (prefix_of prefix.now) (nat_abs word)) (nat_abs word) }
 {
-    match Variable::new(Word::variable(word)) {
-        VariableFit::Outside => VariableFit::Outside,
-        VariableFit::Within(variable) => {
-            if is_universal(prefix, variable) {
-                return VariableFit::Within(variable);
-            }
-            VariableFit::Outside
-        }
+    let variable = Variable::new(Word::variable(word))?;
+    if is_universal(prefix, variable) {
+        return Some(variable);
     }
+    None
 }
 
 // The row of a universal stands in the scratch: it is there if it was made last, and else it is made, and the existentials, which
 // making it cleared, are filled in.
 fn row_for(prefix: &[i32], clauses: &[i32], variable: Variable, kept: usize, scratch: &mut [u8])
-    requires fact_1 { KeptReady prefix.now clauses.now kept scratch.old }
-    requires fact_2 { Admitted prefix.now clauses.now }
-    requires fact_3 { quantifies universal (prefix_of prefix.now) variable.0 ≡ true }
+    requires kept_ready { KeptReady prefix.now clauses.now kept scratch.old }
+    requires admitted { Admitted prefix.now clauses.now }
+    requires variable_universal { quantifies universal (prefix_of prefix.now) variable.0 ≡ true }
     ensures { RowReady prefix.now clauses.now variable.0 scratch.new }
 {
     if kept == variable.0 {
@@ -62,8 +60,7 @@ fn row_for(prefix: &[i32], clauses: &[i32], variable: Variable, kept: usize, scr
 fn reduce_on(
     prefix: &[i32],
     clauses: &[i32],
-    words: &[i32],
-    from: usize,
+    clause: ClauseAt,
     variable: Variable,
     literal: Literal,
     family: Family,
@@ -71,123 +68,103 @@ fn reduce_on(
     statement: usize,
     kept: usize,
     scratch: &mut [u8],
-) -> Judgement
-    requires fact_1 { KeptReady prefix.now clauses.now kept scratch.old }
-    requires fact_2 { Admitted prefix.now clauses.now }
-    requires fact_3 { quantifies universal (prefix_of prefix.now) variable.0 ≡ true }
-    requires fact_4 { InRange literal.0 }
-    requires fact_5 { AllInRange (clause_at words.now from) }
-    ensures { JudgedReady prefix.now clauses.now variable.0 (free_reason family (scope_of prefix.now clauses.now) variable.0 literal.0 (clause_at words.now from) (clause_at steps.now statement)) result scratch.new }
+) -> Result<(), Reason>
+    requires kept_ready { KeptReady prefix.now clauses.now kept scratch.old }
+    requires admitted { Admitted prefix.now clauses.now }
+    requires variable_universal { quantifies universal (prefix_of prefix.now) variable.0 ≡ true }
+    requires literal_in_range { InRange literal.0 }
+    ensures { JudgedReady prefix.now clauses.now variable.0 (free_reason family (scope_of prefix.now clauses.now) variable.0 literal.0 (words_of clause.entry) (clause_at steps.now statement)) result scratch.new }
 {
     row_for(prefix, clauses, variable, kept, scratch);
-    if row_touches(words, from, scratch) {
-        let blocker = find_blocker(prefix, words, from, scratch);
-        return Judgement::Wrong(Reason::Blocked(blocker));
+    if row_touches(clause.words, clause.from, scratch) {
+        let blocker = find_blocker(prefix, clause.words, clause.from, scratch);
+        return Err(Reason::Blocked(blocker));
     }
-    judge_reduct(
-        words,
-        from,
-        literal,
-        family,
-        steps,
-        statement,
-        &mut scratch[..ROW],
-    )
+    let marks = scratch.first_chunk_mut::<MARK_BYTES>().unwrap();
+    judge_reduct(clause, literal, family, steps, statement, marks)
 }
 
 // The reduced literal is a universal one of the clause.
 fn reduce_literal(
     prefix: &[i32],
     clauses: &[i32],
-    words: &[i32],
-    from: usize,
+    clause: ClauseAt,
     literal: Literal,
     family: Family,
     steps: &[i32],
     statement: usize,
     kept: usize,
     scratch: &mut [u8],
-) -> Judgement
-    requires fact_1 { KeptReady prefix.now clauses.now kept scratch.old }
-    requires fact_2 { Admitted prefix.now clauses.now }
-    requires fact_3 { AllInRange (clause_at words.now from) }
-    ensures { JudgedReady prefix.now clauses.now (nat_abs literal.0) (judge_reduction family (scope_of prefix.now clauses.now) literal.0 (clause_at steps.now statement) (some (clause_at words.now from))) result scratch.new }
+) -> Result<(), Reason>
+    requires kept_ready { KeptReady prefix.now clauses.now kept scratch.old }
+    requires admitted { Admitted prefix.now clauses.now }
+    ensures { JudgedReady prefix.now clauses.now (nat_abs literal.0) (judge_reduction family (scope_of prefix.now clauses.now) literal.0 (clause_at steps.now statement) (some (words_of clause.entry))) result scratch.new }
 {
     let a = literal.0;
-    match universal_of(prefix, a) {
-        VariableFit::Outside => Judgement::Wrong(Reason::WrongPivot),
-        VariableFit::Within(variable) => {
-            if has_word(words, from, a) {
-                return reduce_on(
-                    prefix, clauses, words, from, variable, literal, family, steps, statement,
-                    kept, scratch,
-                );
-            }
-            Judgement::Wrong(Reason::WrongPivot)
-        }
+    let Some(variable) = universal_of(prefix, a) else {
+        return Err(Reason::WrongPivot);
+    };
+    if has_word(clause.words, clause.from, a) {
+        return reduce_on(
+            prefix, clauses, clause, variable, literal, family, steps, statement, kept, scratch,
+        );
     }
+    Err(Reason::WrongPivot)
 }
 
 // The reduced word is a literal.
 fn reduce_fields(
     prefix: &[i32],
     clauses: &[i32],
-    words: &[i32],
-    from: usize,
+    clause: ClauseAt,
     steps: &[i32],
     step: StepRead,
     kept: usize,
     scratch: &mut [u8],
-) -> Judgement
-    requires fact_1 { KeptReady prefix.now clauses.now kept scratch.old }
-    requires fact_2 { Admitted prefix.now clauses.now }
-    requires fact_3 { AllInRange (clause_at words.now from) }
-    ensures { JudgedReady prefix.now clauses.now (variable_of (word_of step.pivot)) (judge_reduction step.family (scope_of prefix.now clauses.now) step.pivot (clause_at steps.now step.statement) (some (clause_at words.now from))) result scratch.new }
+) -> Result<(), Reason>
+    requires kept_ready { KeptReady prefix.now clauses.now kept scratch.old }
+    requires admitted { Admitted prefix.now clauses.now }
+    ensures { JudgedReady prefix.now clauses.now (variable_of (word_of step.pivot)) (judge_reduction step.family (scope_of prefix.now clauses.now) step.pivot (clause_at steps.now step.statement) (some (words_of clause.entry))) result scratch.new }
 {
     let family = step.family;
-    match Literal::new(step.pivot) {
-        LiteralFit::Outside => Judgement::Wrong(Reason::WrongPivot),
-        LiteralFit::Within(literal) => {
-            reduce_literal(
-                prefix,
-                clauses,
-                words,
-                from,
-                literal,
-                family,
-                steps,
-                step.statement,
-                kept,
-                scratch,
-            )
-        }
-    }
+    let Some(literal) = Literal::new(step.pivot) else {
+        return Err(Reason::WrongPivot);
+    };
+    reduce_literal(
+        prefix,
+        clauses,
+        clause,
+        literal,
+        family,
+        steps,
+        step.statement,
+        kept,
+        scratch,
+    )
 }
 
-// A reduction after `numbered` numbered clauses.
-pub fn check_reduction<'a>(
+// A reduction after the numbered clauses.
+pub fn check_reduction(
     prefix: &[i32],
-    clauses: &'a [i32],
-    steps: &'a [i32],
-    offsets: &[u32],
-    inputs: usize,
-    numbered: usize,
+    known: Known,
     step: StepRead,
     kept: usize,
     scratch: &mut [u8],
-) -> Judgement
-    requires kept_ready_1 { KeptReady prefix.now clauses.now kept scratch.old }
-    requires kept_ready_2 { Admitted prefix.now clauses.now }
-    requires numbered_in_bounds_1 { numbered ≤ length offsets.now }
-    requires numbered_in_bounds_2 { AllWords InRange (stored inputs clauses.now steps.now offsets.now numbered) }
-    ensures { JudgedReady prefix.now clauses.now (variable_of (word_of step.pivot)) (judge_reduction step.family (scope_of prefix.now clauses.now) step.pivot (clause_at steps.now step.statement) (antecedent (stored inputs clauses.now steps.now offsets.now numbered) step.first)) result scratch.new }
+) -> Result<(), Reason>
+    requires kept_ready { KeptReady prefix.now known.clauses.now kept scratch.old }
+    requires admitted { Admitted prefix.now known.clauses.now }
+    ensures { JudgedReady prefix.now known.entry.clauses.now (variable_of (word_of step.pivot)) (judge_reduction step.family (scope_of prefix.now known.entry.clauses.now) step.pivot (clause_at known.entry.steps.now step.statement) (antecedent (known_in known.entry) step.first)) result scratch.new }
 {
-    match antecedent_of(step.first, numbered) {
-        NumberFit::Outside => Judgement::Wrong(Reason::NotEarlier),
-        NumberFit::Within(number) => {
-            let words = table_of(clauses, steps, inputs, number);
-            let from = place_of(steps, offsets, inputs, number);
-            reduce_fields(prefix, clauses, words, from, steps, step, kept, scratch)
-        }
-    }
+    let Some(clause) = known.find(step.first) else {
+        return Err(Reason::NotEarlier);
+    };
+    reduce_fields(
+        prefix,
+        known.clauses,
+        clause,
+        known.steps,
+        step,
+        kept,
+        scratch,
+    )
 }

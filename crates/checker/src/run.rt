@@ -7,16 +7,17 @@ ghost use Rattle.inference.specs.Numbered.{stored};
 ghost use Rattle.checker.specs.Step.{Ready};
 ghost use Rattle.checker.specs.Run.{RunDone};
 
-use crate::step::{StepAnswer, check_step};
+use crate::step::check_step;
 use formula::refusal::{Reason, Refusal};
 use inference::numbered::empty_after;
 use inference::read::family_of;
 
-// How many numbered clauses there are at the end, and which is the first empty one, 0 for none; or the refusal.
+// How many numbered clauses there are at the end of a run, and which is the first empty one, 0 for none. That one and the variable kept are numbers,
+// since the functions below take any number for them, and an `Option` of a clause number or a variable would ask for one in range.
 #[derive(Clone, Copy)]
-pub enum Run {
-    Ended { numbered: usize, empty: usize },
-    Refused(Refusal),
+pub struct Ended {
+    pub numbered: usize,
+    pub empty: usize,
 }
 
 // Every step in turn, all of the family of the first. `first` is the first empty input clause, 0 for none. Where the run is strict, a step that comes
@@ -32,13 +33,13 @@ pub fn run_steps<'a>(
     strict: bool,
     scratch: &mut [u8],
     offsets: &mut [u32],
-) -> Run
-    requires ready_1 { Ready prefix.now scratch.old }
-    requires ready_2 { Admitted prefix.now clauses.now }
-    requires ready_3 { length steps.now ≤ 1048576 }
-    requires ready_4 { first ≡ empty_number (first_empty 1 (clauses_of clauses.now)) }
-    requires inputs_in_bounds_1 { inputs ≤ length offsets.old }
-    requires inputs_in_bounds_2 { stored inputs clauses.now steps.now offsets.old inputs ≡ clauses_of clauses.now }
+) -> Result<Ended, Refusal>
+    requires ready { Ready prefix.now scratch.old }
+    requires admitted { Admitted prefix.now clauses.now }
+    requires steps_in_bound { length steps.now ≤ 1048576 }
+    requires first_told { first ≡ empty_number (first_empty 1 (clauses_of clauses.now)) }
+    requires inputs_have_room { inputs ≤ length offsets.old }
+    requires inputs_stored { stored inputs clauses.now steps.now offsets.old inputs ≡ clauses_of clauses.now }
     ensures { RunDone strict prefix.now clauses.now steps.now inputs result scratch.new offsets.new }
 {
     let family = family_of(steps);
@@ -46,28 +47,23 @@ pub fn run_steps<'a>(
     let mut empty = first;
     let mut at = 0;
     let mut kept = 0;
+    // Each turn goes on by a whole step, however long: no `for` counts the place.
     while at < steps.len() {
         if strict & (0 < empty) {
-            return Run::Refused(Refusal::new(Reason::Afterword, numbered + 1));
+            return Err(Refusal::new(Reason::Afterword, numbered + 1));
         }
         match check_step(
             prefix, clauses, steps, offsets, inputs, numbered, at, family, kept, scratch,
         ) {
-            StepAnswer::Wrong(reason) => {
-                return Run::Refused(Refusal::new(reason, numbered + 1));
-            }
-            StepAnswer::Right {
-                next,
-                kept: row,
-                empty: ends,
-            } => {
+            Err(reason) => return Err(Refusal::new(reason, numbered + 1)),
+            Ok(taken) => {
                 offsets[numbered] = at as u32;
                 numbered += 1;
-                empty = empty_after(empty, ends, numbered);
-                at = next;
-                kept = row;
+                empty = empty_after(empty, taken.empty, numbered);
+                at = taken.next;
+                kept = taken.kept;
             }
         }
     }
-    Run::Ended { numbered, empty }
+    Ok(Ended { numbered, empty })
 }

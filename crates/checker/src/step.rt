@@ -6,6 +6,7 @@ ghost use Rattle.inference.specs.Steps.{read_step, judge, judge_read};
 ghost use Rattle.inference.specs.Words.{AllWords, InRange};
 ghost use Rattle.inference.specs.Scope.{scope_of};
 ghost use Rattle.inference.specs.Numbered.{stored};
+ghost use Rattle.inference.specs.Known.{known_in};
 ghost use Rattle.inference.specs.Read.{step_of};
 ghost use Rattle.checker.specs.Step.{KeptReady, kept_after, JudgedReady, StepChecked};
 
@@ -14,51 +15,34 @@ use crate::resolve::check_resolution;
 use formula::refusal::Reason;
 use formula::word::Word;
 use inference::clause::is_empty;
-use inference::read::{Family, Reading, StepKind, StepRead, read_step};
-use inference::result::Judgement;
+use inference::numbered::Known;
+use inference::read::{Family, StepKind, StepRead, read_step};
 
 // A step that was read, by its kind.
-fn judge_step<'a>(
+fn judge_step(
     prefix: &[i32],
-    clauses: &'a [i32],
-    steps: &'a [i32],
-    offsets: &[u32],
-    inputs: usize,
-    numbered: usize,
+    known: Known,
     step: StepRead,
     kept: usize,
     scratch: &mut [u8],
-) -> Judgement
-    requires kept_ready_1 { KeptReady prefix.now clauses.now kept scratch.old }
-    requires kept_ready_2 { Admitted prefix.now clauses.now }
-    requires numbered_in_bounds_1 { numbered ≤ length offsets.now }
-    requires numbered_in_bounds_2 { AllWords InRange (stored inputs clauses.now steps.now offsets.now numbered) }
-    ensures { JudgedReady prefix.now clauses.now (kept_after step kept) (judge (scope_of prefix.now clauses.now) (stored inputs clauses.now steps.now offsets.now numbered) (step_of step (clause_at steps.now step.statement))) result scratch.new }
+) -> Result<(), Reason>
+    requires kept_ready { KeptReady prefix.now known.clauses.now kept scratch.old }
+    requires admitted { Admitted prefix.now known.clauses.now }
+    ensures { JudgedReady prefix.now known.entry.clauses.now (kept_after step kept) (judge (scope_of prefix.now known.entry.clauses.now) (known_in known.entry) (step_of step (clause_at known.entry.steps.now step.statement))) result scratch.new }
 {
     let kind = step.kind;
     match kind {
-        StepKind::Resolution => {
-            check_resolution(
-                prefix, clauses, steps, offsets, inputs, numbered, step, scratch,
-            )
-        }
-        StepKind::Reduction => {
-            check_reduction(
-                prefix, clauses, steps, offsets, inputs, numbered, step, kept, scratch,
-            )
-        }
+        StepKind::Resolution => check_resolution(prefix, known, step, scratch),
+        StepKind::Reduction => check_reduction(prefix, known, step, kept, scratch),
     }
 }
 
-// Right: where the next step begins, the variable whose row stands in the scratch, 0 for none, and whether the step's clause is empty.
+// Of a right step: where the next one begins, the variable whose row stands in the scratch, 0 for none, and whether its clause is empty.
 #[derive(Clone, Copy)]
-pub enum StepAnswer {
-    Right {
-        next: usize,
-        kept: usize,
-        empty: bool,
-    },
-    Wrong(Reason),
+pub struct StepTaken {
+    pub next: usize,
+    pub kept: usize,
+    pub empty: bool,
 }
 
 // The variable whose row stands in the scratch after a right step: that of the reduced literal, or the one before a resolution.
@@ -85,30 +69,31 @@ pub fn check_step<'a>(
     family: Family,
     kept: usize,
     scratch: &mut [u8],
-) -> StepAnswer
-    requires kept_ready_1 { KeptReady prefix.now clauses.now kept scratch.old }
-    requires kept_ready_2 { Admitted prefix.now clauses.now }
-    requires kept_ready_3 { at < length steps.now }
-    requires numbered_in_bounds_1 { numbered ≤ length offsets.now }
-    requires numbered_in_bounds_2 { AllWords InRange (stored inputs clauses.now steps.now offsets.now numbered) }
+) -> Result<StepTaken, Reason>
+    requires kept_ready { KeptReady prefix.now clauses.now kept scratch.old }
+    requires admitted { Admitted prefix.now clauses.now }
+    requires at_in_bounds { at < length steps.now }
+    requires numbered_in_bounds { numbered ≤ length offsets.now }
+    requires known_in_range { AllWords InRange (stored inputs clauses.now steps.now offsets.now numbered) }
     ensures { StepChecked prefix.now clauses.now at kept (judge_read (scope_of prefix.now clauses.now) (length offsets.now) (stored inputs clauses.now steps.now offsets.now numbered) (read_step family (drop at steps.now))) result scratch.new }
 {
-    match read_step(steps, at, family) {
-        Reading::Broken => StepAnswer::Wrong(Reason::BrokenStep),
-        Reading::Step(step) => {
-            if offsets.len() <= numbered {
-                return StepAnswer::Wrong(Reason::NoRoom);
-            }
-            match judge_step(
-                prefix, clauses, steps, offsets, inputs, numbered, step, kept, scratch,
-            ) {
-                Judgement::Right => StepAnswer::Right {
-                    next: step.next,
-                    kept: kept_after(step, kept),
-                    empty: is_empty(steps, step.statement),
-                },
-                Judgement::Wrong(reason) => StepAnswer::Wrong(reason),
-            }
-        }
+    let Some(step) = read_step(steps, at, family) else {
+        return Err(Reason::BrokenStep);
+    };
+    if offsets.len() <= numbered {
+        return Err(Reason::NoRoom);
     }
+    let known = Known {
+        clauses,
+        steps,
+        offsets,
+        inputs,
+        count: numbered,
+    };
+    judge_step(prefix, known, step, kept, scratch)?;
+    Ok(StepTaken {
+        next: step.next,
+        kept: kept_after(step, kept),
+        empty: is_empty(steps, step.statement),
+    })
 }

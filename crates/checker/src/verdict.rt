@@ -2,9 +2,12 @@
 use formula::literal::ClauseNumber;
 use formula::refusal::Refusal;
 
-// Accepted, with the first empty clause's number and the number of steps; or the refusal.
-#[derive(Clone, Copy)]
-pub enum Verdict {
-    Accepted { empty: ClauseNumber, steps: usize },
-    Refused(Refusal),
+// Of an accepted proof, the first empty clause's number and the number of steps.
+#[derive(Clone, Copy, Debug, PartialEq, Eq)]
+pub struct Accepted {
+    pub empty: ClauseNumber,
+    pub steps: usize,
 }
+
+// Accepted, or the refusal.
+pub type Verdict = Result<Accepted, Refusal>;

@@ -2,20 +2,17 @@
 -- in Answer/Laws.antt.
 pub mod Laws
 pub mod Sizes
+use Rattle.std.specs.Prelude.{Result, Ok, Err, ⊤}
 use Rattle.std.specs.Prelude.{ℕ, zero, suc, ◌-◌, ◌≡◌, Bool, false, ◌&&◌, List, [], ◌∷◌, ◌++◌, length, get_or, replicate, eqb, leb, ℤ, pos, negsuc, nat_abs}
 use Rattle.std.proofs.Math.Option.{Option, none, some}
 use Rattle.qbf.specs.Formula.{Formula, Prefix, universal}
-use Rattle.formula.specs.Refusal.{refusal, require, unless}
+use Rattle.formula.specs.Refusal.{passes, refusal, require, unless}
 use Rattle.formula.specs.Prefix.{prefix_of, quantifies}
 use Rattle.formula.specs.Tables.{tables_refusal, first_refusal}
 use Rattle.formula.specs.Decode.{formula_of}
 use Rattle.formula.specs.declared.literal.Variable.{Variable}
-use Rattle.formula.specs.declared.word.Word.{Word}
-use Rattle.formula.specs.declared.word.Word.TheVariants.{Positive}
 use Rattle.formula.specs.declared.refusal.Refusal.{Refusal}
 use Rattle.formula.specs.declared.refusal.Reason.TheVariants.{NoRoom, NotUniversal}
-use Rattle.dependency.specs.declared.answer.RowAnswer.{RowAnswer}
-use Rattle.dependency.specs.declared.answer.RowAnswer.TheVariants.{Filled, Refused}
 use Rattle.dependency.specs.Row.{mark, row_of}
 
 -- A universal is asked for by its number; anything else asks for none.
@@ -34,8 +31,9 @@ asked_refusal bytes P variable row scratch = require (universal_asked P variable
 unfoldable pub row_refusal : (bytes : ℕ) → List ℤ → List ℤ → ℤ → (row scratch : ℕ) → Option Refusal
 row_refusal bytes prefix clauses variable row scratch = first_refusal (tables_refusal prefix clauses) (asked_refusal bytes (prefix_of prefix) variable row scratch)
 
-abbrev pub answer_row : Option Refusal → RowAnswer
-answer_row r = unless Refused r Filled
+-- What answers by the refusal that there may be: without one, the variable asked for by its number.
+abbrev pub asked_for : Option Refusal → ℤ → Result Variable Refusal
+asked_for r variable = unless Err r (Ok (record { 0 = nat_abs variable }))
 
 -- The row's buffer of n bytes: the row, and 0 from 1,025 on; wholly 0 after a refusal.
 abbrev pub row_buffer : Option Refusal → Formula → ℕ → ℕ → List ℕ
@@ -43,8 +41,8 @@ row_buffer none F u n = row_of F u ++ replicate (n - 1025) 0
 row_buffer (some r) F u n = replicate n 0
 
 -- What an entry does that asks for so many bytes of scratch: its answer and both buffers, from the tables, the number asked for and the buffers' lengths.
-pub record RowDone (bytes : ℕ) (prefix clauses : List ℤ) (variable : ℤ) (row scratch : List ℕ) (answer : RowAnswer) (row' scratch' : List ℕ) : Type 0 where
-  pub answered : answer ≡ answer_row (row_refusal bytes prefix clauses variable (length row) (length scratch))
+pub record RowDone (bytes : ℕ) (prefix clauses : List ℤ) (variable : ℤ) (row scratch : List ℕ) (answer : Result ⊤ Refusal) (row' scratch' : List ℕ) : Type 0 where
+  pub answered : answer ≡ passes (row_refusal bytes prefix clauses variable (length row) (length scratch))
   pub filled :
       row'
       ≡ row_buffer (row_refusal bytes prefix clauses variable (length row) (length scratch)) (formula_of prefix clauses) (nat_abs variable) (length row)
@@ -62,7 +60,3 @@ asked_bytes row (suc n) = asked_bytes row n ++ (asked_byte row n ∷ [])
 pub record RowFilled (F : Formula) (u : ℕ) (row scratch row' scratch' : List ℕ) : Type 0 where
   pub row_bytes : row' ≡ row_of F u ++ replicate (length row - 1025) 0
   pub scratch_bytes : scratch' ≡ replicate (length scratch) 0
-
--- The number of the variable that a word is.
-pub record Asked (word : Word) (number : ℕ) : Type 0 where
-  pub numbered : (v : Variable) → word ≡ Positive v → number ≡ v.0

@@ -9,6 +9,7 @@ use Rattle.std.specs.Prelude.{ℕ, zero, suc, ◌+◌, ◌*◌, ◌-◌, ◌/◌
 use Rattle.bits.specs.Flags.{flags, flag}
 use Rattle.qbf.specs.Formula.{Prefix}
 use Rattle.formula.specs.Decode.{clause_at, words_after}
+use Rattle.dependency.specs.declared.marks.Seen.{Seen}
 use Rattle.dependency.specs.declared.pass.ClauseEntries.{ClauseEntries}
 use Rattle.dependency.specs.Marks.{select, reach_at, clause_entry, reach_clause}
 use Rattle.dependency.specs.Search.{open_entries}
@@ -44,10 +45,10 @@ marks_of s fs = tab (mark_at s fs) 2050
 unfoldable pub marks_in : Bool → List ℕ → List ℕ
 marks_in s bytes = marks_of s (flags bytes)
 
--- Of two numbers the one for a search.
-abbrev pub seen_by : Bool → ℕ → ℕ → ℕ
-seen_by true positive negative = positive
-seen_by false positive negative = negative
+-- What is known of a clause's entries for one search.
+abbrev pub seen_by : Bool → Seen → ℕ
+seen_by true seen = seen.positive
+seen_by false seen = seen.negative
 
 -- A literal is reached for one search, and the other's marks stay.
 pub record ReachedAt (entry : ℕ) (s : Bool) (at : ℕ) (bytes bytes' : List ℕ) : Type 0 where
@@ -56,13 +57,13 @@ pub record ReachedAt (entry : ℕ) (s : Bool) (at : ℕ) (bytes bytes' : List �
 
 -- What is known of the entries of the clause at `from`, and that the next clause is found where the search from u has none.
 pub record EntriesSeen (ws : List ℤ) (from : ℕ) (bytes : List ℕ) (r : ClauseEntries) : Type 0 where
-  pub seen : (s : Bool) → seen_by s r.positive r.negative ≡ clause_entry (marks_in s bytes) 0 (clause_at ws from)
-  pub later : r.positive ≡ 0 → drop r.next ws ≡ words_after ws from
+  pub seen : (s : Bool) → seen_by s r.seen ≡ clause_entry (marks_in s bytes) 0 (clause_at ws from)
+  pub later : r.seen.positive ≡ 0 → drop r.next ws ≡ words_after ws from
   pub further : from < length ws → from < r.next
 
 -- The marks after the clause of the words at `from` is done, and where the next one begins.
-pub record ClauseReached (ws : List ℤ) (from positive negative : ℕ) (bytes bytes' : List ℕ) (next : ℕ) : Type 0 where
-  pub marks : (s : Bool) → marks_in s bytes' ≡ reach_clause (seen_by s positive negative) (clause_at ws from) (marks_in s bytes)
+pub record ClauseReached (ws : List ℤ) (from : ℕ) (seen : Seen) (bytes bytes' : List ℕ) (next : ℕ) : Type 0 where
+  pub marks : (s : Bool) → marks_in s bytes' ≡ reach_clause (seen_by s seen) (clause_at ws from) (marks_in s bytes)
   pub later : drop next ws ≡ words_after ws from
   pub further : from < length ws → from < next
 

@@ -5,94 +5,72 @@ ghost use Rattle.dependency.specs.Marks.{Boundary, ClauseBefore, pass};
 ghost use Rattle.dependency.specs.Search.{ordered};
 ghost use Rattle.dependency.specs.Bits.{marks_in, EntriesSeen, ClauseReached, ClausePassed};
 
-use crate::marks::{reach_word, see_word};
+use crate::marks::{SEVERAL, Seen, reach_word, see_word};
+use crate::scratch::SMALL;
 use formula::word::Word;
 
-// What is known of a clause's entries, for each search, and where the next clause begins if there are none.
+// What is known of a clause's entries, and where the next clause begins if there are none.
 #[derive(Clone, Copy)]
 pub struct ClauseEntries {
-    pub positive: usize,
-    pub negative: usize,
+    pub seen: Seen,
     pub next: usize,
 }
 
 // The entries of the clause that begins at `from`; entries of two variables settle it for a search.
-fn clause_entry(clauses: &[i32], from: usize, marks: &[u8]) -> ClauseEntries
-    requires { length marks.now ≡ 640 }
+fn clause_entry(clauses: &[i32], from: usize, marks: &[u8; SMALL]) -> ClauseEntries
     ensures { EntriesSeen clauses.now from marks.now result }
 {
-    let mut positive = 0;
-    let mut negative = 0;
-    let mut i = from;
-    while i < clauses.len() {
+    let mut seen = Seen {
+        positive: 0,
+        negative: 0,
+    };
+    for i in from..clauses.len() {
         let word = clauses[i];
-        i += 1;
         if Word::is_zero(word) {
-            return ClauseEntries {
-                positive,
-                negative,
-                next: i,
-            };
+            return ClauseEntries { seen, next: i + 1 };
         }
-        let seen = see_word(marks, word, positive, negative);
-        positive = seen.positive;
-        negative = seen.negative;
-        if (positive == 1_025) & (negative == 1_025) {
-            return ClauseEntries {
-                positive,
-                negative,
-                next: i,
-            };
+        seen = see_word(marks, word, seen);
+        if (seen.positive == SEVERAL) & (seen.negative == SEVERAL) {
+            return ClauseEntries { seen, next: i + 1 };
         }
     }
     ClauseEntries {
-        positive,
-        negative,
-        next: i,
+        seen,
+        next: clauses.len(),
     }
 }
 
 // Marks what the clause's entries reach, and answers where the next clause begins.
-fn reach_clause(
-    clauses: &[i32],
-    from: usize,
-    positive: usize,
-    negative: usize,
-    marks: &mut [u8],
-) -> usize
-    requires { length marks.old ≡ 640 }
-    ensures { ClauseReached clauses.now from positive negative marks.old marks.new result }
+fn reach_clause(clauses: &[i32], from: usize, seen: Seen, marks: &mut [u8; SMALL]) -> usize
+    ensures { ClauseReached clauses.now from seen marks.old marks.new result }
 {
-    let mut i = from;
-    while i < clauses.len() {
+    for i in from..clauses.len() {
         let word = clauses[i];
-        i += 1;
         if Word::is_zero(word) {
-            return i;
+            return i + 1;
         }
-        reach_word(positive, negative, word, marks);
+        reach_word(seen, word, marks);
     }
-    i
+    clauses.len()
 }
 
 // One clause of a pass, and where the next one begins. A clause without entries is left at once.
-fn pass_clause(clauses: &[i32], from: usize, marks: &mut [u8]) -> usize
-    requires { length marks.old ≡ 640 }
+fn pass_clause(clauses: &[i32], from: usize, marks: &mut [u8; SMALL]) -> usize
     ensures { ClausePassed clauses.now from marks.old marks.new result }
 {
     let entries = clause_entry(clauses, from, marks);
-    if (entries.positive == 0) & (entries.negative == 0) {
+    if (entries.seen.positive == 0) & (entries.seen.negative == 0) {
         return entries.next;
     }
-    reach_clause(clauses, from, entries.positive, entries.negative, marks)
+    reach_clause(clauses, from, entries.seen, marks)
 }
 
 // One pass from the first clause to the last.
-fn pass_forth(clauses: &[i32], marks: &mut [u8])
-    requires { length marks.old ≡ 640 }
+fn pass_forth(clauses: &[i32], marks: &mut [u8; SMALL])
     ensures { (s : Bool) → marks_in s marks.new ≡ pass (clauses_of clauses.now) (marks_in s marks.old) }
 {
     let mut at = 0;
+    // Clauses are of differing length: where the next one begins is known behind this one.
     while at < clauses.len() {
         at = pass_clause(clauses, at, marks);
     }
@@ -105,24 +83,20 @@ fn clause_start(clauses: &[i32], end: usize) -> usize
     requires fact_3 { Boundary clauses.now end }
     ensures { ClauseBefore clauses.now end result }
 {
-    let mut i = end - 1;
-    while 0 < i {
-        let j = i - 1;
-        let word = clauses[j];
-        if Word::is_zero(word) {
+    for i in (1..end).rev() {
+        if Word::is_zero(clauses[i - 1]) {
             return i;
         }
-        i = j;
     }
-    i
+    0
 }
 
 // One pass from the last clause to the first.
-fn pass_back(clauses: &[i32], marks: &mut [u8])
-    requires { length marks.old ≡ 640 }
+fn pass_back(clauses: &[i32], marks: &mut [u8; SMALL])
     ensures { (s : Bool) → marks_in s marks.new ≡ pass (reverse (clauses_of clauses.now)) (marks_in s marks.old) }
 {
     let mut end = clauses.len();
+    // Clauses are of differing length: where the one before ends is known once this one's start is found.
     while 0 < end {
         let from = clause_start(clauses, end);
         pass_clause(clauses, from, marks);
@@ -131,8 +105,7 @@ fn pass_back(clauses: &[i32], marks: &mut [u8])
 }
 
 // One pass, in either direction.
-pub fn pass(clauses: &[i32], back: bool, marks: &mut [u8])
-    requires { length marks.old ≡ 640 }
+pub fn pass(clauses: &[i32], back: bool, marks: &mut [u8; SMALL])
     ensures { (s : Bool) → marks_in s marks.new ≡ pass (ordered back (clauses_of clauses.now)) (marks_in s marks.old) }
 {
     if back {

@@ -8,38 +8,38 @@ ghost use Rattle.formula.specs.Decode.{formula_of};
 ghost use Rattle.dependency.specs.Scratch.{small_bound, row_in, RowMade};
 ghost use Rattle.dependency.specs.Bits.{depends_at, RowFlags};
 
-use crate::scratch::{LATER, ROW};
+use crate::marks::{Slot, VARIABLES, is_entry};
+use crate::scratch::{LATER, ROW, SMALL};
 use crate::search::search;
 use bits::{is_set, put};
-use formula::clear::clear_bytes;
+use formula::clear::clear_tail;
 use formula::literal::Variable;
 
 // Whether the variable v + 1 depends on u: it may be passed, and u is joined to it and −u to its opposite, or u to its opposite and −u to it. That a literal is
 // reached is told by its opposite's flag.
-fn depends_at(work: &[u8], v: usize) -> bool
-    requires fact_1 { length work.now ≡ 640 }
-    requires fact_2 { v < 1024 }
+fn depends_at(work: &[u8; SMALL], v: usize) -> bool
+    requires { v < 1024 }
     ensures { result ≡ depends_at (flags work.now) v }
 {
-    if is_set(work, 2_048 + v) {
-        let at = 2 * v;
-        let straight = is_set(work, at + 1) & is_set(work, 3_072 + at);
-        let crossed = is_set(work, at) & is_set(work, 3_073 + at);
+    let variable = v + 1;
+    if is_set(work, VARIABLES + variable) {
+        let at = 2 * variable;
+        let own = Slot { at };
+        let opposite = Slot { at: at + 1 };
+        let straight = is_entry(work, true, opposite) & is_entry(work, false, own);
+        let crossed = is_entry(work, true, own) & is_entry(work, false, opposite);
         return straight | crossed;
     }
     false
 }
 
 // Of the variables that may be passed those stay that depend on u.
-fn fill_row(work: &mut [u8])
-    requires { length work.old ≡ 640 }
+fn fill_row(work: &mut [u8; SMALL])
     ensures { RowFlags (flags work.old) (flags work.new) 1024 }
 {
-    let mut v = 0;
-    while v < 1_024 {
+    for v in 0..1_024 {
         let depends = depends_at(work, v);
-        put(work, 2_048 + v, depends);
-        v += 1;
+        put(work, VARIABLES + 1 + v, depends);
     }
 }
 
@@ -51,10 +51,11 @@ pub fn make_row(prefix: &[i32], clauses: &[i32], variable: Variable, work: &mut 
     requires work_len { length work.old ≡ small_bound }
     ensures { RowMade (formula_of prefix.now clauses.now) variable.0 work.new }
 {
-    search(prefix, clauses, variable, work);
-    fill_row(work);
-    clear_bytes(&mut work[..ROW], 0);
-    clear_bytes(work, LATER);
+    let marks = work.first_chunk_mut::<SMALL>().unwrap();
+    search(prefix, clauses, variable, marks);
+    fill_row(marks);
+    clear_tail(&mut marks[..ROW], 0, 0);
+    clear_tail(marks, LATER, 0);
 }
 
 // By the row that stands in scratch, the variable of this number depends on the row's universal.
@@ -66,5 +67,5 @@ pub fn depends_in(scratch: &[u8], variable: usize) -> bool
     if variable == 0 {
         return false;
     }
-    is_set(scratch, 2_047 + variable)
+    is_set(scratch, VARIABLES + variable)
 }

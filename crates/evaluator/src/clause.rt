@@ -1,22 +1,11 @@
 // Literals and clauses under the values given. A clause is left at its first true literal. Every word has a meaning here,
 // so nothing is required of the tables.
-ghost use Rattle.std.specs.Prelude.{◌≡◌, get_or, nat_abs};
+ghost use Rattle.std.specs.Prelude.{◌≡◌, get_or};
 ghost use Rattle.qbf.specs.Play.{true_literal, satisfied};
 ghost use Rattle.formula.specs.Decode.{literal_of, clause_at, clause_of};
 ghost use Rattle.evaluator.specs.Values.{values_of};
 
 use formula::word::Word;
-
-// The variable of a word. For a negative one the sum comes first, since the lowest number has no opposite.
-fn magnitude(word: i32) -> usize
-    ensures { result ≡ nat_abs word }
-{
-    if word < 0 {
-        (-(word + 1)) as usize + 1
-    } else {
-        word as usize
-    }
-}
 
 // The value of a variable; one that the values do not reach has 0.
 fn value(values: &[u8], v: usize) -> u8
@@ -29,7 +18,7 @@ fn value(values: &[u8], v: usize) -> u8
 fn literal_true(values: &[u8], word: i32) -> bool
     ensures { result ≡ true_literal (values_of values.now) (literal_of word) }
 {
-    let b = value(values, magnitude(word));
+    let b = value(values, word.unsigned_abs() as usize);
     if word < 0 { b != 1 } else { b == 1 }
 }
 
@@ -37,8 +26,7 @@ fn literal_true(values: &[u8], word: i32) -> bool
 pub fn clause_satisfied(values: &[u8], clauses: &[i32], from: usize) -> bool
     ensures { result ≡ satisfied (values_of values.now) (clause_of (clause_at clauses.now from)) }
 {
-    let mut i = from;
-    while i < clauses.len() {
+    for i in from..clauses.len() {
         let word = clauses[i];
         if Word::is_zero(word) {
             return false;
@@ -46,7 +34,6 @@ pub fn clause_satisfied(values: &[u8], clauses: &[i32], from: usize) -> bool
         if literal_true(values, word) {
             return true;
         }
-        i += 1;
     }
     false
 }

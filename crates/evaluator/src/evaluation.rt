@@ -1,48 +1,19 @@
 // The evaluator: plays the game of admitted tables of up to 16 variables, from the first position to the end.
-ghost use Rattle.std.specs.Prelude.{◌≡◌, leb};
+ghost use Rattle.std.specs.Prelude.{◌≡◌};
 ghost use Rattle.qbf.specs.Play.{lost};
 ghost use Rattle.formula.specs.Prefix.{prefix_of, Entries};
 ghost use Rattle.formula.specs.Decode.{matrix_of};
 ghost use Rattle.formula.specs.Tables.{Admitted};
-ghost use Rattle.evaluator.specs.Evaluation.{game_bound, game_fit, unset, evaluation_of};
+ghost use Rattle.evaluator.specs.Evaluation.{unset, evaluation_of};
 
 use crate::turns::{existential_turn, universal_due, universal_turn};
+use formula::bounds::AtMost;
 use formula::prefix::entry_count;
 use formula::refusal::{Reason, Refusal};
-use formula::tables::{TablesAnswer, check_tables};
-
-// True where the first position is not lost, or the refusal.
-#[derive(Clone, Copy)]
-pub enum Evaluation {
-    True,
-    False,
-    Refused(Refusal),
-}
+use formula::tables::check_tables;
 
 // How many variables a game has that is played.
-#[derive(Clone, Copy)]
-pub struct GameLength(pub usize);
-
-#[derive(Clone, Copy)]
-pub enum GameFit {
-    Within(GameLength),
-    Oversized,
-}
-
-impl GameLength {
-    pub const MAX: usize = 16;
-
-    // A length that is played.
-    pub fn new(n: usize) -> GameFit
-        ensures { result ≡ game_fit (leb n game_bound) n }
-    {
-        if n <= GameLength::MAX {
-            GameFit::Within(GameLength(n))
-        } else {
-            GameFit::Oversized
-        }
-    }
-}
+pub type GameLength = AtMost<16>;
 
 // The first position is lost: the side of the first variable begins.
 fn first_lost(prefix: &[i32], clauses: &[i32]) -> bool
@@ -57,32 +28,21 @@ fn first_lost(prefix: &[i32], clauses: &[i32]) -> bool
     }
 }
 
-// The game of admitted tables.
-fn play(prefix: &[i32], clauses: &[i32]) -> Evaluation
+// The game of admitted tables: whether the first position is not lost.
+fn play(prefix: &[i32], clauses: &[i32]) -> Result<bool, Refusal>
     requires { Admitted prefix.now clauses.now }
     ensures { result ≡ evaluation_of prefix.now clauses.now }
 {
-    match GameLength::new(entry_count(prefix)) {
-        GameFit::Oversized => Evaluation::Refused(Refusal::new(Reason::Oversized, 0)),
-        GameFit::Within(_) => {
-            if first_lost(prefix, clauses) {
-                Evaluation::False
-            } else {
-                Evaluation::True
-            }
-        }
-    }
+    let Some(_) = GameLength::new(entry_count(prefix)) else {
+        return Err(Refusal::new(Reason::Oversized, 0));
+    };
+    Ok(!first_lost(prefix, clauses))
 }
 
-// The evaluator's one entry, for tables of any kind.
-pub fn evaluate(prefix: &[i32], clauses: &[i32]) -> Evaluation
+// The evaluator's one entry, for tables of any kind: whether the formula is true, or the refusal.
+pub fn evaluate(prefix: &[i32], clauses: &[i32]) -> Result<bool, Refusal>
     ensures { result ≡ evaluation_of prefix.now clauses.now }
 {
-    match check_tables(prefix, clauses) {
-        TablesAnswer::Refused(r) => Evaluation::Refused(r),
-        TablesAnswer::Admitted {
-            variables: _,
-            clauses: _,
-        } => play(prefix, clauses),
-    }
+    check_tables(prefix, clauses)?;
+    play(prefix, clauses)
 }

@@ -13,15 +13,12 @@ fn next_clause(clauses: &[i32], from: usize) -> usize
     ensures clauses_value { drop result clauses.now ≡ words_after clauses.now from }
     ensures lower_bound { from < result }
 {
-    let mut i = from;
-    while i < clauses.len() {
-        let word = clauses[i];
-        i += 1;
-        if Word::is_zero(word) {
-            return i;
+    for i in from..clauses.len() {
+        if Word::is_zero(clauses[i]) {
+            return i + 1;
         }
     }
-    i
+    clauses.len()
 }
 
 // Some clause has no true literal.
@@ -29,6 +26,7 @@ pub fn matrix_falsified(values: &[u8], clauses: &[i32]) -> bool
     ensures { result ≡ falsified (values_of values.now) (matrix_of clauses.now) }
 {
     let mut i = 0;
+    // Clauses are of differing length: where the next one starts is known behind this one.
     while i < clauses.len() {
         if clause_satisfied(values, clauses, i) {
             i = next_clause(clauses, i);

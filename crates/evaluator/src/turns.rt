@@ -1,5 +1,6 @@
 // The game's two turns. Each sets the first variable left to 0 and, where that does not decide, to 1, and hands the
 // rest of the prefix to the side that is due; the values are put back before it answers.
+// Two functions, and not one with the quantifier as a value: the specification names the form of two that call each other.
 ghost use Rattle.std.specs.Prelude.{◌≡◌, ◌<◌, length};
 ghost use Rattle.qbf.specs.Formula.{existential, universal};
 ghost use Rattle.qbf.specs.Play.{lost};

@@ -41,6 +41,7 @@ fn read_open(file: &mut impl Read, buffer: &mut [u8]) -> usize
 {
     let mut at = 0;
     let mut tries = TRIES;
+    // No `for`: its bound, the bytes and the tries together, would need an answer behind it that no reading comes to.
     loop {
         let (got, error) = read_once(file, &mut buffer[at..]);
         match after_read(got, error, at, buffer.len(), tries) {
@@ -77,7 +78,7 @@ fn tell_unwritten(rt: &impl Eprint, error: Error) {
     let _ = eprintln!(rt; "standard output: {error}");
 }
 
-// Prints the first n bytes of the text. Where they cannot be written, standard error says so.
+// Prints the first n bytes of the text, none where it has fewer: n may be what a caller was answered. Where they cannot be written, standard error says so.
 pub fn print_first(rt: &(impl Print + Eprint), text: &[u8], n: usize) {
     if n <= text.len() {
         if let Err(error) = rt.write_all(&text[..n]) {

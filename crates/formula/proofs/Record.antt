@@ -1,8 +1,10 @@
 -- Records of a prefix under the check, by their words: what a table lists with one more of them, before a place and from one on; and the check
 -- so far: the refusal of the whole prefix is that of the records to come, the marks being those of the variables before. Assumes nothing.
+use Rattle.std.specs.Prelude.{Ok}
+use Rattle.formula.specs.declared.tables.LastEntry.{LastEntry}
 use Prim.Native.Nat.{ℕ, suc, ◌+◌, ◌/◌, ◌%◌, ◌≤◌, ◌<◌}
 use mathlib.Core.Path.{◌≡◌, refl, ap, sym, ◌∙◌}
-use mathlib.Core.Bool.{false, ◌||◌, or_comm}
+use mathlib.Core.Bool.{◌||◌, or_comm}
 use mathlib.Core.Option.{none, some}
 use mathlib.Core.List.{List, [], ◌∷◌, ◌++◌, append-nil}
 use native.Mathlib.Omega.{arith}
@@ -17,7 +19,6 @@ use Rattle.formula.specs.Tables.{is_in, variable_word, quantifier_word, block_wo
 use Rattle.formula.specs.Tables.Scan.{Listing, Lists, EntryStep}
 use Rattle.formula.proofs.Theorems.Text.Sets.Laws.{listed_snoc}
 use Rattle.formula.specs.declared.refusal.Refusal.{Refusal}
-use Rattle.formula.specs.declared.tables.EntryCheck.TheVariants.{Passed as EntryPassed}
 
 drop_record : (ws : List ℤ) (at : ℕ) → at + 2 < length ws → drop at ws ≡ get_or ws at (pos 0) ∷ get_or ws (at + 1) (pos 0) ∷ get_or ws (at + 2) (pos 0) ∷ drop (at + 3) ws
 drop_record ws at h =
@@ -45,16 +46,6 @@ short (v ∷ []) h at last block seen = (refl, refl)
 short (v ∷ q ∷ []) h at last block seen = (refl, refl)
 short (v ∷ q ∷ c ∷ us) h at last block seen = absurd (omega arith)
 
--- What the words from a place on list: the record there, or what is listed after it; nothing where no record is left.
-module _ (ws : List ℤ) (at : ℕ) (v : ℕ) where
-  pub listed_from : at + 2 < length ws → listed_in (drop at ws) v ≡ (eqb v (ordinal (get_or ws at (pos 0))) || listed_in (drop (at + 3) ws) v)
-  unfolding prefix_of is_in
-  listed_from h = rw (drop_record ws at h)
-
-  pub listed_none : length ws ≤ at + 2 → listed_in (drop at ws) v ≡ false
-  unfolding is_in
-  listed_none h = rw (short (drop at ws) (rw (length-drop at ws) (omega arith)) 0 0 0 []).1
-
 -- What the records before a place list: with one more of them, and with all.
 module _ (ws : List ℤ) (at : ℕ) (threes : at % 3 ≡ 0) where
   entries_before : at ≤ length ws → (us : List ℤ) → prefix_of (take at ws ++ us) ≡ prefix_of (take at ws) ++ prefix_of us
@@ -74,27 +65,27 @@ module _ (ws : List ℤ) (at : ℕ) (threes : at % 3 ≡ 0) where
       ∙ rw (short (drop at ws) (rw (length-drop at ws) (omega arith)) 0 0 0 []).1 (append-nil (prefix_of (take at ws)))
 
 -- The check so far.
-pub record PrefixSoFar (ws : List ℤ) (marks : List ℕ) (at last block : ℕ) : Type 0 where
+pub record PrefixSoFar (ws : List ℤ) (marks : List ℕ) (at : ℕ) (last : LastEntry) : Type 0 where
   pub within : at ≤ length ws
   pub threes : at % 3 ≡ 0
-  pub low : block ≤ at
+  pub low : last.block ≤ at
   pub listing : Listing (take at ws) marks
   pub seen : List ℕ
   pub lists : Lists (take at ws) seen
-  pub same : prefix_refusal 0 [] 0 0 ws ≡ prefix_refusal at seen last block (drop at ws)
+  pub same : prefix_refusal 0 [] 0 0 ws ≡ prefix_refusal at seen last.quantifier last.block (drop at ws)
 
-pub prefix_begins : (ws : List ℤ) (marks : List ℕ) → Listing [] marks → PrefixSoFar ws marks 0 0 0
+pub prefix_begins : (ws : List ℤ) (marks : List ℕ) → Listing [] marks → PrefixSoFar ws marks 0 (record { quantifier = 0; block = 0 })
 unfolding is_in prefix_of
 prefix_begins ws marks m =
     record { within = omega arith; threes = refl; low = omega arith; listing = m; seen = []; lists = record { says = λ v. refl }; same = refl }
 
-module _ {ws : List ℤ} {marks : List ℕ} {at last block : ℕ} (I : PrefixSoFar ws marks at last block) where
-  pub prefix_refuses : {r : Refusal} → ((seen : List ℕ) → Lists (take at ws) seen → prefix_refusal at seen last block (drop at ws) ≡ some r) → prefix_refusal 0 [] 0 0 ws ≡ some r
+module _ {ws : List ℤ} {marks : List ℕ} {at : ℕ} {last : LastEntry} (I : PrefixSoFar ws marks at last) where
+  pub prefix_refuses : {r : Refusal} → ((seen : List ℕ) → Lists (take at ws) seen → prefix_refusal at seen last.quantifier last.block (drop at ws) ≡ some r) → prefix_refusal 0 [] 0 0 ws ≡ some r
   prefix_refuses s = I.same ∙ s I.seen I.lists
 
-  pub prefix_goes_on : at + 2 < length ws → (q b : ℕ) (marks' : List ℕ) → EntryStep ws at last block (EntryPassed q b) marks' → PrefixSoFar ws marks' (at + 3) q b
+  pub prefix_goes_on : at + 2 < length ws → (next : LastEntry) (marks' : List ℕ) → EntryStep ws at last (Ok next) marks' → PrefixSoFar ws marks' (at + 3) next
   unfolding is_in
-  prefix_goes_on h q b marks' s =
+  prefix_goes_on h next marks' s =
       record {
         within = omega arith;
         threes = omega (arith, I.threes);
@@ -107,6 +98,6 @@ module _ {ws : List ℤ} {marks : List ℕ} {at last block : ℕ} (I : PrefixSoF
 
   pub prefix_ends : length ws ≤ at + 2 → (prefix_refusal 0 [] 0 0 ws ≡ none) × Listing ws marks
   prefix_ends h =
-      let s = short (drop at ws) (omega (arith, length-drop at ws, I.within)) at last block I.seen in
+      let s = short (drop at ws) (omega (arith, length-drop at ws, I.within)) at last.quantifier last.block I.seen in
       let e = entries_all ws at I.threes I.within h in
       (I.same ∙ s.0, record { size = I.listing.size; says = λ k v l u. rw e (I.listing.says k v l u) })

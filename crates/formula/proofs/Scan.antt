@@ -1,5 +1,6 @@
 -- Laws of the parts of the check of tables: one word of each scan by its place, marks against the variables that a table lists, and one whole
 -- clause judged by where its literals end and where they clash. Assumes nothing.
+use Rattle.std.specs.Prelude.{Ok, Err}
 use Prim.Native.Nat.{ℕ, zero, suc, ◌+◌, ◌-◌, ◌*◌, ◌≤◌, ◌<◌}
 use mathlib.Core.Path.{◌≡◌, refl, ap, sym, ◌∙◌, subst}
 use mathlib.Core.Logic.{◌⊎◌, inl, inr}
@@ -21,16 +22,13 @@ use Rattle.bits.specs.Flags.{flags}
 use Rattle.bits.specs.Flags.Laws.{length_flags, flags_zeros}
 use Rattle.formula.specs.Bounds.{variable_bound, in_range}
 use Rattle.formula.specs.Word.{word_of}
-use Rattle.formula.specs.Refusal.{refusal}
+use Rattle.formula.specs.Refusal.{passes, refusal}
 use Rattle.formula.specs.Prefix.{prefix_of, entry_count}
 use Rattle.formula.specs.Decode.Laws.{magnitude_same, magnitude_negated}
-use Rattle.formula.specs.Tables.{is_in, zeros, literal_word, clause_word, clauses_end, clauses_refusal, listed_in, sized, first_refusal, words_refusal, tables_refusal, answer_tables, tables_answer}
-use Rattle.formula.proofs.Theorems.Tables.Laws.{zeros_cons, clause_word_zero, clause_word_large, clause_word_literal}
-use Rattle.formula.specs.Tables.Scan.{AllOrNone, marks_used, marked, Listing, variables_before, further, plain_run, clash_free, ClauseStep, check_of}
+use Rattle.formula.specs.Tables.{is_in, zeros, literal_word, clause_word, clauses_end, clauses_refusal, listed_in, sized, first_refusal, words_refusal, tables_refusal, answer_tables, tables_answer, admits}
+use Rattle.formula.proofs.Theorems.Tables.Laws.{clause_word_zero, clause_word_large, clause_word_literal}
+use Rattle.formula.specs.Tables.Scan.{AllOrNone, marks_used, marked, Listing, variables_before, further, plain_run, clash_free, ClauseStep}
 use Rattle.formula.specs.declared.refusal.Refusal.{Refusal}
-use Rattle.formula.specs.declared.tables.TablesAnswer.TheVariants.{Admitted as TablesAdmitted, Refused as TablesRefused}
-use Rattle.formula.specs.declared.tables.Check.TheVariants.{Passed, Refused}
-use Rattle.formula.specs.declared.tables.ClauseCheck.TheVariants.{Closed, Refused as Stopped}
 use Rattle.formula.specs.declared.refusal.Reason.TheVariants.{Oversized, OutOfRange, Unbound, Clash, Unfinished}
 
 -- The marks used are lent, and are all or none.
@@ -40,15 +38,6 @@ marks_used_fit lent = go (ltb lent 128) refl
     go : (b : Bool) → ltb lent 128 ≡ b → (cond b 0 128 ≤ lent) × AllOrNone (cond b 0 128)
     go true e = (omega arith, λ h. absurd (omega arith))
     go false e = (ltb-false lent 128 e, λ h. refl)
-
--- Zeros, by the word at a place.
-module _ (ws : List ℤ) (i : ℕ) (h : i < length ws) where
-  pub zeros_at_zero : get_or ws i (pos 0) ≡ pos 0 → zeros (drop i ws) ≡ suc (zeros (drop (suc i) ws))
-  unfolding zeros
-  zeros_at_zero e = rw (drop-cons ws i (pos 0) h, e)
-
-  pub zeros_at_literal : (get_or ws i (pos 0) ≡ pos 0 → ⊥) → zeros (drop i ws) ≡ zeros (drop (suc i) ws)
-  zeros_at_literal n = rw (drop-cons ws i (pos 0) h) (zeros_cons (get_or ws i (pos 0)) (drop (suc i) ws) n)
 
 -- Marks: none at first; one more variable, which the table then lists besides.
 pub listing_none : (bytes : ℕ) → AllOrNone bytes → Listing [] (replicate bytes 0)
@@ -286,7 +275,7 @@ module _ (known : ℕ → Bool) where
       go false e later k = e
 
 -- A refusal is no place to go on at.
-stopped : {r : Refusal} {next : ℕ} {A : Type 0} → Stopped r ≡ Closed next → A
+stopped : {r : Refusal} {next : ℕ} {A : Type 0} → Err r ≡ Ok next → A
 stopped e = let z : ◌≡◌ {A = ℕ} 0 1 = cc in absurd (omega arith)
 
 -- The clause that begins at `from`, by the run of its literals: each outcome of `check_clause`.
@@ -298,7 +287,7 @@ module _ (known : ℕ → Bool) (ws : List ℤ) (from : ℕ) where
   abbrev free : ℕ
   free = clash_free [] (take run (drop from ws))
 
-  pub clause_clash : free < run → ClauseStep known ws from (Stopped (refusal Clash (from + free)))
+  pub clause_clash : free < run → ClauseStep known ws from (Err (refusal Clash (from + free)))
   clause_clash h = record { same = run_clash known from [] (drop from ws) h; onward = λ next e. stopped e }
 
   module _ (h : run ≤ free) where
@@ -308,7 +297,7 @@ module _ (known : ℕ → Bool) (ws : List ℤ) (from : ℕ) where
         run_passes known from [] (drop from ws) h
         ∙ ap (clauses_refusal known (from + run) (gathered [] (drop from ws) run)) (drop-drop run from ws)
 
-    pub clause_unfinished : from < length ws → length ws ≤ from + run → ClauseStep known ws from (Stopped (refusal Unfinished (from + run)))
+    pub clause_unfinished : from < length ws → length ws ≤ from + run → ClauseStep known ws from (Err (refusal Unfinished (from + run)))
     unfolding clauses_refusal gathered
     clause_unfinished l e = record { same = at_stop ∙ ap (clauses_refusal known (from + run) (gathered [] (drop from ws) run)) (drop_of_length-le ws e) ∙ some_seen; onward = λ next q. stopped q }
       where
@@ -330,7 +319,7 @@ module _ (known : ℕ → Bool) (ws : List ℤ) (from : ℕ) where
       next : List ℕ → Option Refusal
       next s = clauses_refusal known (from + run + 1) s (drop (suc (from + run)) ws)
 
-      pub clause_closed : get_or ws (from + run) (pos 0) ≡ pos 0 → ClauseStep known ws from (Closed (from + run + 1))
+      pub clause_closed : get_or ws (from + run) (pos 0) ≡ pos 0 → ClauseStep known ws from (Ok (from + run + 1))
       unfolding next
       clause_closed z =
           record {
@@ -341,7 +330,7 @@ module _ (known : ℕ → Bool) (ws : List ℤ) (from : ℕ) where
           after : (n : ℕ) → from + run + 1 ≡ n → (from < n) × (n ≤ length ws)
           after n e = (omega arith, omega arith)
 
-      pub clause_large : variable_bound < nat_abs (get_or ws (from + run) (pos 0)) → ClauseStep known ws from (Stopped (refusal OutOfRange (from + run)))
+      pub clause_large : variable_bound < nat_abs (get_or ws (from + run) (pos 0)) → ClauseStep known ws from (Err (refusal OutOfRange (from + run)))
       unfolding next
       clause_large z =
           record {
@@ -352,7 +341,7 @@ module _ (known : ℕ → Bool) (ws : List ℤ) (from : ℕ) where
       pub clause_unbound :
           1 ≤ nat_abs (get_or ws (from + run) (pos 0))
           → nat_abs (get_or ws (from + run) (pos 0)) ≤ variable_bound
-          → ClauseStep known ws from (Stopped (refusal Unbound (from + run)))
+          → ClauseStep known ws from (Err (refusal Unbound (from + run)))
       unfolding next
       clause_unbound b u =
           record {
@@ -373,32 +362,32 @@ module _ (known : ℕ → Bool) (ws : List ℤ) (from : ℕ) where
               rw (le-leb 1 (nat_abs (get_or ws (from + run) (pos 0))) b, le-leb (nat_abs (get_or ws (from + run) (pos 0))) variable_bound u) at e
 
 -- Two parts of the check in order: the first refuses, or the second answers.
-pub first_refuses : (a b : Option Refusal) (r : Refusal) → check_of a ≡ Refused r → check_of (first_refusal a b) ≡ Refused r
+pub first_refuses : (a b : Option Refusal) (r : Refusal) → passes a ≡ Err r → passes (first_refusal a b) ≡ Err r
 first_refuses none b r e = let z : ◌≡◌ {A = ℕ} 0 1 = cc in absurd (omega arith)
 first_refuses (some s) b r e = e
 
-pub first_passes : (a b : Option Refusal) → check_of a ≡ Passed → check_of (first_refusal a b) ≡ check_of b
+pub first_passes : (a b : Option Refusal) → passes a ≡ Ok tt → passes (first_refusal a b) ≡ passes b
 first_passes none b e = refl
 first_passes (some s) b e = let z : ◌≡◌ {A = ℕ} 0 1 = cc in absurd (omega arith)
 
 -- The whole check: oversized, or the answer of the words.
-pub sizes_refused : (p c : List ℤ) → sized p c ≡ false → tables_answer p c ≡ TablesRefused (refusal Oversized 0)
+pub sizes_refused : (p c : List ℤ) → sized p c ≡ false → tables_answer p c ≡ Err (refusal Oversized 0)
 unfolding tables_refusal
 sizes_refused p c e = rw e
 
 module _ (p c : List ℤ) (e : sized p c ≡ true) where
-  pub words_refused : (r : Refusal) → check_of (words_refusal p c) ≡ Refused r → tables_answer p c ≡ TablesRefused r
+  pub words_refused : (r : Refusal) → passes (words_refusal p c) ≡ Err r → tables_answer p c ≡ Err r
   unfolding tables_refusal
   words_refused r h = rw e (go (words_refusal p c) h)
     where
-      go : (a : Option Refusal) → check_of a ≡ Refused r → answer_tables a (entry_count p) (zeros c) ≡ TablesRefused r
+      go : (a : Option Refusal) → passes a ≡ Err r → answer_tables a (entry_count p) (zeros c) ≡ Err r
       go none k = let z : ◌≡◌ {A = ℕ} 0 1 = cc in absurd (omega arith)
-      go (some s) k = let q : s ≡ r = cc in ap TablesRefused q
+      go (some s) k = let q : s ≡ r = cc in ap Err q
 
-  pub words_admitted : check_of (words_refusal p c) ≡ Passed → tables_answer p c ≡ TablesAdmitted (entry_count p) (zeros c)
+  pub words_admitted : passes (words_refusal p c) ≡ Ok tt → tables_answer p c ≡ admits (entry_count p) (zeros c)
   unfolding tables_refusal
   words_admitted h = rw e (go (words_refusal p c) h)
     where
-      go : (a : Option Refusal) → check_of a ≡ Passed → answer_tables a (entry_count p) (zeros c) ≡ TablesAdmitted (entry_count p) (zeros c)
+      go : (a : Option Refusal) → passes a ≡ Ok tt → answer_tables a (entry_count p) (zeros c) ≡ admits (entry_count p) (zeros c)
       go none k = refl
       go (some s) k = let z : ◌≡◌ {A = ℕ} 0 1 = cc in absurd (omega arith)

@@ -1,5 +1,8 @@
 -- Tests on a signed word, as the code makes them, and what they say of `word_of`. All reasoning on the sign of a word is here.
 -- Assumes nothing.
+use Rattle.std.specs.Prelude.{Option, Some, None}
+use Rattle.formula.specs.declared.literal.Variable.{Variable}
+use Rattle.formula.specs.declared.literal.Literal.{Literal}
 use Prim.Native.Nat.{ℕ, zero, suc, ◌<◌, ◌≤◌}
 use mathlib.Core.Path.{◌≡◌, refl, ap}
 use mathlib.Core.Bool.{Bool, true, false}
@@ -12,10 +15,6 @@ use mir.Syntax.{w32}
 use mir.Val.{of_z, SFits}
 use Rattle.formula.specs.Bounds.{variable_bound, in_range, variable_fit, literal_fit}
 use Rattle.formula.specs.Word.{positive, negative, word_of}
-use Rattle.formula.specs.declared.literal.VariableFit.{VariableFit}
-use Rattle.formula.specs.declared.literal.VariableFit.TheVariants.{Within, Outside}
-use Rattle.formula.specs.declared.literal.LiteralFit.{LiteralFit}
-use Rattle.formula.specs.declared.literal.LiteralFit.TheVariants.{Within as LiteralWithin, Outside as LiteralOutside}
 use Rattle.formula.specs.declared.word.Word.{Word}
 use Rattle.formula.specs.declared.word.Word.TheVariants.{Zero, TooLarge, Positive, Negative}
 
@@ -39,19 +38,19 @@ word_too_high (pos (suc n)) e = let h : 1024 < suc n = ltb-true 1024 (suc n) e i
 word_too_high (negsuc n) e = let z : ◌≡◌ {A = ℕ} 0 1 = cc in absurd (omega arith)
 
 -- What a sign makes of the answer of the constructor of variables.
-abbrev as_positive : VariableFit → Word
-as_positive (Within v) = Positive v
-as_positive Outside = TooLarge
+abbrev as_positive : Option Variable → Word
+as_positive (Some v) = Positive v
+as_positive None = TooLarge
 
-abbrev as_negative : VariableFit → Word
-as_negative (Within v) = Negative v
-as_negative Outside = TooLarge
+abbrev as_negative : Option Variable → Word
+as_negative (Some v) = Negative v
+as_negative None = TooLarge
 
 -- a positive word that is not above the range
 pub record PositiveWord (z : ℤ) : Type 0 where
   pub signed : T (non_neg z)
   pub small : nat_abs z ≤ 1024
-  pub is : (f : VariableFit) → variable_fit (in_range (nat_abs z) variable_bound) (nat_abs z) ≡ f → word_of z ≡ as_positive f
+  pub is : (f : Option Variable) → variable_fit (in_range (nat_abs z) variable_bound) (nat_abs z) ≡ f → word_of z ≡ as_positive f
 
 pub word_positive : (z : ℤ) → lt_z (pos 1024) z ≡ false → lt_z (pos 0) z ≡ true → PositiveWord z
 unfolding word_of
@@ -70,7 +69,7 @@ pub record NegativeWord (z : ℤ) : Type 0 where
   pub signed : T (non_neg (neg_ℤ z))
   pub small : nat_abs (neg_ℤ z) ≤ 1024
   pub fits : SFits w32 (neg_ℤ z)
-  pub is : (f : VariableFit) → variable_fit (in_range (nat_abs (neg_ℤ z)) variable_bound) (nat_abs (neg_ℤ z)) ≡ f → word_of z ≡ as_negative f
+  pub is : (f : Option Variable) → variable_fit (in_range (nat_abs (neg_ℤ z)) variable_bound) (nat_abs (neg_ℤ z)) ≡ f → word_of z ≡ as_negative f
 
 pub word_negative : (z : ℤ) → (z ≡ pos 0 → ⊥) → lt_z z (negsuc 1023) ≡ false → lt_z (pos 0) z ≡ false → NegativeWord z
 unfolding word_of
@@ -90,11 +89,11 @@ word_negative (negsuc n) z e f =
     go false = refl
 
 -- A word as a literal, by what it is.
-abbrev as_literal : ℤ → Word → LiteralFit
-as_literal z Zero = LiteralOutside
-as_literal z TooLarge = LiteralOutside
-as_literal z (Positive v) = LiteralWithin (record { 0 = z })
-as_literal z (Negative v) = LiteralWithin (record { 0 = z })
+abbrev as_literal : ℤ → Word → Option Literal
+as_literal z Zero = None
+as_literal z TooLarge = None
+as_literal z (Positive v) = Some (record { 0 = z })
+as_literal z (Negative v) = Some (record { 0 = z })
 
 pub word_literal : (z : ℤ) (w : Word) → w ≡ word_of z → as_literal z w ≡ literal_fit (in_range (nat_abs z) variable_bound) z
 unfolding word_of

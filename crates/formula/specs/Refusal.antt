@@ -1,7 +1,7 @@
 -- Refusals (01, "What the checker says no with"): a reason joined with its place; tests that refuse, and what answers by a refusal;
 -- the number of each reason, and the table of reasons with their words. Laws are in Refusal/Laws.antt.
 pub mod Laws
-use Rattle.std.specs.Prelude.{ℕ, ◌-◌, ◌≤◌, ◌≡◌, Bool, true, false, cond, List, [], ◌∷◌, length, get_or, eqb}
+use Rattle.std.specs.Prelude.{ℕ, ◌-◌, ◌≤◌, ◌≡◌, Bool, true, false, cond, List, [], ◌∷◌, length, get_or, eqb, Result, Ok, Err, ⊤}
 use Rattle.std.proofs.Math.Option.{Option, none, some}
 use Rattle.scanner.specs.Position.{position_at}
 use Rattle.scanner.specs.declared.position.Position.{Position}
@@ -47,6 +47,10 @@ require false refused later = refused
 abbrev pub unless : {R A : Type 0} → (R → A) → Option R → (done : A) → A
 unless refuses (some r) done = refuses r
 unless refuses none done = done
+
+-- What a check answers that only lets go on or refuses.
+abbrev pub passes : {R : Type 0} → Option R → Result ⊤ R
+passes r = unless Err r (Ok tt)
 
 -- The number of each reason, 01's and 02's; 17 comes with what blocks.
 abbrev pub numbers : Reason → Numbers

@@ -3,7 +3,8 @@
 -- without an order, is in Tables/Proper.antt; the two agree by proofs/Theorems/Tables/Laws.antt.
 pub mod Proper
 pub mod Scan
-use Rattle.std.specs.Prelude.{ℕ, zero, suc, ◌+◌, ◌%◌, ◌≡◌, Bool, false, not, ◌||◌, ◌&&◌, List, [], ◌∷◌, length, leb, ltb, eqb, ℤ, pos, negsuc}
+use Rattle.formula.specs.declared.tables.Counts.{Counts}
+use Rattle.std.specs.Prelude.{ℕ, zero, suc, ◌+◌, ◌%◌, ◌≡◌, Bool, false, not, ◌||◌, ◌&&◌, List, [], ◌∷◌, length, leb, ltb, eqb, ℤ, pos, negsuc, Result, Ok, Err}
 use Rattle.std.proofs.Math.Option.{Option, none, some}
 use Rattle.qbf.specs.Formula.{listed}
 use Rattle.formula.specs.Bounds.{prefix_bound, count_bound, matrix_bound}
@@ -14,8 +15,6 @@ use Rattle.formula.specs.declared.word.Word.{Word}
 use Rattle.formula.specs.declared.word.Word.TheVariants.{Zero, TooLarge, Positive, Negative}
 use Rattle.formula.specs.declared.refusal.Refusal.{Refusal}
 use Rattle.formula.specs.declared.refusal.Reason.TheVariants.{Oversized, OutOfRange, BoundTwice, Unbound, Clash, Unfinished}
-use Rattle.formula.specs.declared.tables.TablesAnswer.{TablesAnswer}
-use Rattle.formula.specs.declared.tables.TablesAnswer.TheVariants.{Admitted as Admits, Refused}
 
 -- A number stands in a list.
 unfoldable pub is_in : ℕ → List ℕ → Bool
@@ -101,11 +100,14 @@ words_refusal prefix clauses = if_threes prefix (first_refusal (prefix_refusal 0
 unfoldable pub tables_refusal : List ℤ → List ℤ → Option Refusal
 tables_refusal prefix clauses = if_sized (sized prefix clauses) (words_refusal prefix clauses)
 
-abbrev pub answer_tables : Option Refusal → ℕ → ℕ → TablesAnswer
-answer_tables r variables count = unless Refused r (Admits variables count)
+abbrev pub admits : (variables clauses : ℕ) → Result Counts Refusal
+admits v c = Ok (record { variables = v; clauses = c })
+
+abbrev pub answer_tables : Option Refusal → ℕ → ℕ → Result Counts Refusal
+answer_tables r variables count = unless Err r (admits variables count)
 
 -- What `check_tables` answers: the number of variables and of clauses, or the refusal.
-abbrev pub tables_answer : List ℤ → List ℤ → TablesAnswer
+abbrev pub tables_answer : List ℤ → List ℤ → Result Counts Refusal
 tables_answer prefix clauses = answer_tables (tables_refusal prefix clauses) (entry_count prefix) (zeros clauses)
 
 -- The tables pass the check.

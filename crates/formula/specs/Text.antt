@@ -9,7 +9,8 @@ pub mod Clauses
 pub mod Fill
 pub mod Distinct
 pub mod Examples
-use Rattle.std.specs.Prelude.{ℕ, zero, suc, ◌-◌, ◌≡◌, Bool, true, false, not, ◌&&◌, List, [], ◌∷◌, ◌++◌, length, leb, ltb, ℤ, pos, negsuc}
+use Rattle.formula.specs.declared.read.Filled.{Filled}
+use Rattle.std.specs.Prelude.{ℕ, zero, suc, ◌-◌, ◌≡◌, Bool, true, false, not, ◌&&◌, List, [], ◌∷◌, ◌++◌, length, leb, ltb, ℤ, pos, negsuc, Result, Ok, Err}
 use Rattle.std.proofs.Math.Option.{Option, none, some}
 use Rattle.formula.specs.Bounds.{variable_bound, count_bound, matrix_bound, text_bound}
 use Rattle.formula.specs.Clear.{filled_up}
@@ -33,8 +34,6 @@ use Rattle.formula.specs.declared.refusal.Reason.TheVariants.{
   Unfinished,
   Miscount,
 }
-use Rattle.formula.specs.declared.read.ReadAnswer.{ReadAnswer}
-use Rattle.formula.specs.declared.read.ReadAnswer.TheVariants.{Read, Refused}
 
 -- What a text is read as: the words of the completed prefix and of the clauses, closing zeros included, and C; or a refusal.
 pub data Reading : Type 0 where
@@ -189,10 +188,14 @@ reading text prefixRoom clauseRoom =
 abbrev pub reading_from : (prefixRoom clauseRoom : ℕ) → List ℕ → State → ℕ → Reading
 reading_from prefixRoom clauseRoom text s at = ending prefixRoom text (run prefixRoom clauseRoom s (tokens_at text at))
 
+-- What is answered of tables filled with so many words, of C clauses.
+abbrev pub filled : (prefixUsed clausesUsed count : ℕ) → Result Filled Refusal
+filled p n c = Ok (record { prefix_used = p; clauses_used = n; clauses = c })
+
 -- What `read_formula` answers, and what it leaves in the tables: the words read, then zeros.
-abbrev pub read_answer : Reading → ReadAnswer
-read_answer (read prefix words count) = Read (length prefix) (length words) count
-read_answer (refused r) = Refused r
+abbrev pub read_answer : Reading → Result Filled Refusal
+read_answer (read prefix words count) = filled (length prefix) (length words) count
+read_answer (refused r) = Err r
 
 abbrev pub prefix_read : Reading → List ℤ
 prefix_read (read prefix words count) = prefix
@@ -206,7 +209,7 @@ abbrev pub padded : ℕ → List ℤ → List ℤ
 padded room words = filled_up (pos 0) room words
 
 -- The contract of `read_formula`: its answer, and both tables at its end.
-pub record ReadPost (text : List ℕ) (prefix clauses prefix' clauses' : List ℤ) (answer : ReadAnswer) : Type 0 where
+pub record ReadPost (text : List ℕ) (prefix clauses prefix' clauses' : List ℤ) (answer : Result Filled Refusal) : Type 0 where
   pub answers : answer ≡ read_answer (reading text (length prefix) (length clauses))
   pub fills_prefix : prefix' ≡ padded (length prefix) (prefix_read (reading text (length prefix) (length clauses)))
   pub fills_clauses : clauses' ≡ padded (length clauses) (clauses_read (reading text (length prefix) (length clauses)))

@@ -5,6 +5,7 @@ pub mod Stream
 pub mod Laws
 pub mod Room
 pub mod Examples
+use Rattle.std.specs.Prelude.{Result, Ok, Err}
 use Rattle.std.specs.Prelude.{ℕ, suc, max, ◌≡◌, Bool, true, false, length, replicate, leb, eqb, ℤ, pos, negsuc}
 use Rattle.std.proofs.Math.Option.{Option, none, some}
 use mathlib.Core.List.{List, [], ◌∷◌, ◌++◌, flat_map}
@@ -17,8 +18,6 @@ use Rattle.formula.specs.Tables.{zeros, tables_refusal, first_refusal}
 use Rattle.formula.specs.Decimal.{decimal}
 use Rattle.formula.specs.declared.refusal.Refusal.{Refusal}
 use Rattle.formula.specs.declared.refusal.Reason.TheVariants.{NoRoom}
-use Rattle.formula.specs.declared.write.WriteAnswer.{WriteAnswer}
-use Rattle.formula.specs.declared.write.WriteAnswer.TheVariants.{Written, Refused}
 
 -- V: the largest variable number of the prefix, 0 if it has none.
 unfoldable pub largest : Prefix → ℕ
@@ -82,8 +81,8 @@ if_room fits = require fits (some (refusal NoRoom 0)) none
 unfoldable pub writing_refusal : List ℤ → List ℤ → ℕ → Option Refusal
 writing_refusal prefix clauses room = first_refusal (tables_refusal prefix clauses) (if_room (leb (length (written prefix clauses)) room))
 
-abbrev pub answer_writing : Option Refusal → ℕ → WriteAnswer
-answer_writing r used = unless Refused r (Written used)
+abbrev pub answer_writing : Option Refusal → ℕ → Result ℕ Refusal
+answer_writing r used = unless Err r (Ok used)
 
 -- The text's bytes at the end: what was written and zeros behind it, or zeros alone.
 abbrev pub text_after : Option Refusal → List ℕ → ℕ → List ℕ
@@ -91,6 +90,6 @@ text_after none bytes room = filled_up 0 room bytes
 text_after (some r) bytes room = replicate room 0
 
 -- What `write_formula` promises: its answer, and the text that it was lent, from the tables and the text's length alone.
-pub record Writes (prefix clauses : List ℤ) (room : ℕ) (answer : WriteAnswer) (text : List ℕ) : Type 0 where
+pub record Writes (prefix clauses : List ℤ) (room : ℕ) (answer : Result ℕ Refusal) (text : List ℕ) : Type 0 where
   pub answers : answer ≡ answer_writing (writing_refusal prefix clauses room) (length (written prefix clauses))
   pub leaves : text ≡ text_after (writing_refusal prefix clauses room) (written prefix clauses) room

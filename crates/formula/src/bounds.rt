@@ -1,154 +1,40 @@
-// The bounds of 01 on lengths and counts, each on the type it bounds, with a constructor that refuses: a value made by `new`
-// is within its bound. The bound on a variable's number stands with its type, in literal.rt.
+// The bounds on lengths and counts: one type of numbers up to a bound, with the bound as its constant and a constructor that refuses, and a name for
+// each bound. A value made by `new` is within its bound. The bound on a variable's number stands with its type, in literal.rt.
 ghost use Rattle.std.specs.Prelude.{◌≡◌};
-ghost use Rattle.formula.specs.Bounds.{text_fit, prefix_fit, matrix_fit, proof_fit, variable_count_fit, clause_count_fit};
+ghost use Rattle.formula.specs.Bounds.{at_most};
+
+// A number that is at most MAX.
+#[derive(Clone, Copy, Debug, PartialEq, Eq)]
+pub struct AtMost<const MAX: usize>(pub usize);
+
+impl<const MAX: usize> AtMost<MAX> {
+    pub const MAX: usize = MAX;
+
+    // The number, if it is within the bound.
+    pub fn new(n: usize) -> Option<AtMost<MAX>>
+        ensures { result ≡ at_most MAX n }
+    {
+        if n <= MAX { Some(AtMost(n)) } else { None }
+    }
+}
 
 // How many bytes a text has.
-#[derive(Clone, Copy)]
-pub struct TextLength(pub usize);
-
-#[derive(Clone, Copy)]
-pub enum TextFit {
-    Within(TextLength),
-    Oversized,
-}
-
-impl TextLength {
-    pub const MAX: usize = 1_048_576;
-
-    // A text's length, or that it is above the bound.
-    pub fn new(n: usize) -> TextFit
-        ensures { result ≡ text_fit n }
-    {
-        if n <= TextLength::MAX {
-            TextFit::Within(TextLength(n))
-        } else {
-            TextFit::Oversized
-        }
-    }
-}
+pub type TextLength = AtMost<1_048_576>;
 
 // How many words a prefix has, three an entry.
-#[derive(Clone, Copy)]
-pub struct PrefixLength(pub usize);
-
-#[derive(Clone, Copy)]
-pub enum PrefixFit {
-    Within(PrefixLength),
-    Oversized,
-}
-
-impl PrefixLength {
-    pub const MAX: usize = 3_072;
-
-    // A prefix's length, or that it is above the bound.
-    pub fn new(n: usize) -> PrefixFit
-        ensures { result ≡ prefix_fit n }
-    {
-        if n <= PrefixLength::MAX {
-            PrefixFit::Within(PrefixLength(n))
-        } else {
-            PrefixFit::Oversized
-        }
-    }
-}
+pub type PrefixLength = AtMost<3_072>;
 
 // How many words a clause table has.
-#[derive(Clone, Copy)]
-pub struct MatrixLength(pub usize);
+pub type MatrixLength = AtMost<MATRIX_WORDS>;
 
-#[derive(Clone, Copy)]
-pub enum MatrixFit {
-    Within(MatrixLength),
-    Oversized,
-}
-
-impl MatrixLength {
-    pub const MAX: usize = 65_536;
-
-    // A clause table's length, or that it is above the bound.
-    pub fn new(n: usize) -> MatrixFit
-        ensures { result ≡ matrix_fit n }
-    {
-        if n <= MatrixLength::MAX {
-            MatrixFit::Within(MatrixLength(n))
-        } else {
-            MatrixFit::Oversized
-        }
-    }
-}
+// That bound by a name of its own: what a generic type's constant is, no proof is told.
+pub const MATRIX_WORDS: usize = 65_536;
 
 // How many words the steps of a proof have.
-#[derive(Clone, Copy)]
-pub struct ProofLength(pub usize);
-
-#[derive(Clone, Copy)]
-pub enum ProofFit {
-    Within(ProofLength),
-    Oversized,
-}
-
-impl ProofLength {
-    pub const MAX: usize = 1_048_576;
-
-    // A proof's length, or that it is above the bound.
-    pub fn new(n: usize) -> ProofFit
-        ensures { result ≡ proof_fit n }
-    {
-        if n <= ProofLength::MAX {
-            ProofFit::Within(ProofLength(n))
-        } else {
-            ProofFit::Oversized
-        }
-    }
-}
+pub type ProofLength = AtMost<1_048_576>;
 
 // How many variables a prefix lists, or a header announces.
-#[derive(Clone, Copy)]
-pub struct VariableCount(pub usize);
-
-#[derive(Clone, Copy)]
-pub enum VariableCountFit {
-    Within(VariableCount),
-    Oversized,
-}
-
-impl VariableCount {
-    pub const MAX: usize = 1_024;
-
-    // A number of variables, or that it is above the bound.
-    pub fn new(n: usize) -> VariableCountFit
-        ensures { result ≡ variable_count_fit n }
-    {
-        if n <= VariableCount::MAX {
-            VariableCountFit::Within(VariableCount(n))
-        } else {
-            VariableCountFit::Oversized
-        }
-    }
-}
+pub type VariableCount = AtMost<1_024>;
 
 // How many input clauses a table holds, or a header announces.
-#[derive(Clone, Copy)]
-pub struct ClauseCount(pub usize);
-
-#[derive(Clone, Copy)]
-pub enum ClauseCountFit {
-    Within(ClauseCount),
-    Oversized,
-}
-
-impl ClauseCount {
-    pub const MAX: usize = 8_192;
-
-    // A number of clauses, or that it is above the bound.
-    pub fn new(n: usize) -> ClauseCountFit
-        ensures { result ≡ clause_count_fit n }
-    {
-        if n <= ClauseCount::MAX {
-            ClauseCountFit::Within(ClauseCount(n))
-        } else {
-            ClauseCountFit::Oversized
-        }
-    }
-}
+pub type ClauseCount = AtMost<8_192>;

@@ -6,59 +6,64 @@ ghost use Rattle.formula.specs.Bounds.{variable_bound, count_bound, text_bound};
 ghost use Rattle.scanner.specs.Position.Cursor.{PositionIn};
 ghost use Rattle.scanner.specs.Token.{Number};
 ghost use Rattle.scanner.specs.Token.Scan.{shown};
+ghost use Rattle.formula.specs.Refusal.{passes};
 ghost use Rattle.formula.specs.Text.{literal_reason};
 ghost use Rattle.formula.specs.Text.Sets.{Listed};
-ghost use Rattle.formula.specs.Text.Clauses.{literal_step, LiteralPost, ClosingPost, ClauseTokenPost, clauses_end, ClausesPost};
+ghost use Rattle.formula.specs.Text.Clauses.{LiteralPost, ClosingPost, ClauseTokenPost, clauses_end, ClausesPost};
 
-use crate::bounds::MatrixLength;
+use crate::bounds::MATRIX_WORDS;
 use crate::refusal::{Reason, Refusal};
 use crate::word::signed_word;
 use scanner::position::Position;
 use scanner::token::{Next, Token, next_token};
 
-// What a token of a clause did, or why it is refused.
+// What a token of a clause did.
 #[derive(Clone, Copy)]
 pub enum ClauseStep {
     Literal,
     Closed,
-    Refused(Reason),
 }
 
 // The clause words used, and the text's end.
 #[derive(Clone, Copy)]
-pub enum ClausesAnswer {
-    Clauses { used: usize, end: Position },
-    Refused(Refusal),
+pub struct MatrixRead {
+    pub used: usize,
+    pub end: Position,
 }
 
 // The mark of any number: beyond the variables it is 0.
 fn mark_of(marks: &[usize; 1025], n: usize) -> usize
-    requires { length marks.now ≡ 1025 }
     ensures { result ≡ get_or marks.now n 0 }
 {
     if n < 1025 { marks[n] } else { 0 }
 }
 
 // The refusals of a literal, in their order.
-fn judge_literal(variables: usize, n: usize, clash: bool, used: usize, room: usize) -> ClauseStep
-    ensures { result ≡ literal_step (literal_reason variables n clash used room) }
+fn judge_literal(
+    variables: usize,
+    n: usize,
+    clash: bool,
+    used: usize,
+    room: usize,
+) -> Result<(), Reason>
+    ensures { result ≡ passes (literal_reason variables n clash used room) }
 {
     if n < 1 {
-        return ClauseStep::Refused(Reason::OutOfRange);
+        return Err(Reason::OutOfRange);
     }
     if variables < n {
-        return ClauseStep::Refused(Reason::OutOfRange);
+        return Err(Reason::OutOfRange);
     }
-    if MatrixLength::MAX <= used {
-        return ClauseStep::Refused(Reason::Oversized);
+    if MATRIX_WORDS <= used {
+        return Err(Reason::Oversized);
     }
     if clash {
-        return ClauseStep::Refused(Reason::Clash);
+        return Err(Reason::Clash);
     }
     if room <= used {
-        return ClauseStep::Refused(Reason::NoRoom);
+        return Err(Reason::NoRoom);
     }
-    ClauseStep::Literal
+    Ok(())
 }
 
 // Writes a literal of the variable n and marks it, unless it is refused.
@@ -70,35 +75,30 @@ fn put_literal(
     used: usize,
     closed: usize,
     marks: &mut [usize; 1025],
-) -> ClauseStep
-    requires { (variables ≤ variable_bound) × (closed ≤ count_bound) × (length marks.old ≡ 1025) }
+) -> Result<ClauseStep, Reason>
+    requires { (variables ≤ variable_bound) × (closed ≤ count_bound) }
     ensures { LiteralPost n variables positive used closed clauses.old marks.old clauses.new marks.new result }
 {
     let mark = mark_of(marks, n);
     let room = clauses.len();
-    match judge_literal(variables, n, mark / 2 == closed + 1, used, room) {
-        ClauseStep::Refused(r) => ClauseStep::Refused(r),
-        ClauseStep::Closed => ClauseStep::Closed,
-        ClauseStep::Literal => {
-            clauses[used] = signed_word(positive, n);
-            marks[n] = 2 * (closed + 1) + mark % 2;
-            ClauseStep::Literal
-        }
-    }
+    judge_literal(variables, n, mark / 2 == closed + 1, used, room)?;
+    clauses[used] = signed_word(positive, n);
+    marks[n] = 2 * (closed + 1) + mark % 2;
+    Ok(ClauseStep::Literal)
 }
 
 // Writes a clause's closing 0: 2 above the bound on clause words, 3 without room.
-fn close_clause(clauses: &mut [i32], used: usize) -> ClauseStep
+fn close_clause(clauses: &mut [i32], used: usize) -> Result<ClauseStep, Reason>
     ensures { ClosingPost used clauses.old clauses.new result }
 {
-    if MatrixLength::MAX <= used {
-        return ClauseStep::Refused(Reason::Oversized);
+    if MATRIX_WORDS <= used {
+        return Err(Reason::Oversized);
     }
     if clauses.len() <= used {
-        return ClauseStep::Refused(Reason::NoRoom);
+        return Err(Reason::NoRoom);
     }
     clauses[used] = 0;
-    ClauseStep::Closed
+    Ok(ClauseStep::Closed)
 }
 
 // A token of a clause, while fewer than C clauses are closed.
@@ -109,8 +109,8 @@ fn clause_token(
     used: usize,
     closed: usize,
     marks: &mut [usize; 1025],
-) -> ClauseStep
-    requires { (variables ≤ variable_bound) × (closed ≤ count_bound) × (length marks.old ≡ 1025) × (used ≤ length clauses.old) }
+) -> Result<ClauseStep, Reason>
+    requires { (variables ≤ variable_bound) × (closed ≤ count_bound) × (used ≤ length clauses.old) }
     ensures { (m : Number) → shown m ≡ token → ClauseTokenPost m variables used closed clauses.old marks.old clauses.new marks.new result }
 {
     match token {
@@ -120,7 +120,7 @@ fn clause_token(
             put_literal(n, variables, true, clauses, used, closed, marks)
         },
         Token::Negative(n) => put_literal(n, variables, false, clauses, used, closed, marks),
-        Token::NoNumber => ClauseStep::Refused(Reason::BadToken),
+        Token::NoNumber => Err(Reason::BadToken),
     }
 }
 
@@ -131,16 +131,16 @@ fn clauses_end(
     used: usize,
     closed: usize,
     count: usize,
-) -> ClausesAnswer
+) -> Result<MatrixRead, Refusal>
     ensures { result ≡ clauses_end end (ltb start used) (ltb closed count) used }
 {
     if start < used {
-        return ClausesAnswer::Refused(Refusal::in_text(Reason::Unfinished, end));
+        return Err(Refusal::in_text(Reason::Unfinished, end));
     }
     if closed < count {
-        return ClausesAnswer::Refused(Refusal::in_text(Reason::Miscount, end));
+        return Err(Refusal::in_text(Reason::Miscount, end));
     }
-    ClausesAnswer::Clauses { used, end }
+    Ok(MatrixRead { used, end })
 }
 
 // The clauses, from the position after the sets on.
@@ -151,31 +151,30 @@ pub fn read_clauses(
     count: usize,
     clauses: &mut [i32],
     marks: &mut [usize; 1025],
-) -> ClausesAnswer
+) -> Result<MatrixRead, Refusal>
     requires position_in { PositionIn text.now from × (length text.now ≤ text_bound) }
-    requires variables_le_variable_bound { (variables ≤ variable_bound) × (count ≤ count_bound) × (length marks.old ≡ 1025) }
+    requires variables_le_variable_bound { (variables ≤ variable_bound) × (count ≤ count_bound) }
     ensures { (prefixRoom : ℕ) (P : Prefix) → Listed marks.old P → ClausesPost text.now from.place variables count prefixRoom P clauses.old clauses.new marks.new result }
 {
     let mut at = from;
     let mut used = 0;
     let mut closed = 0;
     let mut start = 0;
+    // From token to token, up to the text's end or a refusal: no index is counted.
     loop {
         match next_token(text, at.place, at.line, at.column) {
             Next::End(end) => return clauses_end(end, start, used, closed, count),
             Next::Found { token, place, next } => {
                 if count <= closed {
-                    return ClausesAnswer::Refused(Refusal::in_text(Reason::Miscount, place));
+                    return Err(Refusal::in_text(Reason::Miscount, place));
                 }
                 match clause_token(token, variables, clauses, used, closed, marks) {
-                    ClauseStep::Refused(reason) => {
-                        return ClausesAnswer::Refused(Refusal::in_text(reason, place));
-                    }
-                    ClauseStep::Literal => {
+                    Err(reason) => return Err(Refusal::in_text(reason, place)),
+                    Ok(ClauseStep::Literal) => {
                         used += 1;
                         at = next;
                     }
-                    ClauseStep::Closed => {
+                    Ok(ClauseStep::Closed) => {
                         used += 1;
                         closed += 1;
                         start = used;

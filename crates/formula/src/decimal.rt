@@ -1,5 +1,6 @@
 // Bytes and numbers written into a lent text. A store past the text's end does nothing: a writer counts its places to the
-// end and asks for room once. Each function answers the place behind what it wrote.
+// end and asks for room once. Each function answers the place behind what it wrote. It is no `Display`, which would be these same stores behind a formatter: bytes
+// go into the text lent, and are counted past its end.
 ghost use Rattle.std.specs.Prelude.{◌≡◌, [], ◌∷◌, ◌+◌, ◌^◌, ◌<◌, length};
 ghost use Rattle.formula.specs.Decimal.{decimal};
 ghost use Rattle.formula.specs.Store.{Stores};
@@ -22,10 +23,8 @@ pub fn write_bytes(text: &mut [u8], at: usize, bytes: &[u8]) -> usize
     ensures { Stores text.old at bytes.now text.new result }
 {
     let mut next = at;
-    let mut i = 0;
-    while i < bytes.len() {
-        next = put(text, next, bytes[i]);
-        i += 1;
+    for byte in bytes {
+        next = put(text, next, *byte);
     }
     next
 }

@@ -7,15 +7,8 @@ ghost use Rattle.formula.specs.Bounds.{variable_bound};
 ghost use Rattle.formula.specs.Prefix.{entry_words, entry_fits, put_entry};
 ghost use Rattle.formula.specs.Free.Complete.{is_free_mark, free_marked, FreePut, completed_in, CompletionPost};
 
-use crate::literal::{Variable, VariableFit};
+use crate::literal::Variable;
 use crate::prefix::{entry_count, entry_words, move_words, number_blocks, put_entry};
-
-// The words of the prefix used when it is completed, or that it has no room for the variables to be added.
-#[derive(Clone, Copy)]
-pub enum Completion {
-    Completed(usize),
-    NoRoom,
-}
 
 // Whether a mark is that of a variable that some clause holds and no set lists.
 fn is_free(mark: usize) -> bool
@@ -26,18 +19,13 @@ fn is_free(mark: usize) -> bool
 
 // How many of the variables from 1 to V are free.
 fn count_free(marks: &[usize; 1025], variables: usize) -> usize
-    requires { (variables ≤ variable_bound) × (length marks.now ≡ 1025) }
+    requires { variables ≤ variable_bound }
     ensures { result ≡ length (free_marked marks.now variables) }
 {
-    let mut n = 0;
-    let mut v = 0;
-    while v < variables {
-        if is_free(marks[v + 1]) {
-            n += 1;
-        }
-        v += 1;
-    }
-    n
+    marks[1..=variables]
+        .iter()
+        .filter(|mark| is_free(**mark))
+        .count()
 }
 
 // Puts the entry of an existential variable behind so many entries, and answers how many stand then.
@@ -46,8 +34,8 @@ fn put_variable(prefix: &mut [i32], entries: usize, n: usize) -> usize
     ensures { (result ≡ entries + 1) × (prefix.new ≡ put_entry prefix.old entries (entry n existential) 0) }
 {
     match Variable::new(n) {
-        VariableFit::Outside => entries,
-        VariableFit::Within(variable) => {
+        None => entries,
+        Some(variable) => {
             put_entry(prefix, entries, true, variable, 0);
             entries + 1
         }
@@ -56,39 +44,37 @@ fn put_variable(prefix: &mut [i32], entries: usize, n: usize) -> usize
 
 // Puts the entries of the free variables from 1 to V to the table's start, in rising order.
 fn put_free(prefix: &mut [i32], marks: &[usize; 1025], variables: usize)
-    requires { (variables ≤ variable_bound) × (length marks.now ≡ 1025) × (entry_words (length (free_marked marks.now variables)) ≤ length prefix.old) }
+    requires { (variables ≤ variable_bound) × (entry_words (length (free_marked marks.now variables)) ≤ length prefix.old) }
     ensures { FreePut marks.now variables prefix.old prefix.new }
 {
     let mut at = 0;
-    let mut v = 0;
-    while v < variables {
-        let n = v + 1;
+    for n in 1..variables + 1 {
         if is_free(marks[n]) {
             at = put_variable(prefix, at, n);
         }
-        v += 1;
     }
 }
 
-// Completes the prefix, in which so many entries stand, and numbers its blocks.
+// Completes the prefix, in which so many entries stand, and numbers its blocks: so many words are used then. Nothing where it has no
+// room for the variables to be added.
 pub fn complete(
     prefix: &mut [i32],
     entries: usize,
     variables: usize,
     marks: &[usize; 1025],
-) -> Completion
-    requires entries_in_bounds { (entry_words entries ≤ length prefix.old) × (variables ≤ variable_bound) × (length marks.now ≡ 1025) }
+) -> Option<usize>
+    requires entries_in_bounds { (entry_words entries ≤ length prefix.old) × (variables ≤ variable_bound) }
     requires prefix_fine { PrefixFine variable_bound (completed_in marks.now variables entries prefix.old) }
     ensures { CompletionPost marks.now variables entries prefix.old prefix.new result }
 {
     let added = count_free(marks, variables);
     let total = added + entries;
     if entry_count(prefix) < total {
-        return Completion::NoRoom;
+        return None;
     }
     move_words(prefix, entry_words(entries), entry_words(added));
     put_free(prefix, marks, variables);
     let words = entry_words(total);
     number_blocks(&mut prefix[..words]);
-    Completion::Completed(words)
+    Some(words)
 }

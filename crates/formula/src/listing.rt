@@ -23,14 +23,9 @@ pub fn marks_used(lent: usize) -> usize
 fn stands_in(table: &[i32], variable: usize) -> bool
     ensures { result ≡ listed_in table.now variable }
 {
-    let mut at = 0;
-    while at + 2 < table.len() {
-        if Word::ordinal(table[at]) == variable {
-            return true;
-        }
-        at += 3;
-    }
-    false
+    table
+        .chunks_exact(3)
+        .any(|entry| variable == Word::ordinal(entry[0]))
 }
 
 // Whether a table lists the variable, by its mark where there are marks. The loop over clause words asks it of each: the test of the

@@ -6,30 +6,23 @@ ghost use Rattle.formula.specs.Bounds.{variable_bound, variable_fit, literal_fit
 use crate::word::Word;
 
 // A variable's number, 1 to 1,024.
-#[derive(Clone, Copy)]
+#[derive(Clone, Copy, Debug, PartialEq, Eq)]
 pub struct Variable(pub usize);
-
-// What the constructor of variables answers.
-#[derive(Clone, Copy)]
-pub enum VariableFit {
-    Within(Variable),
-    Outside,
-}
 
 impl Variable {
     pub const MAX: usize = 1_024;
 
     // The variable of this number, if it is one's.
-    pub fn new(n: usize) -> VariableFit
+    pub fn new(n: usize) -> Option<Variable>
         ensures { result ≡ variable_fit (in_range n variable_bound) n }
     {
         if n < 1 {
-            return VariableFit::Outside;
+            return None;
         }
         if n <= Variable::MAX {
-            VariableFit::Within(Variable(n))
+            Some(Variable(n))
         } else {
-            VariableFit::Outside
+            None
         }
     }
 
@@ -50,28 +43,21 @@ impl Variable {
 }
 
 // A clause's number: 1 to C for the input clauses; steps go on from C + 1.
-#[derive(Clone, Copy)]
+#[derive(Clone, Copy, Debug, PartialEq, Eq)]
 pub struct ClauseNumber(pub usize);
 
-// What the constructor of clause numbers answers.
-#[derive(Clone, Copy)]
-pub enum NumberFit {
-    Within(ClauseNumber),
-    Outside,
-}
-
 impl ClauseNumber {
-    // A number from 1 to `last`.
-    pub fn new(n: usize, last: usize) -> NumberFit
+    // The clause of this number, if it is one from 1 to `last`.
+    pub fn new(n: usize, last: usize) -> Option<ClauseNumber>
         ensures { result ≡ number_fit (in_range n last) n }
     {
         if n < 1 {
-            return NumberFit::Outside;
+            return None;
         }
         if n <= last {
-            NumberFit::Within(ClauseNumber(n))
+            Some(ClauseNumber(n))
         } else {
-            NumberFit::Outside
+            None
         }
     }
 
@@ -85,26 +71,19 @@ impl ClauseNumber {
 }
 
 // A literal as a word: v for the variable v, −v for its negation.
-#[derive(Clone, Copy)]
+#[derive(Clone, Copy, Debug, PartialEq, Eq)]
 pub struct Literal(pub i32);
 
-// What the constructor of literals answers.
-#[derive(Clone, Copy)]
-pub enum LiteralFit {
-    Within(Literal),
-    Outside,
-}
-
 impl Literal {
-    // A word other than 0 whose magnitude is a variable's number.
-    pub fn new(word: i32) -> LiteralFit
+    // The literal that a word is: its magnitude is a variable's number.
+    pub fn new(word: i32) -> Option<Literal>
         ensures { result ≡ literal_fit (in_range (nat_abs word) variable_bound) word }
     {
         match Word::of(word) {
-            Word::Zero => LiteralFit::Outside,
-            Word::TooLarge => LiteralFit::Outside,
-            Word::Positive(_) => LiteralFit::Within(Literal(word)),
-            Word::Negative(_) => LiteralFit::Within(Literal(word)),
+            Word::Zero => None,
+            Word::TooLarge => None,
+            Word::Positive(_) => Some(Literal(word)),
+            Word::Negative(_) => Some(Literal(word)),
         }
     }
 

@@ -7,7 +7,7 @@ ghost use Rattle.formula.specs.Prefix.{prefix_of, entry_count, entry_at, entry_s
 ghost use Rattle.formula.specs.Refusal.{no_blocker};
 ghost use Rattle.qbf.specs.Formula.{entry};
 
-use crate::literal::{Variable, VariableFit};
+use crate::literal::Variable;
 use crate::refusal::Blocker;
 use crate::word::Word;
 
@@ -33,8 +33,8 @@ pub fn entry_at(prefix: &[i32], place: usize) -> Entry
 {
     let at = 3 * place;
     match Variable::new(Word::ordinal(prefix[at])) {
-        VariableFit::Outside => Entry::Existential(Variable::first()),
-        VariableFit::Within(v) => {
+        None => Entry::Existential(Variable::first()),
+        Some(v) => {
             if Word::ordinal(prefix[at + 1]) == 2 {
                 return Entry::Universal(v);
             }
@@ -119,20 +119,16 @@ pub fn put_entry(
     prefix[at + 2] = block as i32;
 }
 
-// Moves the words used on by so many, the last one first.
+// Moves the words used on by so many.
 pub fn move_words(prefix: &mut [i32], used: usize, by: usize)
     requires { by + used ≤ length prefix.old }
     ensures { Moved used by prefix.old prefix.new }
 {
-    let mut i = used;
-    while 0 < i {
-        let j = i - 1;
-        prefix[by + j] = prefix[j];
-        i = j;
-    }
+    prefix.copy_within(..used, by);
 }
 
-// The block of an entry of the quantifier `quantifier` behind one of the quantifier `last` in the block `block`.
+// The block of an entry of the quantifier `quantifier` behind one of the quantifier `last` in the block `block`. By their numbers, since the check of tables asks
+// it of words that may be no quantifier's.
 pub fn next_block(last: usize, block: usize, quantifier: usize) -> usize
     requires { block + 1 < 2 ^ 64 }
     ensures { result ≡ next_block last block quantifier }
@@ -162,14 +158,13 @@ pub fn number_blocks(prefix: &mut [i32])
     requires prefix_len { length prefix.old ≡ entry_words (entry_count prefix.old) }
     ensures { prefix.new ≡ prefix_words (prefix_of prefix.old) }
 {
+    // 0, as no quantifier's number is, ahead of the first entry.
     let mut last = 0;
     let mut block = 0;
-    let mut i = 0;
-    while i < entry_count(prefix) {
+    for i in 0..entry_count(prefix) {
         let quantifier = quantifier_at(prefix, i);
         block = next_block(last, block, quantifier);
         put_entry(prefix, i, quantifier == 1, variable_at(prefix, i), block);
         last = quantifier;
-        i += 1;
     }
 }

@@ -5,24 +5,21 @@ ghost use Rattle.scanner.specs.Position.Cursor.{PositionIn};
 ghost use Rattle.formula.specs.Text.{between_sets, reading, reading_from, ReadPost};
 ghost use Rattle.formula.specs.Text.Fill.{FillPost};
 
-use crate::bounds::{TextFit, TextLength};
-use crate::clauses::{ClausesAnswer, read_clauses};
-use crate::clear::clear_words;
-use crate::free::{Completion, complete};
-use crate::header::{HeaderAnswer, read_header};
+use crate::bounds::TextLength;
+use crate::clauses::read_clauses;
+use crate::clear::clear_tail;
+use crate::free::complete;
+use crate::header::read_header;
 use crate::refusal::{Reason, Refusal};
-use crate::sets::{SetsAnswer, read_sets};
+use crate::sets::read_sets;
 use scanner::position::Position;
 
-// Read: the words used of each table, and C; or the refusal.
-#[derive(Clone, Copy)]
-pub enum ReadAnswer {
-    Read {
-        prefix_used: usize,
-        clauses_used: usize,
-        clauses: usize,
-    },
-    Refused(Refusal),
+// What reading a text filled: the words used of each table, and C.
+#[derive(Clone, Copy, Debug, PartialEq, Eq)]
+pub struct Filled {
+    pub prefix_used: usize,
+    pub clauses_used: usize,
+    pub clauses: usize,
 }
 
 // The sets and the clauses, from the position after the header on, then the variables that no set binds. Past the used part the tables
@@ -34,73 +31,56 @@ fn fill_tables(
     count: usize,
     prefix: &mut [i32],
     clauses: &mut [i32],
-) -> ReadAnswer
+) -> Result<Filled, Refusal>
     requires position_in { PositionIn text.now from × (length text.now ≤ text_bound) }
     requires variables_le_variable_bound { (variables ≤ variable_bound) × (count ≤ count_bound) }
     ensures { FillPost (reading_from (length prefix.old) (length clauses.old) text.now (between_sets variables count []) from.place) prefix.new clauses.new result }
 {
     let mut marks = [0usize; 1025];
-    match read_sets(text, from, variables, prefix, &mut marks) {
-        SetsAnswer::Refused(r) => ReadAnswer::Refused(r),
-        SetsAnswer::Sets { entries, next } => {
-            match read_clauses(text, next, variables, count, clauses, &mut marks) {
-                ClausesAnswer::Refused(r) => ReadAnswer::Refused(r),
-                ClausesAnswer::Clauses { used: words, end } => {
-                    match complete(prefix, entries, variables, &marks) {
-                        Completion::NoRoom => {
-                            ReadAnswer::Refused(Refusal::in_text(Reason::NoRoom, end))
-                        }
-                        Completion::Completed(total) => ReadAnswer::Read {
-                            prefix_used: total,
-                            clauses_used: words,
-                            clauses: count,
-                        },
-                    }
-                }
-            }
-        }
+    let sets = read_sets(text, from, variables, prefix, &mut marks)?;
+    let read = read_clauses(text, sets.next, variables, count, clauses, &mut marks)?;
+    match complete(prefix, sets.entries, variables, &marks) {
+        None => Err(Refusal::in_text(Reason::NoRoom, read.end)),
+        Some(total) => Ok(Filled {
+            prefix_used: total,
+            clauses_used: read.used,
+            clauses: count,
+        }),
     }
 }
 
 // The text's length, its header, then the rest.
-fn fill(text: &[u8], prefix: &mut [i32], clauses: &mut [i32]) -> ReadAnswer
+fn fill(text: &[u8], prefix: &mut [i32], clauses: &mut [i32]) -> Result<Filled, Refusal>
     ensures { FillPost (reading text.now (length prefix.old) (length clauses.old)) prefix.new clauses.new result }
 {
-    match TextLength::new(text.len()) {
-        TextFit::Oversized => ReadAnswer::Refused(Refusal::new(Reason::Oversized, 0)),
-        TextFit::Within(_) => match read_header(text) {
-            HeaderAnswer::Refused(r) => ReadAnswer::Refused(r),
-            HeaderAnswer::Header {
-                variables,
-                clauses: count,
-                next,
-            } => fill_tables(text, next, variables.0, count.0, prefix, clauses),
-        },
-    }
+    let Some(_) = TextLength::new(text.len()) else {
+        return Err(Refusal::new(Reason::Oversized, 0));
+    };
+    let header = read_header(text)?;
+    fill_tables(
+        text,
+        header.next,
+        header.variables.0,
+        header.clauses.0,
+        prefix,
+        clauses,
+    )
 }
 
 // Reads the text. The tables hold the words read, then zeros; after a refusal zeros only. One pass over the text.
-pub fn read_formula(text: &[u8], prefix: &mut [i32], clauses: &mut [i32]) -> ReadAnswer
+pub fn read_formula(text: &[u8], prefix: &mut [i32], clauses: &mut [i32]) -> Result<Filled, Refusal>
     ensures { ReadPost text.now prefix.old clauses.old prefix.new clauses.new result }
 {
-    match fill(text, prefix, clauses) {
-        ReadAnswer::Refused(r) => {
-            clear_words(prefix, 0);
-            clear_words(clauses, 0);
-            ReadAnswer::Refused(r)
+    let answer = fill(text, prefix, clauses);
+    match answer {
+        Err(_) => {
+            clear_tail(prefix, 0, 0);
+            clear_tail(clauses, 0, 0);
         }
-        ReadAnswer::Read {
-            prefix_used,
-            clauses_used,
-            clauses: count,
-        } => {
-            clear_words(prefix, prefix_used);
-            clear_words(clauses, clauses_used);
-            ReadAnswer::Read {
-                prefix_used,
-                clauses_used,
-                clauses: count,
-            }
+        Ok(filled) => {
+            clear_tail(prefix, filled.prefix_used, 0);
+            clear_tail(clauses, filled.clauses_used, 0);
         }
     }
+    answer
 }

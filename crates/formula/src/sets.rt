@@ -7,25 +7,24 @@ ghost use Rattle.scanner.specs.Token.Scan.{shown};
 ghost use Rattle.formula.specs.Prefix.{entries_in, entry_words, quantifier_of};
 ghost use Rattle.formula.specs.Text.Sets.{ListingPost, Listed, set_closing, SetTokenPost, SetPost, SetsPost};
 
-use crate::literal::{Variable, VariableFit};
+use crate::literal::Variable;
 use crate::prefix::{entry_fits, put_entry};
 use crate::refusal::{Reason, Refusal};
 use scanner::position::Position;
 use scanner::token::{Next, Token, is_word, next_token};
 
-// What a token of a set did: listed a variable, so many entries standing then, or closed the set; or why it is refused.
+// What a token of a set did: listed a variable, so many entries standing then, or closed the set.
 #[derive(Clone, Copy)]
 pub enum SetStep {
     Listed(usize),
     Closed,
-    Refused(Reason),
 }
 
 // The entries so far, and the position from which to go on.
 #[derive(Clone, Copy)]
-pub enum SetsAnswer {
-    Sets { entries: usize, next: Position },
-    Refused(Refusal),
+pub struct SetsRead {
+    pub entries: usize,
+    pub next: Position,
 }
 
 // Lists the variable of a number other than 0: 5 above V, 6 where it is marked, 3 where its entry has no room. Blocks are numbered when
@@ -37,37 +36,35 @@ fn list_variable(
     prefix: &mut [i32],
     entries: usize,
     marks: &mut [usize; 1025],
-) -> SetStep
-    requires { (0 < n) × (variables ≤ variable_bound) × (length marks.old ≡ 1025) }
+) -> Result<SetStep, Reason>
+    requires { (0 < n) × (variables ≤ variable_bound) }
     ensures { ListingPost n variables (quantifier_of existential) entries prefix.old marks.old prefix.new marks.new result }
 {
-    match Variable::new(n) {
-        VariableFit::Outside => SetStep::Refused(Reason::OutOfRange),
-        VariableFit::Within(variable) => {
-            if variables < n {
-                return SetStep::Refused(Reason::OutOfRange);
-            }
-            if 0 < marks[n] {
-                return SetStep::Refused(Reason::BoundTwice);
-            }
-            if entry_fits(prefix.len(), entries) {
-                marks[n] = 1;
-                put_entry(prefix, entries, existential, variable, 0);
-                return SetStep::Listed(entries + 1);
-            }
-            SetStep::Refused(Reason::NoRoom)
-        }
+    let Some(variable) = Variable::new(n) else {
+        return Err(Reason::OutOfRange);
+    };
+    if variables < n {
+        return Err(Reason::OutOfRange);
     }
+    if 0 < marks[n] {
+        return Err(Reason::BoundTwice);
+    }
+    if entry_fits(prefix.len(), entries) {
+        marks[n] = 1;
+        put_entry(prefix, entries, existential, variable, 0);
+        return Ok(SetStep::Listed(entries + 1));
+    }
+    Err(Reason::NoRoom)
 }
 
 // A set's closing 0: an empty set is refused.
-fn close_set(filled: bool) -> SetStep
+fn close_set(filled: bool) -> Result<SetStep, Reason>
     ensures { result ≡ set_closing filled }
 {
     if filled {
-        return SetStep::Closed;
+        return Ok(SetStep::Closed);
     }
-    SetStep::Refused(Reason::BadToken)
+    Err(Reason::BadToken)
 }
 
 // A token of a set, which is `filled` once it lists a variable.
@@ -79,7 +76,7 @@ fn set_token(
     prefix: &mut [i32],
     entries: usize,
     marks: &mut [usize; 1025],
-) -> SetStep
+) -> Result<SetStep, Reason>
     requires { (variables ≤ variable_bound) × (entry_words entries ≤ length prefix.old) × Listed marks.old (entries_in prefix.old entries) }
     ensures { (m : Number) → shown m ≡ token → SetTokenPost m variables (quantifier_of existential) filled entries prefix.old marks.old prefix.new marks.new result }
 {
@@ -89,8 +86,8 @@ fn set_token(
         } else {
             close_set(filled)
         },
-        Token::Negative(_) => SetStep::Refused(Reason::BadToken),
-        Token::NoNumber => SetStep::Refused(Reason::BadToken),
+        Token::Negative(_) => Err(Reason::BadToken),
+        Token::NoNumber => Err(Reason::BadToken),
     }
 }
 
@@ -103,23 +100,22 @@ fn read_set(
     prefix: &mut [i32],
     entries: usize,
     marks: &mut [usize; 1025],
-) -> SetsAnswer
+) -> Result<SetsRead, Refusal>
     requires position_in { PositionIn text.now from × (length text.now ≤ text_bound) }
     requires variables_le_variable_bound { (variables ≤ variable_bound) × (entry_words entries ≤ length prefix.old) × Listed marks.old (entries_in prefix.old entries) }
     ensures { SetPost text.now from.place variables (quantifier_of existential) entries prefix.old prefix.new marks.new result }
 {
     let mut at = from;
     let mut n = entries;
+    // From token to token, up to the text's end or a refusal: no index is counted.
     loop {
         match next_token(text, at.place, at.line, at.column) {
-            Next::End(end) => return SetsAnswer::Refused(Refusal::in_text(Reason::Unfinished, end)),
+            Next::End(end) => return Err(Refusal::in_text(Reason::Unfinished, end)),
             Next::Found { token, place, next } => {
                 match set_token(token, variables, existential, entries < n, prefix, n, marks) {
-                    SetStep::Refused(reason) => {
-                        return SetsAnswer::Refused(Refusal::in_text(reason, place));
-                    }
-                    SetStep::Closed => return SetsAnswer::Sets { entries: n, next },
-                    SetStep::Listed(more) => {
+                    Err(reason) => return Err(Refusal::in_text(reason, place)),
+                    Ok(SetStep::Closed) => return Ok(SetsRead { entries: n, next }),
+                    Ok(SetStep::Listed(more)) => {
                         n = more;
                         at = next;
                     }
@@ -136,16 +132,17 @@ pub fn read_sets(
     variables: usize,
     prefix: &mut [i32],
     marks: &mut [usize; 1025],
-) -> SetsAnswer
+) -> Result<SetsRead, Refusal>
     requires position_in { PositionIn text.now from × (length text.now ≤ text_bound) }
     requires variables_le_variable_bound { (variables ≤ variable_bound) × Listed marks.old [] }
     ensures { SetsPost text.now from.place variables prefix.old prefix.new marks.new result }
 {
     let mut at = from;
     let mut entries = 0;
+    // From token to token, up to the text's end or a refusal: no index is counted.
     loop {
         match next_token(text, at.place, at.line, at.column) {
-            Next::End(_) => return SetsAnswer::Sets { entries, next: at },
+            Next::End(_) => return Ok(SetsRead { entries, next: at }),
             Next::Found {
                 token: _,
                 place,
@@ -154,18 +151,11 @@ pub fn read_sets(
                 let e = is_word(text, place.place, next.place, b"e");
                 let a = is_word(text, place.place, next.place, b"a");
                 if e | a {
-                    match read_set(text, next, variables, e, prefix, entries, marks) {
-                        SetsAnswer::Refused(r) => return SetsAnswer::Refused(r),
-                        SetsAnswer::Sets {
-                            entries: n,
-                            next: after,
-                        } => {
-                            entries = n;
-                            at = after;
-                        }
-                    }
+                    let set = read_set(text, next, variables, e, prefix, entries, marks)?;
+                    entries = set.entries;
+                    at = set.next;
                 } else {
-                    return SetsAnswer::Sets { entries, next: at };
+                    return Ok(SetsRead { entries, next: at });
                 }
             }
         }

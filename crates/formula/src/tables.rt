@@ -2,118 +2,92 @@
 // judged whole: first where its literals end, then the nested search for a clash among them, then the word they end at.
 // The 0 words are counted, then one pass over the words, beside that search: quadratic in a clause of at most 1,024 words. Which variables
 // are listed is told by marks in what the caller lends, or without them by a pass over the prefix for each word.
-ghost use Rattle.std.specs.Prelude.{◌≡◌, true, ◌+◌, ◌%◌, ◌^◌, ◌≤◌, ◌<◌, length, take, drop, ℤ, nat_abs};
+ghost use Rattle.std.specs.Prelude.{◌≡◌, true, ◌+◌, ◌%◌, ◌^◌, ◌≤◌, ◌<◌, length, take, drop, ℤ, nat_abs, OnOk};
 ghost use mathlib.Core.List.{[], Memᴰ};
 ghost use Rattle.formula.specs.Bounds.{variable_bound, in_range};
+ghost use Rattle.formula.specs.Refusal.{passes};
 ghost use Rattle.formula.specs.Tables.{zeros, prefix_refusal, clauses_refusal, listed_in, words_refusal, tables_answer};
-ghost use Rattle.formula.specs.Tables.Scan.{AllOrNone, Listing, EntryStep, check_of, plain_run, clash_free, ClauseStep};
+ghost use Rattle.formula.specs.Tables.Scan.{AllOrNone, Listing, EntryStep, plain_run, clash_free, ClauseStep};
 
-use crate::bounds::{
-    ClauseCount, ClauseCountFit, MatrixFit, MatrixLength, PrefixFit, PrefixLength,
-};
-use crate::clear::clear_bytes;
+use crate::bounds::{ClauseCount, MatrixLength, PrefixLength};
+use crate::clear::clear_tail;
 use crate::listing::{is_listed, mark, marks_used};
-use crate::literal::{Literal, LiteralFit, Variable};
+use crate::literal::{Literal, Variable};
 use crate::prefix;
 use crate::prefix::next_block;
 use crate::refusal::{Reason, Refusal};
 use crate::word::Word;
 
-// Admitted, with the number of variables and of clauses; or the refusal.
-#[derive(Clone, Copy)]
-pub enum TablesAnswer {
-    Admitted { variables: usize, clauses: usize },
-    Refused(Refusal),
+// Of tables that pass the check, the number of variables and of clauses.
+#[derive(Clone, Copy, Debug, PartialEq, Eq)]
+pub struct Counts {
+    pub variables: usize,
+    pub clauses: usize,
 }
 
-// What a part of the check answers.
+// Of the last entry that passed the check, its quantifier's number and its block; both are 0 before the first. Numbers, as the table has them: the next
+// entry's is compared with them before it is known to be a quantifier's.
 #[derive(Clone, Copy)]
-enum Check {
-    Passed,
-    Refused(Refusal),
-}
-
-// What the check of an entry answers: its quantifier's number and its block, or the refusal.
-#[derive(Clone, Copy)]
-enum EntryCheck {
-    Passed { quantifier: usize, block: usize },
-    Refused(Refusal),
-}
-
-// What the check of one clause answers: the place after its closing 0, or the refusal.
-#[derive(Clone, Copy)]
-enum ClauseCheck {
-    Closed(usize),
-    Refused(Refusal),
+pub struct LastEntry {
+    pub quantifier: usize,
+    pub block: usize,
 }
 
 // The number of 0 words.
 fn count_zeros(clauses: &[i32]) -> usize
     ensures { result ≡ zeros clauses.now }
 {
-    let mut n: usize = 0;
-    let mut i = 0;
-    while i < clauses.len() {
-        if clauses[i] == 0 {
-            n += 1;
-        }
-        i += 1;
-    }
-    n
+    clauses.iter().filter(|word| Word::is_zero(**word)).count()
 }
 
-// The entry whose first word stands at `at`, behind one of the quantifier `last` in the block `block`: its variable's 5 and 6, its
-// quantifier's 5, its block's 6. The variable is marked.
-fn check_entry(prefix: &[i32], at: usize, last: usize, block: usize, marks: &mut [u8]) -> EntryCheck
-    requires at_in_bounds { (at + 2 < length prefix.now) × (at % 3 ≡ 0) × (block + 1 < 2 ^ 64) }
+// The entry whose first word stands at `at`, behind the entry `last`: its variable's 5 and 6, its quantifier's 5, its block's 6. The
+// variable is marked.
+fn check_entry(
+    prefix: &[i32],
+    at: usize,
+    last: LastEntry,
+    marks: &mut [u8],
+) -> Result<LastEntry, Refusal>
+    requires at_in_bounds { (at + 2 < length prefix.now) × (at % 3 ≡ 0) × (last.block + 1 < 2 ^ 64) }
     requires listing { Listing (take at prefix.now) marks.old }
-    ensures { EntryStep prefix.now at last block result marks.new }
+    ensures { EntryStep prefix.now at last result marks.new }
 {
     let v = Word::ordinal(prefix[at]);
     if v < 1 {
-        return EntryCheck::Refused(Refusal::new(Reason::OutOfRange, at));
+        return Err(Refusal::new(Reason::OutOfRange, at));
     }
     if is_listed(&prefix[..at], v, marks) {
-        return EntryCheck::Refused(Refusal::new(Reason::BoundTwice, at));
+        return Err(Refusal::new(Reason::BoundTwice, at));
     }
     let quantifier = Word::ordinal(prefix[at + 1]);
     if (quantifier == 1) | (quantifier == 2) {
-        let due = next_block(last, block, quantifier);
+        let due = next_block(last.quantifier, last.block, quantifier);
         if Word::ordinal(prefix[at + 2]) == due {
             mark(v, marks);
-            return EntryCheck::Passed {
+            return Ok(LastEntry {
                 quantifier,
                 block: due,
-            };
+            });
         }
-        return EntryCheck::Refused(Refusal::new(Reason::BoundTwice, at + 2));
+        return Err(Refusal::new(Reason::BoundTwice, at + 2));
     }
-    EntryCheck::Refused(Refusal::new(Reason::OutOfRange, at + 1))
+    Err(Refusal::new(Reason::OutOfRange, at + 1))
 }
 
 // The prefix, entry by entry, marking each variable that is listed. No variable is marked before.
-fn check_prefix(prefix: &[i32], marks: &mut [u8]) -> Check
+fn check_prefix(prefix: &[i32], marks: &mut [u8]) -> Result<(), Refusal>
     requires { Listing [] marks.old }
-    ensures value { result ≡ check_of (prefix_refusal 0 [] 0 0 prefix.now) }
-    ensures listing { result ≡ Check.Passed → Listing prefix.now marks.new }
+    ensures value { result ≡ passes (prefix_refusal 0 [] 0 0 prefix.now) }
+    ensures listing { OnOk result (Listing prefix.now marks.new) }
 {
-    let mut last = 0;
-    let mut block = 0;
-    let mut at = 0;
-    while at + 2 < prefix.len() {
-        match check_entry(prefix, at, last, block, marks) {
-            EntryCheck::Refused(r) => return Check::Refused(r),
-            EntryCheck::Passed {
-                quantifier,
-                block: due,
-            } => {
-                last = quantifier;
-                block = due;
-                at += 3;
-            }
-        }
+    let mut last = LastEntry {
+        quantifier: 0,
+        block: 0,
+    };
+    for i in 0..prefix::entry_count(prefix) {
+        last = check_entry(prefix, 3 * i, last, marks)?;
     }
-    Check::Passed
+    Ok(())
 }
 
 // Where the literals that begin at `from` end: at the first word that is 0, out of range or unbound, or at the table's end.
@@ -121,8 +95,7 @@ fn literals_end(prefix: &[i32], clauses: &[i32], from: usize, marks: &[u8]) -> u
     requires { (from ≤ length clauses.now) × Listing prefix.now marks.now }
     ensures { result ≡ from + plain_run (listed_in prefix.now) (drop from clauses.now) }
 {
-    let mut i = from;
-    while i < clauses.len() {
+    for i in from..clauses.len() {
         let v = Word::variable(clauses[i]);
         if v < 1 {
             return i;
@@ -130,13 +103,11 @@ fn literals_end(prefix: &[i32], clauses: &[i32], from: usize, marks: &[u8]) -> u
         if Variable::MAX < v {
             return i;
         }
-        if is_listed(prefix, v, marks) {
-            i += 1;
-        } else {
+        if !is_listed(prefix, v, marks) {
             return i;
         }
     }
-    i
+    clauses.len()
 }
 
 // The place of the first literal of a clause that repeats or opposes an earlier one, or the clause's length.
@@ -144,107 +115,102 @@ fn find_clash(clause: &[i32]) -> usize
     requires { (w : ℤ) → Memᴰ w clause.now → in_range (nat_abs w) variable_bound ≡ true }
     ensures { result ≡ clash_free [] clause.now }
 {
-    let mut i = 0;
-    'search: while i < clause.len() {
-        let LiteralFit::Within(literal) = Literal::new(clause[i]) else {
+    let mut clash = clause.len();
+    // The search is to be nested loops left by a label: one of the forms that docs/DECISIONS.md lists.
+    'search: for (i, word) in clause.iter().enumerate() {
+        let Some(literal) = Literal::new(*word) else {
             return i;
         };
         let opposite = literal.negated();
-        let mut j = 0;
-        while j < i {
-            if clause[j] == literal.0 {
+        for earlier in &clause[..i] {
+            if *earlier == literal.0 || *earlier == opposite.0 {
+                clash = i;
                 break 'search;
             }
-            if clause[j] == opposite.0 {
-                break 'search;
-            }
-            j += 1;
         }
-        i += 1;
     }
-    i
+    clash
 }
 
-// The clause that begins at `from`: 5, 7, 8, and 9 where no 0 closes it.
-fn check_clause(prefix: &[i32], clauses: &[i32], from: usize, marks: &[u8]) -> ClauseCheck
+// The clause that begins at `from`: 5, 7, 8, and 9 where no 0 closes it. Answers the place after that 0.
+fn check_clause(
+    prefix: &[i32],
+    clauses: &[i32],
+    from: usize,
+    marks: &[u8],
+) -> Result<usize, Refusal>
     requires { (from < length clauses.now) × Listing prefix.now marks.now }
     ensures { ClauseStep (listed_in prefix.now) clauses.now from result }
 {
     let end = literals_end(prefix, clauses, from, marks);
     let clash = find_clash(&clauses[from..end]);
     if clash < end - from {
-        return ClauseCheck::Refused(Refusal::new(Reason::Clash, from + clash));
+        return Err(Refusal::new(Reason::Clash, from + clash));
     }
     if clauses.len() <= end {
-        return ClauseCheck::Refused(Refusal::new(Reason::Unfinished, end));
+        return Err(Refusal::new(Reason::Unfinished, end));
     }
     let v = Word::variable(clauses[end]);
     if v < 1 {
-        return ClauseCheck::Closed(end + 1);
+        return Ok(end + 1);
     }
     if Variable::MAX < v {
-        return ClauseCheck::Refused(Refusal::new(Reason::OutOfRange, end));
+        return Err(Refusal::new(Reason::OutOfRange, end));
     }
-    ClauseCheck::Refused(Refusal::new(Reason::Unbound, end))
+    Err(Refusal::new(Reason::Unbound, end))
 }
 
 // The clause words, clause by clause.
-fn check_clauses(prefix: &[i32], clauses: &[i32], marks: &[u8]) -> Check
+fn check_clauses(prefix: &[i32], clauses: &[i32], marks: &[u8]) -> Result<(), Refusal>
     requires { Listing prefix.now marks.now }
-    ensures { result ≡ check_of (clauses_refusal (listed_in prefix.now) 0 [] clauses.now) }
+    ensures { result ≡ passes (clauses_refusal (listed_in prefix.now) 0 [] clauses.now) }
 {
     let mut at = 0;
+    // The place goes on by a whole clause, so no `for` counts it.
     while at < clauses.len() {
-        match check_clause(prefix, clauses, at, marks) {
-            ClauseCheck::Closed(next) => at = next,
-            ClauseCheck::Refused(r) => return Check::Refused(r),
-        }
+        at = check_clause(prefix, clauses, at, marks)?;
     }
-    Check::Passed
+    Ok(())
 }
 
 // Prefix and clause words, sizes being checked: 9 for a prefix that is not in threes comes first. The marks may hold anything before.
-fn check_words(prefix: &[i32], clauses: &[i32], marks: &mut [u8]) -> Check
+fn check_words(prefix: &[i32], clauses: &[i32], marks: &mut [u8]) -> Result<(), Refusal>
     requires { AllOrNone (length marks.old) }
-    ensures { result ≡ check_of (words_refusal prefix.now clauses.now) }
+    ensures { result ≡ passes (words_refusal prefix.now clauses.now) }
 {
     if prefix.len() % 3 != 0 {
-        return Check::Refused(Refusal::new(Reason::Unfinished, prefix.len()));
+        return Err(Refusal::new(Reason::Unfinished, prefix.len()));
     }
-    clear_bytes(marks, 0);
-    match check_prefix(prefix, marks) {
-        Check::Refused(r) => Check::Refused(r),
-        Check::Passed => check_clauses(prefix, clauses, marks),
-    }
+    clear_tail(marks, 0, 0);
+    check_prefix(prefix, marks)?;
+    check_clauses(prefix, clauses, marks)
 }
 
 // The check of tables, with marks in what the caller lends: a bit for each variable that the prefix lists where `marks` has at least 128 bytes;
 // where it is shorter each question goes through the prefix instead. `marks` is left with anything.
-pub fn check_tables_in(prefix: &[i32], clauses: &[i32], marks: &mut [u8]) -> TablesAnswer
+pub fn check_tables_in(prefix: &[i32], clauses: &[i32], marks: &mut [u8]) -> Result<Counts, Refusal>
     ensures { result ≡ tables_answer prefix.now clauses.now }
 {
     let oversized = Refusal::new(Reason::Oversized, 0);
-    let PrefixFit::Within(_) = PrefixLength::new(prefix.len()) else {
-        return TablesAnswer::Refused(oversized);
+    let Some(_) = PrefixLength::new(prefix.len()) else {
+        return Err(oversized);
     };
-    let MatrixFit::Within(_) = MatrixLength::new(clauses.len()) else {
-        return TablesAnswer::Refused(oversized);
+    let Some(_) = MatrixLength::new(clauses.len()) else {
+        return Err(oversized);
     };
-    let ClauseCountFit::Within(count) = ClauseCount::new(count_zeros(clauses)) else {
-        return TablesAnswer::Refused(oversized);
+    let Some(count) = ClauseCount::new(count_zeros(clauses)) else {
+        return Err(oversized);
     };
     let used = marks_used(marks.len());
-    match check_words(prefix, clauses, &mut marks[..used]) {
-        Check::Refused(r) => TablesAnswer::Refused(r),
-        Check::Passed => TablesAnswer::Admitted {
-            variables: prefix::entry_count(prefix),
-            clauses: count.0,
-        },
-    }
+    check_words(prefix, clauses, &mut marks[..used])?;
+    Ok(Counts {
+        variables: prefix::entry_count(prefix),
+        clauses: count.0,
+    })
 }
 
 // The same with marks of its own. Every entry that takes tables and lends no scratch begins with it.
-pub fn check_tables(prefix: &[i32], clauses: &[i32]) -> TablesAnswer
+pub fn check_tables(prefix: &[i32], clauses: &[i32]) -> Result<Counts, Refusal>
     ensures { result ≡ tables_answer prefix.now clauses.now }
 {
     let mut marks = [0u8; 128];

@@ -4,7 +4,7 @@ ghost use Rattle.std.specs.Prelude.{◌≡◌, ◌≤◌};
 ghost use Rattle.formula.specs.Bounds.{variable_bound};
 ghost use Rattle.formula.specs.Word.{word_of, is_zero, variable_of, ordinal, slot_with, slot_of, opposite, signed};
 
-use crate::literal::{Variable, VariableFit};
+use crate::literal::Variable;
 
 // What a word of a table is, by its sign and its range.
 #[derive(Clone, Copy)]
@@ -31,13 +31,13 @@ impl Word {
         }
         if 0 < word {
             match Variable::new(word as usize) {
-                VariableFit::Within(v) => Word::Positive(v),
-                VariableFit::Outside => Word::TooLarge,
+                Some(v) => Word::Positive(v),
+                None => Word::TooLarge,
             }
         } else {
             match Variable::new((-word) as usize) {
-                VariableFit::Within(v) => Word::Negative(v),
-                VariableFit::Outside => Word::TooLarge,
+                Some(v) => Word::Negative(v),
+                None => Word::TooLarge,
             }
         }
     }
@@ -59,10 +59,8 @@ impl Word {
         ensures { result ≡ ordinal word }
     {
         match Word::of(word) {
-            Word::Zero => 0,
-            Word::TooLarge => 0,
             Word::Positive(v) => v.0,
-            Word::Negative(_) => 0,
+            _ => 0,
         }
     }
 
@@ -80,8 +78,7 @@ impl Word {
         ensures { result ≡ slot_with plus minus (word_of word) }
     {
         match Word::of(word) {
-            Word::Zero => 0,
-            Word::TooLarge => 0,
+            Word::Zero | Word::TooLarge => 0,
             Word::Positive(v) => 2 * v.0 + plus,
             Word::Negative(v) => 2 * v.0 + minus,
         }

@@ -88,17 +88,9 @@ pub fn clause_end(words: &[i32], from: usize) -> usize
     ensures { result ≡ close_from from (drop from words.now) }
 {
     let mut at = from;
-    loop {
-        match clause_word(words, at) {
-            ClauseWord::Word(_) => {
-                at += 1;
-            }
-            ClauseWord::Close => {
-                return at;
-            }
-            ClauseWord::End => {
-                return at;
-            }
-        }
+    // The place where it ends is what the loop finds, so no `for` counts it.
+    while let ClauseWord::Word(_) = clause_word(words, at) {
+        at += 1;
     }
+    at
 }

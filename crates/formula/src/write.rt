@@ -1,4 +1,4 @@
-// The writer of formulas. Every writing function answers the place behind what it wrote; none asks for room but the last.
+// The writer of formulas. Every writing function answers the place behind what it wrote; none asks for room but the last. No `Display`: see decimal.rt.
 ghost use Rattle.std.specs.Prelude.{◌≡◌, [], ◌∷◌, ◌++◌, ◌+◌, ◌^◌, ◌<◌, ◌≤◌, max, length, eqb, nat_abs};
 ghost use Rattle.formula.specs.Bounds.{variable_bound};
 ghost use Rattle.formula.specs.Prefix.{prefix_of, entry_count, entry_at, Entries};
@@ -10,16 +10,8 @@ ghost use Rattle.formula.specs.Write.Stream.{line_end, line_turn, entry_text, pr
 
 use crate::prefix::Entry;
 use crate::refusal::{Reason, Refusal};
-use crate::tables::TablesAnswer;
 use crate::word::Word;
 use crate::{clear, decimal, prefix, tables};
-
-// Written, with the used length; or the refusal.
-#[derive(Clone, Copy)]
-pub enum WriteAnswer {
-    Written(usize),
-    Refused(Refusal),
-}
 
 // The letter of the quantifier of the entry at a place.
 fn letter_at(prefix: &[i32], place: usize) -> u8
@@ -33,24 +25,14 @@ fn letter_at(prefix: &[i32], place: usize) -> u8
     }
 }
 
-// The larger of two numbers.
-fn larger(a: usize, b: usize) -> usize
-    ensures { result ≡ max a b }
-{
-    if a < b { b } else { a }
-}
-
 // The largest variable number of a prefix, 0 if it has no entry.
 fn largest_variable(prefix: &[i32]) -> usize
     requires { Entries prefix.now }
     ensures { result ≡ largest (prefix_of prefix.now) }
 {
-    let count = prefix::entry_count(prefix);
-    let mut top = 0;
-    let mut i = 0;
-    while i < count {
-        top = larger(top, prefix::variable_at(prefix, i).0);
-        i += 1;
+    let mut top: usize = 0;
+    for i in 0..prefix::entry_count(prefix) {
+        top = top.max(prefix::variable_at(prefix, i).0);
     }
     top
 }
@@ -115,16 +97,14 @@ fn write_prefix(prefix: &[i32], text: &mut [u8], at: usize) -> usize
     requires prefix_bound { at + length (prefix_text 0 (prefix_of prefix.now)) < 2 ^ 64 }
     ensures { Stores text.old at (prefix_text 0 (prefix_of prefix.now)) text.new result }
 {
-    let count = prefix::entry_count(prefix);
     let mut next = at;
+    // The letter ahead of the first entry: 0, as no letter is.
     let mut last = 0;
-    let mut i = 0;
-    while i < count {
+    for i in 0..prefix::entry_count(prefix) {
         let letter = letter_at(prefix, i);
         let variable = prefix::variable_at(prefix, i);
         next = write_entry(text, next, last, letter, variable.0);
         last = letter;
-        i += 1;
     }
     end_line(text, next, last)
 }
@@ -153,10 +133,8 @@ fn write_clauses(clauses: &[i32], text: &mut [u8], at: usize) -> usize
     ensures { Stores text.old at (clauses_text clauses.now) text.new result }
 {
     let mut next = at;
-    let mut i = 0;
-    while i < clauses.len() {
-        next = write_word(text, next, clauses[i]);
-        i += 1;
+    for word in clauses {
+        next = write_word(text, next, *word);
     }
     next
 }
@@ -173,30 +151,28 @@ fn write_tables(prefix: &[i32], clauses: &[i32], count: usize, text: &mut [u8]) 
     write_clauses(clauses, text, at)
 }
 
-// The end of a writing: room is asked for here, and what was not used is cleared.
-fn finish(text: &mut [u8], used: usize) -> WriteAnswer
+// The end of a writing: room is asked for here, and what was not used is cleared. Answers the used length.
+fn finish(text: &mut [u8], used: usize) -> Result<usize, Refusal>
     ensures { Finishes text.old used result text.new }
 {
     if clear::keep_used(text, used) {
-        return WriteAnswer::Written(used);
+        return Ok(used);
     }
-    WriteAnswer::Refused(Refusal::new(Reason::NoRoom, 0))
+    Err(Refusal::new(Reason::NoRoom, 0))
 }
 
-// Writes the tables as a text, or says why not: the tables' refusals, then 3 at 0 where the text is too short.
-pub fn write_formula(prefix: &[i32], clauses: &[i32], text: &mut [u8]) -> WriteAnswer
+// Writes the tables as a text and answers the used length, or says why not: the tables' refusals, then 3 at 0 where the text is too
+// short.
+pub fn write_formula(prefix: &[i32], clauses: &[i32], text: &mut [u8]) -> Result<usize, Refusal>
     ensures { Writes prefix.now clauses.now (length text.old) result text.new }
 {
     match tables::check_tables(prefix, clauses) {
-        TablesAnswer::Refused(refusal) => {
-            clear::clear_bytes(text, 0);
-            WriteAnswer::Refused(refusal)
+        Err(refusal) => {
+            clear::clear_tail(text, 0, 0);
+            Err(refusal)
         }
-        TablesAnswer::Admitted {
-            variables: _,
-            clauses: count,
-        } => {
-            let used = write_tables(prefix, clauses, count, text);
+        Ok(counts) => {
+            let used = write_tables(prefix, clauses, counts.clauses, text);
             finish(text, used)
         }
     }

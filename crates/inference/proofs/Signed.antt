@@ -1,24 +1,26 @@
 -- Tests on signed words as the code makes them, and the slot of a literal and of its opposite. All reasoning on the bits of a
 -- word is here. Assumes nothing.
-use Prim.Native.Nat.{ℕ, zero, suc, ◌^◌, ◌<◌, ◌≤◌}
+use Rattle.std.specs.Prelude.{None}
+use Prim.Native.Nat.{ℕ, zero, suc, ◌+◌, ◌^◌, ◌<◌, ◌≤◌}
+use Rattle.formula.specs.Decode.{clause_at}
+use Rattle.formula.specs.Decode.Places.{clause_zero, clause_literal}
 use mathlib.Core.Path.{◌≡◌, refl, ap, ap₂, sym, ◌∙◌}
-use mathlib.Core.Bool.{Bool, true, false, false≢true}
+use mathlib.Core.Bool.{Bool, true, false}
 use native.Mathlib.Omega.{arith}
-use borrow.Author.Tests.{eqb-true, eqb-false, ltb-true}
-use lib.Dec.{T, eqb}
-use lib.IntN.{ℤ, pos, negsuc, neg_ℤ, nat_abs}
-use lib.Signed.{mag, lt_z, non_neg}
+use borrow.Author.Tests.{eqb-true, eqb-false}
+use lib.Dec.{eqb}
+use mathlib.Core.List.{List, [], ◌∷◌}
+use lib.ListN.{length, get_or}
+use lib.IntN.{ℤ, pos, negsuc, neg_ℤ}
+use lib.Signed.{mag}
 use mir.Syntax.{w32}
 use mir.Val.{to_z, of_z, SFits, hbits}
 use mir.Facts.{to_z-of_z, to_z_pos}
-use Rattle.formula.specs.Bounds.{in_range, number_fit}
-use Rattle.formula.specs.declared.literal.NumberFit.TheVariants.{Outside}
 use Rattle.formula.specs.Word.{word_of, slot_of, opposite}
 use Rattle.formula.specs.Word.Laws.{opposite_word}
 use Rattle.formula.specs.declared.word.Word.{Word}
 use Rattle.inference.specs.Words.{same_word, is_zero, InRange}
 use Rattle.inference.specs.Words.Laws.{same_complete, apart_same}
-use Rattle.inference.specs.Numbered.{number_of}
 use Rattle.inference.specs.Marks.{slot_at}
 
 -- Equal bits, equal words.
@@ -36,6 +38,14 @@ read_back z h = to_z-of_z {w = w32} (record { sfits = h })
 pub read_zero : (z : ℤ) {r b : Bool} → mag z < 2 ^ hbits w32 → r ≡ is_zero (to_z w32 (of_z w32 z)) → r ≡ b → is_zero z ≡ b
 read_zero z h e t = ap is_zero (sym (read_back z h)) ∙ sym e ∙ t
 
+-- A word read in a loop over a clause: the 0 that closes it, or one more literal.
+module _ (words : List ℤ) (i : ℕ) (within : i < length words) (fits : mag (get_or words i (pos 0)) < 2 ^ hbits w32) {r : Bool} (told : r ≡ is_zero (to_z w32 (of_z w32 (get_or words i (pos 0))))) where
+  pub read_close : r ≡ true → clause_at words i ≡ []
+  read_close t = clause_zero words i within (read_zero (get_or words i (pos 0)) fits told t)
+
+  pub read_literal : r ≡ false → clause_at words i ≡ get_or words i (pos 0) ∷ clause_at words (i + 1)
+  read_literal t = clause_literal words i within (read_zero (get_or words i (pos 0)) fits told t)
+
 -- Parameters handed on to a call.
 pub read_same : (a b : ℤ) {r t : Bool} → SFits w32 a → SFits w32 b → r ≡ same_word (to_z w32 (of_z w32 a)) (to_z w32 (of_z w32 b)) → r ≡ t → same_word a b ≡ t
 read_same a b ha hb e t = ap₂ same_word (sym (to_z-of_z ha)) (sym (to_z-of_z hb)) ∙ sym e ∙ t
@@ -47,23 +57,6 @@ read_slot x h e = e ∙ ap (λ (y : ℤ). slot_of (word_of y)) (to_z-of_z h)
 pub read_opposite : (x : ℤ) {n : ℕ} → SFits w32 x → n ≡ slot_of (opposite (word_of (to_z w32 (of_z w32 x)))) → n ≡ slot_at (neg_ℤ x)
 unfolding slot_at
 read_opposite x h e = e ∙ ap (λ (y : ℤ). slot_of (opposite (word_of y))) (to_z-of_z h) ∙ ap slot_of (sym (opposite_word x))
-
--- A word against a small number.
-pub read_number : (z : ℤ) (n : ℕ) {r t : Bool} → SFits w32 z → r ≡ same_word (to_z w32 (of_z w32 z)) (pos n) → r ≡ t → same_word z (pos n) ≡ t
-read_number z n h e t = ap (λ (y : ℤ). same_word y (pos n)) (sym (to_z-of_z h)) ∙ sym e ∙ t
-
--- A clause number is no negative word.
-pub number_negative : (z : ℤ) (last : ℕ) → lt_z z (pos 0) ≡ true → Outside ≡ number_of z last
-number_negative (pos n) last h = absurd (omega (arith, ltb-true n 0 h))
-number_negative (negsuc n) last h = refl
-
-pub number_unsigned : (z : ℤ) → lt_z z (pos 0) ≡ false → T (non_neg z)
-number_unsigned (pos n) h = tt
-number_unsigned (negsuc n) h = absurd (false≢true (sym h))
-
-pub number_fits : (z : ℤ) (last : ℕ) → lt_z z (pos 0) ≡ false → number_fit (in_range (nat_abs z) last) (nat_abs z) ≡ number_of z last
-number_fits (pos n) last h = refl
-number_fits (negsuc n) last h = absurd (false≢true (sym h))
 
 pub read_word : (z : ℤ) {r : Word} → SFits w32 z → r ≡ word_of (to_z w32 (of_z w32 z)) → r ≡ word_of z
 read_word z h e = e ∙ ap word_of (to_z-of_z h)

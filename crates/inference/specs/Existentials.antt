@@ -1,14 +1,14 @@
 -- Which variables have a quantifier, as the code keeps it: a flag for each variable, that of v at v - 1. That the flags answer the tests of a
 -- scope is in Existentials/Laws.antt.
 pub mod Laws
+use Rattle.std.specs.Prelude.{Option, None}
+use Rattle.formula.specs.declared.literal.Variable.{Variable}
 use Rattle.std.specs.Prelude.{ℕ, ◌-◌, Bool, true, false, List, [], ◌∷◌, get_or, set, replicate, eqb, ℤ}
 use Rattle.qbf.specs.Formula.{Quantifier, existential, Entry, Prefix}
 use Rattle.formula.specs.Bounds.{variable_fit}
 use Rattle.formula.specs.Prefix.{prefix_of, is_quantifier}
 use Rattle.formula.specs.declared.word.Word.{Word}
 use Rattle.formula.specs.declared.word.Word.TheVariants.{Zero, TooLarge, Positive, Negative}
-use Rattle.formula.specs.declared.literal.VariableFit.{VariableFit}
-use Rattle.formula.specs.declared.literal.VariableFit.TheVariants.{Outside}
 
 -- The flags with a variable's put, where it is asked for.
 abbrev pub put_if : Bool → ℕ → List ℕ → List ℕ
@@ -31,8 +31,8 @@ abbrev pub existentials_of : List ℤ → List ℕ
 existentials_of prefix = quantified_flags existential (prefix_of prefix)
 
 -- The variable of a word that is a positive literal of an existential.
-abbrev pub existential_of : List ℕ → Word → VariableFit
-existential_of fs Zero = Outside
-existential_of fs TooLarge = Outside
+abbrev pub existential_of : List ℕ → Word → Option Variable
+existential_of fs Zero = None
+existential_of fs TooLarge = None
 existential_of fs (Positive v) = variable_fit (eqb (get_or fs (v.0 - 1) 0) 1) v.0
-existential_of fs (Negative v) = Outside
+existential_of fs (Negative v) = None

@@ -1,19 +1,19 @@
 -- Numbered clauses as the code finds them, by the clause offsets (the table that 01 calls starts): of an input clause the place of
 -- its first word in the clause table, of a step the place of the step's first word in the step words.
 pub mod Laws
+use Rattle.std.specs.Prelude.{Option, None}
+use Rattle.formula.specs.declared.literal.ClauseNumber.{ClauseNumber}
 use Rattle.std.specs.Prelude.{ℕ, zero, suc, ◌≡◌, Bool, true, false, List, [], ◌∷◌, ◌++◌, length, get_or, ltb, ℤ, pos, negsuc}
 use Rattle.formula.specs.Bounds.{in_range, number_fit}
 use Rattle.formula.specs.Decode.{clauses_of, clause_at}
-use Rattle.formula.specs.declared.literal.NumberFit.{NumberFit}
-use Rattle.formula.specs.declared.literal.NumberFit.TheVariants.{Outside}
 use Rattle.inference.specs.Words.{Words}
 use Rattle.inference.specs.Empty.{first_empty, empty_number}
 use Rattle.inference.specs.Read.{statement_of}
 
 -- The number that a word is, from 1 to the last.
-abbrev pub number_of : ℤ → ℕ → NumberFit
+abbrev pub number_of : ℤ → ℕ → Option ClauseNumber
 number_of (pos n) last = number_fit (in_range n last) n
-number_of (negsuc n) last = Outside
+number_of (negsuc n) last = None
 
 -- An input clause stands in the clause table, another one in the step words.
 abbrev pub table_of : Bool → Words → Words → Words

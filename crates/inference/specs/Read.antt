@@ -1,29 +1,24 @@
 -- What the code reads of a step: its kind, where its statement begins and is closed, its fields, and the place after it.
 -- Steps.antt has what a step is; that the two agree is in Read/Laws.antt.
 pub mod Laws
+use Rattle.std.specs.Prelude.{Option as Optional, Some, None}
 use Rattle.std.specs.Prelude.{ℕ, ◌+◌, Bool, true, false, length, get_or, ℤ, pos}
 use Rattle.std.proofs.Math.Option.{Option, none, some}
 use Rattle.formula.specs.Decode.{first_clause}
 use Rattle.inference.specs.declared.read.Family.{Family}
 use Rattle.inference.specs.declared.read.Family.TheVariants.{Ordinary, LongDistance}
-use Rattle.inference.specs.declared.read.Kind.{Kind as KindRead}
-use Rattle.inference.specs.declared.read.Kind.TheVariants.{Resolves, Reduces, Other}
-use Rattle.inference.specs.declared.read.Close.{Close}
-use Rattle.inference.specs.declared.read.Close.TheVariants.{At, Missing}
 use Rattle.inference.specs.declared.read.StepKind.{StepKind}
 use Rattle.inference.specs.declared.read.StepKind.TheVariants.{Resolution, Reduction}
 use Rattle.inference.specs.declared.read.StepRead.{StepRead}
-use Rattle.inference.specs.declared.read.Reading.{Reading}
-use Rattle.inference.specs.declared.read.Reading.TheVariants.{Broken, Step as Fields}
 use Rattle.inference.specs.Words.{Words, closes}
 use Rattle.inference.specs.Steps.{Step, resolution, reduction, size_of, Kind, resolves, reduces, other, kind_of}
 
-abbrev pub kind_read : Kind → KindRead
-kind_read resolves = Resolves
-kind_read reduces = Reduces
-kind_read other = Other
+abbrev pub kind_read : Kind → Optional StepKind
+kind_read resolves = Some Resolution
+kind_read reduces = Some Reduction
+kind_read other = None
 
-abbrev pub kind_is : Family → ℤ → KindRead
+abbrev pub kind_is : Family → ℤ → Optional StepKind
 kind_is f w = kind_read (kind_of f w)
 
 -- The first of two kinds that is one.
@@ -45,12 +40,12 @@ statement_from at other = at
 unfoldable pub statement_of : Words → ℕ → ℕ
 statement_of steps at = statement_from at (any_kind (get_or steps at (pos 0)))
 
-abbrev pub close_if : Bool → ℕ → Close
-close_if true n = At n
-close_if false n = Missing
+abbrev pub close_if : Bool → ℕ → Optional ℕ
+close_if true n = Some n
+close_if false n = None
 
 -- The words `ws` stand at the place `from`.
-unfoldable pub closed_at : ℕ → Words → Close
+unfoldable pub closed_at : ℕ → Words → Optional ℕ
 closed_at from ws = close_if (closes ws) (from + length (first_clause ws) + 1)
 
 -- A step that stands at `at`, laid out in fields. A reduction has no second antecedent: 0.
@@ -60,9 +55,9 @@ fields_of at (resolution f i j e L) =
 fields_of at (reduction f i a L) =
     record { kind = Reduction; family = f; first = i; second = pos 0; pivot = a; statement = at + 3; next = at + size_of (reduction f i a L) }
 
-abbrev pub reading_of : ℕ → Option Step → Reading
-reading_of at none = Broken
-reading_of at (some s) = Fields (fields_of at s)
+abbrev pub reading_of : ℕ → Option Step → Optional StepRead
+reading_of at none = None
+reading_of at (some s) = Some (fields_of at s)
 
 -- The step that the fields and the statement make up.
 abbrev pub step_by : StepKind → StepRead → Words → Step

@@ -1,8 +1,9 @@
 -- Clauses as lists of words (01, "The game and its tables"): a word stands in a clause, a clause without a word, a 0 closes
 -- one; words in range. The clause at a place and its laws are in Decode.antt of formula.
 pub mod Laws
-use Rattle.std.specs.Prelude.{◌≤◌, Bool, true, false, ◌||◌, eqb, ℤ, pos, negsuc, nat_abs}
+use Rattle.std.specs.Prelude.{◌≡◌, ◌≤◌, Bool, true, false, ◌||◌, eqb, ℤ, pos, negsuc, nat_abs}
 use mathlib.Core.List.{List, [], ◌∷◌, Memᴰ}
+use Rattle.std.specs.List.{list_any}
 use Rattle.formula.specs.Bounds.{variable_bound}
 unfoldable pub use Rattle.formula.specs.Word.{is_zero}
 
@@ -27,6 +28,10 @@ keep false y later = y ∷ later
 unfoldable pub without : ℤ → Words → Words
 without x [] = []
 without x (y ∷ C) = keep (same_word x y) y (without x C)
+
+-- What was told of a test that was asked of words: whether one passes, by whatever it computes at each of them.
+abbrev pub TellsAny : (ℤ → Bool → Type 0) → Words → Bool → Type 0
+TellsAny Post C told = (P : ℤ → Bool) → ((x : ℤ) (b : Bool) → Memᴰ x C → Post x b → b ≡ P x) → told ≡ list_any P C
 
 -- A 0 stands among the words.
 unfoldable pub closes : Words → Bool

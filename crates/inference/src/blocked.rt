@@ -9,6 +9,7 @@ ghost use Rattle.dependency.specs.Scratch.{small_bound, row_in};
 ghost use Rattle.inference.specs.Blocked.{touches, blocks_by};
 ghost use Rattle.inference.specs.Steps.{leftmost};
 
+use crate::clause::any_word;
 use dependency::row::depends_in;
 use formula::literal::Variable;
 use formula::prefix::{blocker_at, entry_count};
@@ -32,18 +33,7 @@ pub fn row_touches(words: &[i32], from: usize, scratch: &[u8]) -> bool
     requires { length scratch.now ≡ small_bound }
     ensures { result ≡ touches (row_in scratch.now) (clause_at words.now from) }
 {
-    let mut i = from;
-    while i < words.len() {
-        let word = words[i];
-        if Word::is_zero(word) {
-            return false;
-        }
-        if word_touches(word, scratch) {
-            return true;
-        }
-        i += 1;
-    }
-    false
+    any_word(words, from, |word| word_touches(word, scratch))
 }
 
 // Whether a variable stands in the clause that begins at `from`. One pass over the clause.
@@ -51,24 +41,13 @@ fn has_variable(words: &[i32], from: usize, variable: Variable) -> bool
     requires { variable.0 ≤ variable_bound }
     ensures { result ≡ occurs variable.0 (clause_at words.now from) }
 {
-    let mut i = from;
-    while i < words.len() {
-        let word = words[i];
-        if Word::is_zero(word) {
-            return false;
-        }
-        if Word::variable(word) == variable.0 {
-            return true;
-        }
-        i += 1;
-    }
-    false
+    any_word(words, from, |word| Word::variable(word) == variable.0)
 }
 
 // Whether a variable depends on the row's and stands in the clause.
 fn blocks(variable: Variable, words: &[i32], from: usize, scratch: &[u8]) -> bool
-    requires fact_1 { variable.0 ≤ variable_bound }
-    requires fact_2 { length scratch.now ≡ small_bound }
+    requires variable_in_bound { variable.0 ≤ variable_bound }
+    requires scratch_whole { length scratch.now ≡ small_bound }
     ensures { result ≡ blocks_by (row_in scratch.now) (clause_at words.now from) variable.0 }
 {
     if depends_in(scratch, variable.0) {
@@ -80,19 +59,16 @@ fn blocks(variable: Variable, words: &[i32], from: usize, scratch: &[u8]) -> boo
 // What blocks: the leftmost entry whose variable depends on the row's and stands in the clause, which has one. A pass over the clause for
 // each dependent before it; it is asked for once in a run, where a step is refused.
 pub fn find_blocker(prefix: &[i32], words: &[i32], from: usize, scratch: &[u8]) -> Blocker
-    requires fact_1 { Entries prefix.now }
-    requires fact_2 { IsTable prefix.now }
-    requires fact_3 { length scratch.now ≡ small_bound }
+    requires entries { Entries prefix.now }
+    requires is_table { IsTable prefix.now }
+    requires scratch_whole { length scratch.now ≡ small_bound }
     ensures { result ≡ leftmost (blocks_by (row_in scratch.now) (clause_at words.now from)) (with_blocks (prefix_of prefix.now)) }
 {
-    let count = entry_count(prefix);
-    let mut i = 0;
-    while i < count {
+    for i in 0..entry_count(prefix) {
         let blocker = blocker_at(prefix, i);
         if blocks(blocker.variable, words, from, scratch) {
             return blocker;
         }
-        i += 1;
     }
     Blocker {
         variable: Variable::first(),

@@ -9,18 +9,20 @@ ghost use Rattle.qbf.specs.Formula.{after};
 ghost use Rattle.inference.specs.Existentials.{put_if, quantified_entry, quantified_flags, existential_of};
 
 use bits::{is_set, put};
-use formula::literal::{Variable, VariableFit};
+use formula::literal::Variable;
 use formula::prefix::{Entry, entry_at, entry_count, variable_at};
 use formula::word::Word;
 
 // Where in scratch the existentials end: they begin at `LATER`.
 pub const EXISTENTIALS_END: usize = 512;
 
+// How many bytes hold the flags, eight a byte.
+pub const FLAG_BYTES: usize = 128;
+
 // Puts a variable's flag, where it is asked for.
-fn put_if(asked: bool, variable: Variable, bytes: &mut [u8])
-    requires fact_1 { length bytes.old ≡ 128 }
-    requires fact_2 { 1 ≤ variable.0 }
-    requires fact_3 { variable.0 ≤ 1024 }
+fn put_if(asked: bool, variable: Variable, bytes: &mut [u8; FLAG_BYTES])
+    requires is_positive { 1 ≤ variable.0 }
+    requires in_bound { variable.0 ≤ 1024 }
     ensures { flags bytes.new ≡ put_if asked variable.0 (flags bytes.old) }
 {
     if asked {
@@ -29,10 +31,9 @@ fn put_if(asked: bool, variable: Variable, bytes: &mut [u8])
 }
 
 // Puts the flag of the entry at a place, if it has the quantifier asked for: existential or not.
-fn fill_entry(prefix: &[i32], place: usize, existential: bool, bytes: &mut [u8])
-    requires fact_1 { Entries prefix.now }
-    requires fact_2 { place < entry_count prefix.now }
-    requires fact_3 { length bytes.old ≡ 128 }
+fn fill_entry(prefix: &[i32], place: usize, existential: bool, bytes: &mut [u8; FLAG_BYTES])
+    requires entries { Entries prefix.now }
+    requires place_in { place < entry_count prefix.now }
     ensures { flags bytes.new ≡ quantified_entry (quantifier_of existential) (flags bytes.old) (entry_at prefix.now place) }
 {
     match entry_at(prefix, place) {
@@ -42,16 +43,15 @@ fn fill_entry(prefix: &[i32], place: usize, existential: bool, bytes: &mut [u8])
 }
 
 // Puts the flags of the existentials, or of the universals, from a place of the prefix on. One pass over it.
+// Lent as a slice: of a part that is lent as an array the callers' check does not know what it becomes.
 pub fn fill_quantified(prefix: &[i32], from: usize, existential: bool, bytes: &mut [u8])
-    requires fact_1 { Entries prefix.now }
-    requires fact_2 { bytes.old ≡ replicate 128 0 }
+    requires entries { Entries prefix.now }
+    requires cleared { bytes.old ≡ replicate 128 0 }
     ensures { flags bytes.new ≡ quantified_flags (quantifier_of existential) (drop from (prefix_of prefix.now)) }
 {
-    let count = entry_count(prefix);
-    let mut i = from;
-    while i < count {
-        fill_entry(prefix, i, existential, bytes);
-        i += 1;
+    let flags = bytes.as_mut_array::<FLAG_BYTES>().unwrap();
+    for i in from..entry_count(prefix) {
+        fill_entry(prefix, i, existential, flags);
     }
 }
 
@@ -61,39 +61,34 @@ pub fn place_behind(prefix: &[i32], variable: Variable) -> usize
     ensures { drop result (prefix_of prefix.now) ≡ after variable.0 (prefix_of prefix.now) }
 {
     let count = entry_count(prefix);
-    let mut i = 0;
-    while i < count {
-        let listed = variable_at(prefix, i);
-        i += 1;
-        if listed.0 == variable.0 {
-            return i;
+    for i in 0..count {
+        if variable_at(prefix, i).0 == variable.0 {
+            return i + 1;
         }
     }
-    i
+    count
 }
 
 // The variable, if it is existential.
-fn if_existential(variable: Variable, bytes: &[u8]) -> VariableFit
-    requires fact_1 { length bytes.now ≡ 128 }
-    requires fact_2 { 1 ≤ variable.0 }
-    requires fact_3 { variable.0 ≤ 1024 }
+fn if_existential(variable: Variable, bytes: &[u8; FLAG_BYTES]) -> Option<Variable>
+    requires is_positive { 1 ≤ variable.0 }
+    requires in_bound { variable.0 ≤ 1024 }
     ensures { result ≡ variable_fit (eqb (get_or (flags bytes.now) (variable.0 - 1) 0) 1) variable.0 }
 {
     if is_set(bytes, variable.0 - 1) {
-        return VariableFit::Within(variable);
+        return Some(variable);
     }
-    VariableFit::Outside
+    None
 }
 
 // The variable of a word that is a positive literal of an existential.
-pub fn existential_of(word: i32, bytes: &[u8]) -> VariableFit
-    requires { length bytes.now ≡ 128 }
+pub fn existential_of(word: i32, bytes: &[u8; FLAG_BYTES]) -> Option<Variable>
     ensures { result ≡ existential_of (flags bytes.now) (word_of word) }
 {
     match Word::of(word) {
-        Word::Zero => VariableFit::Outside,
-        Word::TooLarge => VariableFit::Outside,
+        Word::Zero => None,
+        Word::TooLarge => None,
         Word::Positive(v) => if_existential(v, bytes),
-        Word::Negative(_) => VariableFit::Outside,
+        Word::Negative(_) => None,
     }
 }

@@ -4,27 +4,30 @@
 ghost use Rattle.std.specs.Prelude.{◌≡◌, eqb, length, get_or, set, neg_ℤ};
 ghost use Rattle.bits.specs.Flags.{flags};
 ghost use Rattle.formula.specs.Decode.{clause_at};
-ghost use Rattle.inference.specs.Words.{without, InRange, AllInRange};
+ghost use Rattle.inference.specs.Clause.{words_of};
+ghost use Rattle.inference.specs.Words.{without, InRange};
 ghost use Rattle.inference.specs.Marks.{slot_at, marks_in, any_marked, Marked, Ticked, Wiped, alone};
 
+use crate::clause::{ClauseAt, words_from};
 use crate::words::same;
 use bits::{is_set, put};
-use formula::clear::clear_bytes;
+use formula::clear::clear_tail;
 use formula::word::Word;
 
+// How many bytes hold the marks, eight flags a byte.
+pub const MARK_BYTES: usize = 256;
+
 // Whether the opposite of a word is marked.
-pub fn opposite_marked(word: i32, marks: &[u8]) -> bool
-    requires fact_1 { length marks.now ≡ 256 }
-    requires fact_2 { InRange word }
+pub fn opposite_marked(word: i32, marks: &[u8; MARK_BYTES]) -> bool
+    requires { InRange word }
     ensures { result ≡ eqb (get_or (marks_in marks.now) (slot_at (neg_ℤ word)) 0) 1 }
 {
     is_set(marks, Word::opposite_slot(word) - 2)
 }
 
 // Marks a word, unless it is the one left out; tells whether its opposite is marked.
-fn mark_word(word: i32, except: i32, marks: &mut [u8]) -> bool
-    requires fact_1 { length marks.old ≡ 256 }
-    requires fact_2 { InRange word }
+fn mark_word(word: i32, except: i32, marks: &mut [u8; MARK_BYTES]) -> bool
+    requires { InRange word }
     ensures { Marked (marks_in marks.old) (without except (alone word)) result (marks_in marks.new) }
 {
     if same(except, word) {
@@ -36,37 +39,30 @@ fn mark_word(word: i32, except: i32, marks: &mut [u8]) -> bool
 }
 
 // Marks the clause but for one literal; tells whether a literal met its opposite. One pass over the clause.
-pub fn mark_clause(words: &[i32], from: usize, except: i32, marks: &mut [u8]) -> bool
-    requires fact_1 { length marks.old ≡ 256 }
-    requires fact_2 { AllInRange (clause_at words.now from) }
-    ensures { Marked (marks_in marks.old) (without except (clause_at words.now from)) result (marks_in marks.new) }
+pub fn mark_clause(clause: ClauseAt, except: i32, marks: &mut [u8; MARK_BYTES]) -> bool
+    ensures { Marked (marks_in marks.old) (without except (words_of clause.entry)) result (marks_in marks.new) }
 {
     let mut told = false;
-    let mut i = from;
-    while i < words.len() {
-        let word = words[i];
+    let rest = words_from(clause.words, clause.from);
+    for &word in rest {
         if Word::is_zero(word) {
             return told;
         }
-        let met = mark_word(word, except, marks);
-        told = told | met;
-        i += 1;
+        told |= mark_word(word, except, marks);
     }
     told
 }
 
 // Takes away a word's mark.
-pub fn unmark(word: i32, marks: &mut [u8])
-    requires fact_1 { length marks.old ≡ 256 }
-    requires fact_2 { InRange word }
+pub fn unmark(word: i32, marks: &mut [u8; MARK_BYTES])
+    requires { InRange word }
     ensures { marks_in marks.new ≡ set (marks_in marks.old) (slot_at word) 0 }
 {
     put(marks, Word::slot(word) - 2, false);
 }
 
 // Ticks off a word that is marked: its mark is cleared. Or tells that it is not marked.
-fn tick_word(word: i32, marks: &mut [u8]) -> bool
-    requires { length marks.old ≡ 256 }
+fn tick_word(word: i32, marks: &mut [u8; MARK_BYTES]) -> bool
     ensures { Ticked (marks_in marks.old) (alone word) result (marks_in marks.new) }
 {
     let slot = Word::slot(word);
@@ -81,19 +77,15 @@ fn tick_word(word: i32, marks: &mut [u8]) -> bool
 }
 
 // Ticks off the clause up to the first word that is not marked, or is ticked off already; tells whether there was none.
-pub fn tick(words: &[i32], from: usize, marks: &mut [u8]) -> bool
-    requires { length marks.old ≡ 256 }
+pub fn tick(words: &[i32], from: usize, marks: &mut [u8; MARK_BYTES]) -> bool
     ensures { Ticked (marks_in marks.old) (clause_at words.now from) result (marks_in marks.new) }
 {
-    let mut i = from;
-    while i < words.len() {
-        let word = words[i];
+    let rest = words_from(words, from);
+    for &word in rest {
         if Word::is_zero(word) {
             return true;
         }
-        if tick_word(word, marks) {
-            i += 1;
-        } else {
+        if !tick_word(word, marks) {
             return false;
         }
     }
@@ -105,20 +97,17 @@ fn any_marked(bytes: &[u8]) -> bool
     ensures { result ≡ any_marked (flags bytes.now) }
 {
     let mut found = false;
-    let mut i = 0;
-    while i < bytes.len() {
-        found = found | (bytes[i] != 0);
-        i += 1;
+    for &byte in bytes {
+        found |= byte != 0;
     }
     found
 }
 
 // Wipes all marks; tells whether there was one. One pass over the 256 bytes, whatever was marked: less than the clauses once more.
-pub fn wipe(marks: &mut [u8]) -> bool
-    requires { length marks.old ≡ 256 }
+pub fn wipe(marks: &mut [u8; MARK_BYTES]) -> bool
     ensures { Wiped (marks_in marks.old) result (marks_in marks.new) }
 {
     let found = any_marked(marks);
-    clear_bytes(marks, 0);
+    clear_tail(marks, 0, 0);
     found
 }

@@ -14,29 +14,28 @@ pub enum Family {
     LongDistance,
 }
 
-// What a kind word says in a family.
+// The two kinds of step.
 #[derive(Clone, Copy)]
-pub enum Kind {
-    Resolves,
-    Reduces,
-    Other,
+pub enum StepKind {
+    Resolution,
+    Reduction,
 }
 
-// The kind that a word is, by the two words of a family.
-fn kind_by(word: i32, resolves: i32, reduces: i32) -> Kind
+// The kind that a word is, by the two words of a family, if it is one of them.
+fn kind_by(word: i32, resolves: i32, reduces: i32) -> Option<StepKind>
     ensures { result ≡ kind_read (kind_by (same_word word resolves) (same_word word reduces)) }
 {
     if same(word, resolves) {
-        return Kind::Resolves;
+        return Some(StepKind::Resolution);
     }
     if same(word, reduces) {
-        return Kind::Reduces;
+        return Some(StepKind::Reduction);
     }
-    Kind::Other
+    None
 }
 
-// The kind that a word is in a family.
-pub fn kind_of(word: i32, family: Family) -> Kind
+// The kind that a word is in a family, if it is one.
+pub fn kind_of(word: i32, family: Family) -> Option<StepKind>
     ensures { result ≡ kind_is family word }
 {
     match family {
@@ -52,9 +51,8 @@ pub fn family_of(steps: &[i32]) -> Family
     if 0 < steps.len() {
         let word = steps[0];
         return match kind_of(word, Family::LongDistance) {
-            Kind::Resolves => Family::LongDistance,
-            Kind::Reduces => Family::LongDistance,
-            Kind::Other => Family::Ordinary,
+            Some(_) => Family::LongDistance,
+            None => Family::Ordinary,
         };
     }
     Family::Ordinary
@@ -68,41 +66,27 @@ pub fn statement_of(steps: &[i32], at: usize) -> usize
     if at < steps.len() {
         let word = steps[at];
         return match kind_of(word, Family::Ordinary) {
-            Kind::Resolves => at + 4,
-            Kind::Reduces => at + 3,
-            Kind::Other => match kind_of(word, Family::LongDistance) {
-                Kind::Resolves => at + 4,
-                Kind::Reduces => at + 3,
-                Kind::Other => at,
+            Some(StepKind::Resolution) => at + 4,
+            Some(StepKind::Reduction) => at + 3,
+            None => match kind_of(word, Family::LongDistance) {
+                Some(StepKind::Resolution) => at + 4,
+                Some(StepKind::Reduction) => at + 3,
+                None => at,
             },
         };
     }
     at
 }
 
-// The place after the 0 that closes a clause, if one does.
-#[derive(Clone, Copy)]
-pub enum Close {
-    At(usize),
-    Missing,
-}
-
-// Where the clause that begins at `from` is closed. One pass over its words.
-pub fn close_of(words: &[i32], from: usize) -> Close
+// The place after the 0 that closes the clause that begins at `from`, if one does. One pass over its words.
+pub fn close_of(words: &[i32], from: usize) -> Option<usize>
     ensures { result ≡ closed_at from (drop from words.now) }
 {
     let end = end_of(words, from);
     if end < words.len() {
-        return Close::At(end + 1);
+        return Some(end + 1);
     }
-    Close::Missing
-}
-
-// The two kinds of step.
-#[derive(Clone, Copy)]
-pub enum StepKind {
-    Resolution,
-    Reduction,
+    None
 }
 
 // The fields of a step.
@@ -117,22 +101,17 @@ pub struct StepRead {
     pub next: usize, // where the next step begins
 }
 
-// The fields, or that no step of the family stands there: another kind, or words that end before the closing 0.
-#[derive(Clone, Copy)]
-pub enum Reading {
-    Broken,
-    Step(StepRead),
-}
-
-// Reads the step of a family whose first word stands at `at`. One pass over its words.
-pub fn read_step(steps: &[i32], at: usize, family: Family) -> Reading
+// The step of a family whose first word stands at `at`, if one does: not where the kind is another, or the words end before the closing 0.
+// One pass over its words.
+pub fn read_step(steps: &[i32], at: usize, family: Family) -> Option<StepRead>
     requires { at < length steps.now }
     ensures { result ≡ reading_of at (read_step family (drop at steps.now)) }
 {
     let word = steps[at];
-    match kind_of(word, family) {
-        Kind::Resolves => match close_of(steps, at + 4) {
-            Close::At(next) => Reading::Step(StepRead {
+    match kind_of(word, family)? {
+        StepKind::Resolution => {
+            let next = close_of(steps, at + 4)?;
+            Some(StepRead {
                 kind: StepKind::Resolution,
                 family,
                 first: steps[at + 1],
@@ -140,11 +119,11 @@ pub fn read_step(steps: &[i32], at: usize, family: Family) -> Reading
                 pivot: steps[at + 3],
                 statement: at + 4,
                 next,
-            }),
-            Close::Missing => Reading::Broken,
-        },
-        Kind::Reduces => match close_of(steps, at + 3) {
-            Close::At(next) => Reading::Step(StepRead {
+            })
+        }
+        StepKind::Reduction => {
+            let next = close_of(steps, at + 3)?;
+            Some(StepRead {
                 kind: StepKind::Reduction,
                 family,
                 first: steps[at + 1],
@@ -152,9 +131,7 @@ pub fn read_step(steps: &[i32], at: usize, family: Family) -> Reading
                 pivot: steps[at + 2],
                 statement: at + 3,
                 next,
-            }),
-            Close::Missing => Reading::Broken,
-        },
-        Kind::Other => Reading::Broken,
+            })
+        }
     }
 }

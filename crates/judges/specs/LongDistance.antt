@@ -1,5 +1,8 @@
 -- Known positions of long-distance proofs (02, P14), each a verdict on concrete tables or the answer of a game on them, by computation. Words as in
 -- Positions.
+use Rattle.std.specs.Prelude.{Ok, Err, false}
+use Rattle.formula.specs.declared.refusal.Refusal.{Refusal}
+use Rattle.checker.specs.Verdict.{Verdict, accept}
 use Rattle.std.specs.Prelude.{refl, List, [], ◌∷◌, ◌++◌, ℤ, pos, negsuc}
 use Rattle.std.proofs.Math.Decide.{ℕ_discrete}
 use Rattle.qbf.specs.Literal.{same}
@@ -15,12 +18,10 @@ use Rattle.formula.specs.Decode.{first_clause, clauses_of}
 use Rattle.formula.specs.Tables.{is_in, zeros, prefix_refusal, clauses_refusal, words_refusal, tables_refusal}
 use Rattle.formula.specs.Refusal.{refusal}
 use Rattle.formula.specs.declared.refusal.Reason.TheVariants.{BrokenStep, WrongPivot, Tautology, Blocked, Misstated, Afterword}
-use Rattle.checker.specs.declared.verdict.Verdict.TheVariants.{Accepted, Refused}
 use Rattle.inference.specs.Words.{same_word, holds, without, closes}
 use Rattle.inference.specs.Steps.{family_of, read_step, crosses, unresolvable, lists, covers, states, blocked, leftmost, blocker_of, judge_resolution, judge_reduction, judge_first, run}
 use Rattle.inference.specs.Empty.{some_empty, first_empty, last_empty}
 use Rattle.checker.specs.Verdict.{sized_verdict, verdict_of}
-use Rattle.evaluator.specs.declared.evaluation.Evaluation.TheVariants.{False}
 use Rattle.evaluator.specs.Evaluation.{evaluation_of}
 use Rattle.judges.specs.Positions.{Position, proof, game, AllAnswered}
 
@@ -66,32 +67,32 @@ both_steps rest =
 abbrev pub long_distance_positions : List Position
 long_distance_positions =
     -- merged right of the pivot, then both signs removed; and the game
-    proof (e 1 1 (a 2 2 [])) pair_clauses (merge ++ (pos 4 ∷ pos 3 ∷ pos 2 ∷ pos 0 ∷ [])) (Accepted (record { 0 = 4 }) 2)
-    ∷ game (e 1 1 (a 2 2 [])) pair_clauses False
+    proof (e 1 1 (a 2 2 [])) pair_clauses (merge ++ (pos 4 ∷ pos 3 ∷ pos 2 ∷ pos 0 ∷ [])) (accept (record { 0 = 4 }) 2)
+    ∷ game (e 1 1 (a 2 2 [])) pair_clauses (Ok false)
     -- by the other sign too; one sign left stated
-    ∷ proof (e 1 1 (a 2 2 [])) pair_clauses (merge ++ (pos 4 ∷ pos 3 ∷ negsuc 1 ∷ pos 0 ∷ [])) (Accepted (record { 0 = 4 }) 2)
-    ∷ proof (e 1 1 (a 2 2 [])) pair_clauses (merge ++ (pos 4 ∷ pos 3 ∷ pos 2 ∷ negsuc 1 ∷ pos 0 ∷ [])) (Refused (refusal Misstated 4))
+    ∷ proof (e 1 1 (a 2 2 [])) pair_clauses (merge ++ (pos 4 ∷ pos 3 ∷ negsuc 1 ∷ pos 0 ∷ [])) (accept (record { 0 = 4 }) 2)
+    ∷ proof (e 1 1 (a 2 2 [])) pair_clauses (merge ++ (pos 4 ∷ pos 3 ∷ pos 2 ∷ negsuc 1 ∷ pos 0 ∷ [])) (Err (refusal Misstated 4))
     -- left of the pivot; an existential
-    ∷ proof (a 2 1 (e 1 2 [])) pair_clauses merge (Refused (refusal Tautology 3))
-    ∷ proof (e 1 1 (e 2 1 [])) pair_clauses merge (Refused (refusal Tautology 3))
+    ∷ proof (a 2 1 (e 1 2 [])) pair_clauses merge (Err (refusal Tautology 3))
+    ∷ proof (e 1 1 (e 2 1 [])) pair_clauses merge (Err (refusal Tautology 3))
     -- a whole pair over a pivot to its right: with neither sign in the other clause, with one sign
-    ∷ proof inner_prefix (inner_clauses (negsuc 2 ∷ [])) (inner_merge (carry ++ (pos 4 ∷ pos 5 ∷ pos 2 ∷ pos 0 ∷ []))) (Accepted (record { 0 = 6 }) 3)
-    ∷ proof inner_prefix (inner_clauses (pos 2 ∷ negsuc 2 ∷ [])) (inner_merge carry) (Refused (refusal Tautology 5))
+    ∷ proof inner_prefix (inner_clauses (negsuc 2 ∷ [])) (inner_merge (carry ++ (pos 4 ∷ pos 5 ∷ pos 2 ∷ pos 0 ∷ []))) (accept (record { 0 = 6 }) 3)
+    ∷ proof inner_prefix (inner_clauses (pos 2 ∷ negsuc 2 ∷ [])) (inner_merge carry) (Err (refusal Tautology 5))
     -- the same with one sign where the pivot stands left of the pair: in the other clause of either number
-    ∷ proof outer_prefix (inner_clauses (pos 2 ∷ negsuc 2 ∷ [])) (inner_merge (carry ++ (pos 4 ∷ pos 5 ∷ pos 2 ∷ pos 0 ∷ []))) (Accepted (record { 0 = 6 }) 3)
-    ∷ proof outer_prefix (pos 1 ∷ pos 2 ∷ negsuc 2 ∷ pos 0 ∷ negsuc 0 ∷ negsuc 1 ∷ negsuc 2 ∷ pos 0 ∷ pos 2 ∷ pos 3 ∷ pos 0 ∷ []) (pos 3 ∷ pos 1 ∷ pos 2 ∷ pos 1 ∷ pos 2 ∷ negsuc 1 ∷ negsuc 2 ∷ pos 0 ∷ pos 3 ∷ pos 3 ∷ pos 4 ∷ pos 3 ∷ pos 2 ∷ negsuc 1 ∷ pos 0 ∷ pos 4 ∷ pos 5 ∷ negsuc 1 ∷ pos 0 ∷ []) (Accepted (record { 0 = 6 }) 3)
+    ∷ proof outer_prefix (inner_clauses (pos 2 ∷ negsuc 2 ∷ [])) (inner_merge (carry ++ (pos 4 ∷ pos 5 ∷ pos 2 ∷ pos 0 ∷ []))) (accept (record { 0 = 6 }) 3)
+    ∷ proof outer_prefix (pos 1 ∷ pos 2 ∷ negsuc 2 ∷ pos 0 ∷ negsuc 0 ∷ negsuc 1 ∷ negsuc 2 ∷ pos 0 ∷ pos 2 ∷ pos 3 ∷ pos 0 ∷ []) (pos 3 ∷ pos 1 ∷ pos 2 ∷ pos 1 ∷ pos 2 ∷ negsuc 1 ∷ negsuc 2 ∷ pos 0 ∷ pos 3 ∷ pos 3 ∷ pos 4 ∷ pos 3 ∷ pos 2 ∷ negsuc 1 ∷ pos 0 ∷ pos 4 ∷ pos 5 ∷ negsuc 1 ∷ pos 0 ∷ []) (accept (record { 0 = 6 }) 3)
     -- whole in both, with the pair right of the pivot and left of it
-    ∷ proof (e 1 1 (e 3 1 (e 4 1 (a 2 2 [])))) both_clauses (both_steps (pos 4 ∷ pos 7 ∷ negsuc 1 ∷ pos 0 ∷ [])) (Accepted (record { 0 = 8 }) 4)
-    ∷ proof (e 1 1 (e 3 1 (a 2 2 (e 4 3 [])))) both_clauses (both_steps []) (Refused (refusal Tautology 7))
+    ∷ proof (e 1 1 (e 3 1 (e 4 1 (a 2 2 [])))) both_clauses (both_steps (pos 4 ∷ pos 7 ∷ negsuc 1 ∷ pos 0 ∷ [])) (accept (record { 0 = 8 }) 4)
+    ∷ proof (e 1 1 (e 3 1 (a 2 2 (e 4 3 [])))) both_clauses (both_steps []) (Err (refusal Tautology 7))
     -- a sign that is not there
-    ∷ proof (e 1 1 (a 2 2 [])) pair_clauses (pos 4 ∷ pos 1 ∷ negsuc 1 ∷ pos 1 ∷ pos 0 ∷ []) (Refused (refusal WrongPivot 3))
+    ∷ proof (e 1 1 (a 2 2 [])) pair_clauses (pos 4 ∷ pos 1 ∷ negsuc 1 ∷ pos 1 ∷ pos 0 ∷ []) (Err (refusal WrongPivot 3))
     -- 3 depends on 2 and blocks, in block 3
-    ∷ proof inner_prefix (inner_clauses (negsuc 1 ∷ negsuc 2 ∷ [])) (inner_merge (pos 4 ∷ pos 4 ∷ pos 2 ∷ pos 3 ∷ pos 0 ∷ [])) (Refused (refusal (Blocked (record { variable = record { 0 = 3 }; block = 3 })) 5))
+    ∷ proof inner_prefix (inner_clauses (negsuc 1 ∷ negsuc 2 ∷ [])) (inner_merge (pos 4 ∷ pos 4 ∷ pos 2 ∷ pos 3 ∷ pos 0 ∷ [])) (Err (refusal (Blocked (record { variable = record { 0 = 3 }; block = 3 })) 5))
     -- families mixed, either way
-    ∷ proof (e 1 1 (a 2 2 [])) pair_clauses (merge ++ (pos 2 ∷ pos 3 ∷ pos 2 ∷ pos 0 ∷ [])) (Refused (refusal BrokenStep 4))
-    ∷ proof (e 1 1 (a 2 2 [])) pair_clauses (pos 2 ∷ pos 1 ∷ pos 2 ∷ pos 1 ∷ pos 0 ∷ pos 4 ∷ pos 2 ∷ negsuc 1 ∷ negsuc 0 ∷ pos 0 ∷ []) (Refused (refusal BrokenStep 4))
+    ∷ proof (e 1 1 (a 2 2 [])) pair_clauses (merge ++ (pos 2 ∷ pos 3 ∷ pos 2 ∷ pos 0 ∷ [])) (Err (refusal BrokenStep 4))
+    ∷ proof (e 1 1 (a 2 2 [])) pair_clauses (pos 2 ∷ pos 1 ∷ pos 2 ∷ pos 1 ∷ pos 0 ∷ pos 4 ∷ pos 2 ∷ negsuc 1 ∷ negsuc 0 ∷ pos 0 ∷ []) (Err (refusal BrokenStep 4))
     -- behind an empty clause the other family is not looked at
-    ∷ proof (a 1 1 []) (pos 1 ∷ pos 0 ∷ []) (pos 4 ∷ pos 1 ∷ pos 1 ∷ pos 0 ∷ pos 2 ∷ pos 2 ∷ pos 1 ∷ pos 0 ∷ []) (Refused (refusal Afterword 3))
+    ∷ proof (a 1 1 []) (pos 1 ∷ pos 0 ∷ []) (pos 4 ∷ pos 1 ∷ pos 1 ∷ pos 0 ∷ pos 2 ∷ pos 2 ∷ pos 1 ∷ pos 0 ∷ []) (Err (refusal Afterword 3))
     ∷ []
 
 pub long_distance_positions_lem : AllAnswered long_distance_positions

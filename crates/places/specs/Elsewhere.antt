@@ -1,5 +1,8 @@
 -- Refusals that are not about text (02, P1): those of tables, of writing, of rows, of the evaluator, of a proof file and of a proof have line 0
 -- and column 0. Assumes nothing.
+use Rattle.std.specs.Prelude.{Result, Ok, Err, ⊤}
+use Rattle.formula.specs.declared.tables.Counts.{Counts}
+use Rattle.checker.specs.Verdict.{Verdict, accept}
 use Prim.Native.Nat.{ℕ, zero, suc}
 use Rattle.std.specs.Prelude.{◌≡◌, refl, Bool, ◌&&◌, eqb, ℤ, length}
 use Rattle.std.proofs.Math.Bool.{true, false}
@@ -10,23 +13,15 @@ use Rattle.qbf.specs.Play.{lost}
 use Rattle.formula.specs.Bounds.{proof_bound}
 use Rattle.formula.specs.Decode.{clauses_of, matrix_of}
 use Rattle.formula.specs.Prefix.{prefix_of, entry_count}
-use Rattle.formula.specs.Refusal.{refusal, require, unless}
-use Rattle.formula.specs.Tables.{zeros, tables_refusal, tables_answer}
+use Rattle.formula.specs.Refusal.{passes, refusal, require, unless}
+use Rattle.formula.specs.Tables.{zeros, tables_refusal, tables_answer, admits}
 use Rattle.formula.proofs.Theorems.Tables.Refusals.{tables_refused}
 use Rattle.formula.specs.Write.{written, if_room, writing_refusal, answer_writing}
 use Rattle.formula.specs.declared.refusal.Reason.{Reason}
 use Rattle.formula.specs.declared.refusal.Reason.TheVariants.{Oversized, NoRoom, NoTrailer, OtherFormula, NotUniversal}
 use Rattle.formula.specs.declared.refusal.Refusal.{Refusal}
-use Rattle.formula.specs.declared.tables.TablesAnswer.{TablesAnswer}
-use Rattle.formula.specs.declared.tables.TablesAnswer.TheVariants.{Admitted, Refused as TablesRefused}
-use Rattle.formula.specs.declared.write.WriteAnswer.{WriteAnswer}
-use Rattle.formula.specs.declared.write.WriteAnswer.TheVariants.{Written, Refused as WriteRefused}
-use Rattle.dependency.specs.Answer.{universal_asked, asked_refusal, room_refusal, row_refusal, answer_row}
-use Rattle.dependency.specs.declared.answer.RowAnswer.{RowAnswer}
-use Rattle.dependency.specs.declared.answer.RowAnswer.TheVariants.{Filled, Refused as RowRefused}
+use Rattle.dependency.specs.Answer.{universal_asked, asked_refusal, room_refusal, row_refusal}
 use Rattle.evaluator.specs.Evaluation.{game_bound, verdict, unset, evaluation_of}
-use Rattle.evaluator.specs.declared.evaluation.Evaluation.{Evaluation}
-use Rattle.evaluator.specs.declared.evaluation.Evaluation.TheVariants.{True, False, Refused as EvaluationRefused}
 use Rattle.prooffile.specs.File.{ProofReading, read, refused, step_count, clause_count, has_trailer, step_bytes, words_of, proof_refusal, proof_reading}
 use Rattle.inference.specs.Rules.{Rules}
 use Rattle.inference.specs.declared.read.Family.{Family}
@@ -35,8 +30,6 @@ use Rattle.inference.specs.Steps.{refused as stepRefused}
 use Rattle.checker.specs.Verdict.{conclusion, concluded, conclude, sized_verdict, verdict_of}
 use Rattle.inference.specs.Scope.{scope_of}
 use Rattle.inference.specs.Words.{Words}
-use Rattle.checker.specs.declared.verdict.Verdict.{Verdict}
-use Rattle.checker.specs.declared.verdict.Verdict.TheVariants.{Accepted, Refused as VerdictRefused}
 
 pub record Unplaced (r : Refusal) : Type 0 where
   pub no_line : r.line ≡ 0
@@ -71,36 +64,36 @@ module _ (prefix words : List ℤ) where
       go none e = tt
       go (some r) e = let t = tables_refused prefix words r e in record { no_line = t.no_line; no_column = t.no_column }
 
-  abbrev TablesIn : TablesAnswer → Type 0
-  TablesIn (Admitted variables count) = Unit {0}
-  TablesIn (TablesRefused r) = Unplaced r
+  abbrev TablesIn : Result Counts Refusal → Type 0
+  TablesIn (Ok c) = Unit {0}
+  TablesIn (Err r) = Unplaced r
 
-  pub tables_unplaced : (r : Refusal) → tables_answer prefix words ≡ TablesRefused r → Unplaced r
+  pub tables_unplaced : (r : Refusal) → tables_answer prefix words ≡ Err r → Unplaced r
   tables_unplaced r e =
-      rw e at (unless_holds TablesIn TablesRefused (tables_refusal prefix words) (Admitted (entry_count prefix) (zeros words)) (λ s h. h) tables_may tt)
+      rw e at (unless_holds TablesIn Err (tables_refusal prefix words) (admits (entry_count prefix) (zeros words)) (λ s h. h) tables_may tt)
 
   -- What comes after the tables' own refusals.
   after_tables_may : (later : Option Refusal) → MayUnplaced later → MayUnplaced (unless some (tables_refusal prefix words) later)
   after_tables_may later h = unless_holds MayUnplaced some (tables_refusal prefix words) later (λ r k. k) tables_may h
 
   -- Writing.
-  abbrev WritingIn : WriteAnswer → Type 0
-  WritingIn (Written used) = Unit {0}
-  WritingIn (WriteRefused r) = Unplaced r
+  abbrev WritingIn : Result ℕ Refusal → Type 0
+  WritingIn (Ok used) = Unit {0}
+  WritingIn (Err r) = Unplaced r
 
   writing_may : (room : ℕ) → MayUnplaced (writing_refusal prefix words room)
   unfolding writing_refusal
   writing_may room =
       after_tables_may (if_room (leb (length (written prefix words)) room)) (require_may (leb (length (written prefix words)) room) NoRoom 0 none tt)
 
-  pub writing_unplaced : (room used : ℕ) (r : Refusal) → answer_writing (writing_refusal prefix words room) used ≡ WriteRefused r → Unplaced r
+  pub writing_unplaced : (room used : ℕ) (r : Refusal) → answer_writing (writing_refusal prefix words room) used ≡ Err r → Unplaced r
   writing_unplaced room used r e =
-      rw e at (unless_holds WritingIn WriteRefused (writing_refusal prefix words room) (Written used) (λ s h. h) (writing_may room) tt)
+      rw e at (unless_holds WritingIn Err (writing_refusal prefix words room) (Ok used) (λ s h. h) (writing_may room) tt)
 
   -- Rows.
-  abbrev RowIn : RowAnswer → Type 0
-  RowIn Filled = Unit {0}
-  RowIn (RowRefused r) = Unplaced r
+  abbrev RowIn : Result ⊤ Refusal → Type 0
+  RowIn (Ok tt) = Unit {0}
+  RowIn (Err r) = Unplaced r
 
   row_may : (bytes : ℕ) (variable : ℤ) (row scratch : ℕ) → MayUnplaced (row_refusal bytes prefix words variable row scratch)
   unfolding row_refusal
@@ -109,27 +102,27 @@ module _ (prefix words : List ℤ) where
       (require_may (universal_asked (prefix_of prefix) variable) NotUniversal 0 (room_refusal bytes row scratch)
       (require_may (leb 1025 row && leb bytes scratch) NoRoom 0 none tt))
 
-  pub row_unplaced : (bytes : ℕ) (variable : ℤ) (row scratch : ℕ) (r : Refusal) → answer_row (row_refusal bytes prefix words variable row scratch) ≡ RowRefused r → Unplaced r
+  pub row_unplaced : (bytes : ℕ) (variable : ℤ) (row scratch : ℕ) (r : Refusal) → passes (row_refusal bytes prefix words variable row scratch) ≡ Err r → Unplaced r
   row_unplaced bytes variable row scratch r e =
-      rw e at (unless_holds RowIn RowRefused (row_refusal bytes prefix words variable row scratch) Filled (λ s h. h) (row_may bytes variable row scratch) tt)
+      rw e at (unless_holds RowIn Err (row_refusal bytes prefix words variable row scratch) (Ok tt) (λ s h. h) (row_may bytes variable row scratch) tt)
 
   -- The evaluator.
-  abbrev EvaluationIn : Evaluation → Type 0
-  EvaluationIn True = Unit {0}
-  EvaluationIn False = Unit {0}
-  EvaluationIn (EvaluationRefused r) = Unplaced r
+  abbrev EvaluationIn : Result Bool Refusal → Type 0
+  EvaluationIn (Ok true) = Unit {0}
+  EvaluationIn (Ok false) = Unit {0}
+  EvaluationIn (Err r) = Unplaced r
 
   evaluation_in : EvaluationIn (evaluation_of prefix words)
   unfolding evaluation_of
   evaluation_in =
-      unless_holds EvaluationIn EvaluationRefused (tables_refusal prefix words) _ (λ s h. h) tables_may
-      (require_holds EvaluationIn (leb (entry_count prefix) game_bound) (EvaluationRefused (refusal Oversized 0)) _ (unplaced Oversized 0) (either (lost (prefix_of prefix) unset (matrix_of words))))
+      unless_holds EvaluationIn Err (tables_refusal prefix words) _ (λ s h. h) tables_may
+      (require_holds EvaluationIn (leb (entry_count prefix) game_bound) (Err (refusal Oversized 0)) _ (unplaced Oversized 0) (either (lost (prefix_of prefix) unset (matrix_of words))))
     where
       either : (b : Bool) → EvaluationIn (verdict b)
       either true = tt
       either false = tt
 
-  pub evaluation_unplaced : (r : Refusal) → evaluation_of prefix words ≡ EvaluationRefused r → Unplaced r
+  pub evaluation_unplaced : (r : Refusal) → evaluation_of prefix words ≡ Err r → Unplaced r
   evaluation_unplaced r e = rw e at evaluation_in
 
 -- The proof file: what is read is no refusal, or one without line and column.
@@ -156,8 +149,8 @@ OutcomeIn (ended known) = Unit {0}
 OutcomeIn (stepRefused r) = Unplaced r
 
 abbrev VerdictIn : Verdict → Type 0
-VerdictIn (Accepted empty steps) = Unit {0}
-VerdictIn (VerdictRefused r) = Unplaced r
+VerdictIn (Ok a) = Unit {0}
+VerdictIn (Err r) = Unplaced r
 
 module _ (rules : Rules) (f : Family) (S : Scope) (room : ℕ) where
   turn_in : (known : List Words) (j : Judged) (next : Step → Outcome) → ((s : Step) → OutcomeIn (next s)) → OutcomeIn (turn known j next)
@@ -184,12 +177,12 @@ module _ (rules : Rules) (prefix words steps : List ℤ) (scratch room : ℕ) wh
   sized_in : VerdictIn (sized_verdict rules prefix words steps scratch room)
   unfolding sized_verdict
   sized_in =
-      require_holds VerdictIn (leb (length steps) proof_bound) (VerdictRefused (refusal Oversized 0)) _ (unplaced Oversized 0)
-      (require_holds VerdictIn (leb rules.scratch scratch) (VerdictRefused (refusal NoRoom 0)) _ (unplaced NoRoom 0)
-      (require_holds VerdictIn (leb (zeros words) room) (VerdictRefused (refusal NoRoom (suc room))) _ (unplaced NoRoom (suc room))
+      require_holds VerdictIn (leb (length steps) proof_bound) (Err (refusal Oversized 0)) _ (unplaced Oversized 0)
+      (require_holds VerdictIn (leb rules.scratch scratch) (Err (refusal NoRoom 0)) _ (unplaced NoRoom 0)
+      (require_holds VerdictIn (leb (zeros words) room) (Err (refusal NoRoom (suc room))) _ (unplaced NoRoom (suc room))
       (conclude_in rules (zeros words) (run rules (family_of steps) (scope_of prefix words) room (clauses_of words) zero steps) (run_in rules (family_of steps) (scope_of prefix words) room (clauses_of words) zero steps))))
 
-  pub verdict_unplaced : (r : Refusal) → verdict_of rules prefix words steps scratch room ≡ VerdictRefused r → Unplaced r
+  pub verdict_unplaced : (r : Refusal) → verdict_of rules prefix words steps scratch room ≡ Err r → Unplaced r
   unfolding verdict_of
   verdict_unplaced r e =
-      rw e at (unless_holds VerdictIn VerdictRefused (tables_refusal prefix words) (sized_verdict rules prefix words steps scratch room) (λ s h. h) (tables_may prefix words) sized_in)
+      rw e at (unless_holds VerdictIn Err (tables_refusal prefix words) (sized_verdict rules prefix words steps scratch room) (λ s h. h) (tables_may prefix words) sized_in)

@@ -1,5 +1,7 @@
 -- What the programs print of it (02, P1): a formula that is refused gives the line of a refusal placed in its text; where it is read, the line is
 -- an accepted one or that of a refusal without line and column. Assumes nothing.
+use Rattle.std.specs.Prelude.{Err, Ok}
+use Rattle.checker.specs.Verdict.{Verdict, accept}
 use Rattle.std.specs.Prelude.{ℕ, ◌≡◌, Bool, ◌⊎◌, List, leb, ℤ, length}
 use Rattle.std.proofs.Math.Path.{refl, subst}
 use Rattle.std.proofs.Common.{◌∙◌, inl, inr}
@@ -14,8 +16,6 @@ use Rattle.prooffile.specs.File.{ProofReading, proof_reading}
 use Rattle.prooffile.specs.File.{read as readSteps, refused as refusedFile}
 use Rattle.inference.specs.Rules.{plain_rules}
 use Rattle.checker.specs.Verdict.{verdict_of}
-use Rattle.checker.specs.declared.verdict.Verdict.{Verdict}
-use Rattle.checker.specs.declared.verdict.Verdict.TheVariants.{Accepted, Refused}
 use Rattle.report.specs.Line.{accepted_line, refused_line, settled}
 use Rattle.report.specs.Check.{Room, settled_proof, steps_line, check_line}
 use Rattle.report.specs.Check.Laws.{refused_line_lem, read_line}
@@ -68,8 +68,8 @@ module _ (room : Room) (formula proof : List ℕ) (prefix clauses : List ℤ) (c
       judged :
           (words : List ℤ) → steps ≡ readSteps words → (v : Verdict) → verdict_of plain_rules prefix clauses words room.scratch room.offsets ≡ v
           → ProofLine (check_line room formula proof)
-      judged words f (Accepted empty n) q = accepts (entry_count prefix) count n empty.0 (whole ∙ rw (f, q))
-      judged words f (Refused r) q = refuses r (verdict_unplaced plain_rules prefix clauses words room.scratch room.offsets r q) (whole ∙ rw (f, q))
+      judged words f (Ok a) q = accepts (entry_count prefix) count a.steps a.empty.0 (whole ∙ rw (f, q))
+      judged words f (Err r) q = refuses r (verdict_unplaced plain_rules prefix clauses words room.scratch room.offsets r q) (whole ∙ rw (f, q))
 
       go : (s : ProofReading) → steps ≡ s → ProofLine (check_line room formula proof)
       go (readSteps words) f = judged words f (verdict_of plain_rules prefix clauses words room.scratch room.offsets) refl

@@ -4,7 +4,6 @@
 #![tactic(auto)]
 
 ghost use Rattle.std.specs.Prelude.{◌<◌, ◌≤◌, length};
-ghost use Rattle.std.specs.Counts.{IsPrefixLen};
 ghost use Rattle.report.specs.Check.{check_line};
 ghost use Rattle.report.specs.Dependents.{dependency_text, text_room};
 ghost use Rattle.report.specs.Line.{file_bound, line_room};
@@ -14,15 +13,16 @@ use files::{print_first, read_file};
 use report::program::{formula_is_read, program_line, program_text};
 use std::rt::Files;
 
-// The file in a buffer in which a file that is too long is seen to be so. Answers how many bytes it has there.
-fn read_taken(rt: &impl Files, path: &[u8], buffer: &mut [u8]) -> usize
+// The bytes of the file, read into a buffer in which a file that is too long is seen to be so.
+fn read_taken<'a>(rt: &impl Files, path: &[u8], buffer: &'a mut [u8]) -> &'a [u8]
     requires { file_bound < length buffer.old }
-    ensures { IsPrefixLen result buffer.new }
+    ensures { length result.now ≤ length buffer.old }
 {
-    read_file(rt, path, buffer)
+    let n = read_file(rt, path, buffer);
+    &buffer[..n]
 }
 
-// The first program's line, whole. Answers its length.
+// The first program's line, whole. Answers its length, as the entry does: `Whole` speaks of the buffer too, so a slice would be no plainer.
 fn whole_line(formula: &[u8], proof: &[u8], line: &mut [u8]) -> usize
     requires { line_room ≤ length line.old }
     ensures { Whole (check_line program_room formula.now proof.now) (length line.old) result line.new }
@@ -40,12 +40,15 @@ fn print_line(rt: &(impl Print + Eprint), formula: &[u8], proof: &[u8]) {
 // The line for a formula that is read: now the proof file is opened.
 fn check_read(rt: &(impl Files + Print + Eprint), formula: &[u8], proof_path: &[u8]) {
     let mut proof = [0u8; 65_537];
-    let n = read_taken(rt, proof_path, &mut proof);
-    print_line(rt, formula, &proof[..n]);
+    let proof = read_taken(rt, proof_path, &mut proof);
+    print_line(rt, formula, proof);
 }
 
-// Where the formula is refused the line is the same whatever the proof, so none is looked at.
-fn check_formula(rt: &(impl Files + Print + Eprint), formula: &[u8], proof_path: &[u8]) {
+// The first program: prints the line for the two files. Where the formula is refused the line is the same whatever the proof, so none is
+// looked at.
+pub fn check_files(rt: &(impl Files + Print + Eprint), formula_path: &[u8], proof_path: &[u8]) {
+    let mut formula = [0u8; 65_537];
+    let formula = read_taken(rt, formula_path, &mut formula);
     if formula_is_read(formula) {
         check_read(rt, formula, proof_path);
     } else {
@@ -53,14 +56,7 @@ fn check_formula(rt: &(impl Files + Print + Eprint), formula: &[u8], proof_path:
     }
 }
 
-// The first program: prints the line for the two files.
-pub fn check_files(rt: &(impl Files + Print + Eprint), formula_path: &[u8], proof_path: &[u8]) {
-    let mut formula = [0u8; 65_537];
-    let n = read_taken(rt, formula_path, &mut formula);
-    check_formula(rt, &formula[..n], proof_path);
-}
-
-// The second program's text, whole. Answers its length.
+// The second program's text, whole. Answers its length, for the same reason.
 fn whole_text(formula: &[u8], text: &mut [u8]) -> usize
     requires { text_room ≤ length text.old }
     ensures { Whole (dependency_text program_room formula.now) (length text.old) result text.new }
@@ -78,6 +74,6 @@ fn print_text(rt: &(impl Print + Eprint), formula: &[u8]) {
 // The second program: prints a line for each universal of the formula, or the refused line.
 pub fn dependency_file(rt: &(impl Files + Print + Eprint), formula_path: &[u8]) {
     let mut formula = [0u8; 65_537];
-    let n = read_taken(rt, formula_path, &mut formula);
-    print_text(rt, &formula[..n]);
+    let formula = read_taken(rt, formula_path, &mut formula);
+    print_text(rt, formula);
 }

@@ -5,6 +5,7 @@ pub mod Passed
 pub mod Laws
 pub mod Layout
 pub mod Examples
+use Rattle.std.specs.Prelude.{Result, Ok, Err}
 use Rattle.std.specs.Prelude.{ℕ, ◌+◌, ◌-◌, ◌*◌, ◌/◌, ◌%◌, ◌≡◌, Bool, ◌&&◌, List, [], ◌∷◌, ◌++◌, leb, eqb, ℤ, pos, length, get_or, take, drop, replicate}
 use Rattle.std.proofs.Math.Option.{Option, none, some}
 use Rattle.std.specs.Int.{w32}
@@ -14,8 +15,6 @@ use Rattle.formula.specs.Refusal.{refusal, require, unless}
 use Rattle.formula.specs.declared.refusal.Reason.{Reason}
 use Rattle.formula.specs.declared.refusal.Reason.TheVariants.{Oversized, NoRoom, NoTrailer, OtherFormula}
 use Rattle.formula.specs.declared.refusal.Refusal.{Refusal}
-use Rattle.prooffile.specs.declared.file.ProofAnswer.{ProofAnswer}
-use Rattle.prooffile.specs.declared.file.ProofAnswer.TheVariants.{Read, Refused}
 
 -- The unsigned number that four bytes write, the lowest first.
 unfoldable pub number4 : ℕ → ℕ → ℕ → ℕ → ℕ
@@ -88,9 +87,9 @@ unfoldable pub proof_reading : List ℕ → (count room : ℕ) → ProofReading
 proof_reading file count room = unless_refused (proof_refusal file count room) (words_of (step_bytes file))
 
 -- What `read_proof` answers: how many words were read, or the refusal.
-abbrev pub proof_answer : ProofReading → ProofAnswer
-proof_answer (read words) = Read (length words)
-proof_answer (refused r) = Refused r
+abbrev pub proof_answer : ProofReading → Result ℕ Refusal
+proof_answer (read words) = Ok (length words)
+proof_answer (refused r) = Err r
 
 -- What a table of `room` words then holds: the words read, then 0; after a refusal 0 alone.
 abbrev pub step_table : ProofReading → ℕ → List ℤ
@@ -98,10 +97,10 @@ step_table (read words) room = words ++ replicate (room - length words) (pos 0)
 step_table (refused r) room = replicate room (pos 0)
 
 -- The same answer, by the count of words alone.
-abbrev pub length_answer : Option Refusal → ℕ → ProofAnswer
-length_answer r n = unless Refused r (Read n)
+abbrev pub length_answer : Option Refusal → ℕ → Result ℕ Refusal
+length_answer r n = unless Err r (Ok n)
 
 -- What `read_proof` promises, `before` and `after` being the contents of the table lent for the steps.
-pub record ProofRead (file : List ℕ) (count : ℕ) (before after : List ℤ) (r : ProofAnswer) : Type 0 where
+pub record ProofRead (file : List ℕ) (count : ℕ) (before after : List ℤ) (r : Result ℕ Refusal) : Type 0 where
   pub answer : r ≡ proof_answer (proof_reading file count (length before))
   pub steps : after ≡ step_table (proof_reading file count (length before)) (length before)

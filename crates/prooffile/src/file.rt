@@ -1,20 +1,11 @@
 // The proof file: the trailer that ends it, and the step words that stand before the trailer. The note before them is not read.
 // One pass over the bytes of the steps.
 ghost use Rattle.std.specs.Prelude.{◌≡◌, ◌++◌, ◌+◌, ◌*◌, ◌≤◌, length, drop};
-ghost use Rattle.std.specs.Int.{w32};
-ghost use Rattle.std.proofs.Common.{to_z};
-ghost use Rattle.prooffile.specs.File.{number4, number_at, words_of, mark_at, has_trailer, step_count, proof_refusal, length_answer, ProofRead};
+ghost use Rattle.prooffile.specs.File.{number_at, words_of, mark_at, has_trailer, step_count, proof_refusal, length_answer, ProofRead};
 
-use formula::bounds::{ProofFit, ProofLength};
-use formula::clear::clear_words;
+use formula::bounds::ProofLength;
+use formula::clear::clear_tail;
 use formula::refusal::{Reason, Refusal};
-
-// How many step words were read, or the refusal.
-#[derive(Clone, Copy)]
-pub enum ProofAnswer {
-    Read(usize),
-    Refused(Refusal),
-}
 
 // Bytes of the trailer.
 const TRAILER: usize = 12;
@@ -22,30 +13,12 @@ const TRAILER: usize = 12;
 // The mark: the bytes 51 44 52 31 as a number.
 const MARK: u32 = 0x3152_4451;
 
-// The unsigned number that four bytes write, the lowest first.
-fn number4(a: u8, b: u8, c: u8, d: u8) -> u32
-    ensures { result ≡ number4 a b c d }
-{
-    a as u32 + 256 * (b as u32) + 65_536 * (c as u32) + 16_777_216 * (d as u32)
-}
-
-// The unsigned number that the four bytes at a place write.
+// The unsigned number that the four bytes at a place write, the lowest first.
 fn number_at(bytes: &[u8], at: usize) -> u32
     requires { at + 4 ≤ length bytes.now }
     ensures { result ≡ number_at bytes.now at }
 {
-    number4(bytes[at], bytes[at + 1], bytes[at + 2], bytes[at + 3])
-}
-
-// The signed word with the bits of n.
-fn signed(n: u32) -> i32
-    ensures { result ≡ to_z w32 n }
-{
-    if n < 2_147_483_648 {
-        n as i32
-    } else {
-        !((!n) as i32)
-    }
+    u32::from_le_bytes([bytes[at], bytes[at + 1], bytes[at + 2], bytes[at + 3]])
 }
 
 // Whether the four bytes at a place are the mark of a trailer.
@@ -76,25 +49,25 @@ fn has_trailer(file: &[u8]) -> bool
 }
 
 // How many step words there are, or the refusal: 11, 2, 12, 3.
-fn check_trailer(file: &[u8], clause_count: u32, room: usize) -> ProofAnswer
+fn check_trailer(file: &[u8], clause_count: u32, room: usize) -> Result<usize, Refusal>
     ensures { result ≡ length_answer (proof_refusal file.now clause_count room) (step_count file.now) }
 {
     if has_trailer(file) {
         let start = file.len() - TRAILER;
         let words = (number_at(file, start) as usize) / 4;
-        let ProofFit::Within(_) = ProofLength::new(words) else {
-            return ProofAnswer::Refused(Refusal::new(Reason::Oversized, 0));
+        let Some(_) = ProofLength::new(words) else {
+            return Err(Refusal::new(Reason::Oversized, 0));
         };
         let count = number_at(file, start + 4);
         if count != clause_count {
-            return ProofAnswer::Refused(Refusal::new(Reason::OtherFormula, 0));
+            return Err(Refusal::new(Reason::OtherFormula, 0));
         }
         if room < words {
-            return ProofAnswer::Refused(Refusal::new(Reason::NoRoom, 0));
+            return Err(Refusal::new(Reason::NoRoom, 0));
         }
-        ProofAnswer::Read(words)
+        Ok(words)
     } else {
-        ProofAnswer::Refused(Refusal::new(Reason::NoTrailer, 0))
+        Err(Refusal::new(Reason::NoTrailer, 0))
     }
 }
 
@@ -103,28 +76,26 @@ fn copy_words(bytes: &[u8], n: usize, steps: &mut [i32])
     requires { (length bytes.now ≡ 4 * n) × (n ≤ length steps.old) }
     ensures { steps.new ≡ words_of bytes.now ++ drop n steps.old }
 {
-    let mut i = 0;
-    while i < n {
-        steps[i] = signed(number_at(bytes, 4 * i));
-        i += 1;
+    for i in 0..n {
+        steps[i] = number_at(bytes, 4 * i).cast_signed();
     }
 }
 
-// Reads the steps of a proof for a formula of `clause_count` clauses.
-pub fn read_proof(file: &[u8], clause_count: u32, steps: &mut [i32]) -> ProofAnswer
+// Reads the steps of a proof for a formula of `clause_count` clauses: answers how many words they are.
+pub fn read_proof(file: &[u8], clause_count: u32, steps: &mut [i32]) -> Result<usize, Refusal>
     ensures { ProofRead file.now clause_count steps.old steps.new result }
 {
     match check_trailer(file, clause_count, steps.len()) {
-        ProofAnswer::Refused(refusal) => {
-            clear_words(steps, 0);
-            ProofAnswer::Refused(refusal)
+        Err(refusal) => {
+            clear_tail(steps, 0, 0);
+            Err(refusal)
         }
-        ProofAnswer::Read(n) => {
+        Ok(n) => {
             let end = file.len() - TRAILER;
             let start = end - 4 * n;
             copy_words(&file[start..end], n, steps);
-            clear_words(steps, n);
-            ProofAnswer::Read(n)
+            clear_tail(steps, n, 0);
+            Ok(n)
         }
     }
 }

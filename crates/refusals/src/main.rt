@@ -1,22 +1,99 @@
 // Worked cases of what a proof file and a proof are refused for: each reason with its place, every order of reasons that the
-// specification names but that of 2 in a trailer (file.rt), and the cases beside them that are read or accepted, for ordinary proofs (steps.rt)
-// and long-distance ones (long.rt); and of the entries that ask for 640 bytes of scratch, for a proof and for a row (small.rt). Each line names
-// its case, gives the answer and tells whether the buffers lent were left wholly 0, of a row that was filled the scratch; the file stdout beside
-// src/ was worked out from the specification.
+// specification names but that of 2 in a trailer (data/files), and the cases beside them that are read or accepted, for ordinary proofs
+// (data/steps) and long-distance ones (data/long); what comes before the steps (data/buffers); and the entries that ask for 640 bytes of
+// scratch, for a proof and for a row (data/small). Each line printed names its case, gives the answer and tells whether the buffers lent
+// were left wholly 0, of a row that was filled the scratch; the file stdout beside src/ was worked out from the specification.
 #![tactic(auto)]
 
-mod buffers;
 mod file;
-mod judge;
-mod long;
-mod small;
-mod steps;
+mod proof;
+mod row;
 
-// All cases, by kind.
-fn main(rt: HostRuntime) {
-    file::run(&rt);
-    buffers::run(&rt);
-    steps::run(&rt);
-    long::run(&rt);
-    small::run(&rt);
+use anyhow::{Result, bail};
+use caselist::bytes::bytes;
+use caselist::list::{pair_or, run_list};
+use caselist::words::{Tables, words};
+
+// A proof and a row by the small entries, for each of the lengths of scratch that a field writes.
+fn run_both(
+    rt: &(impl Print + AllocGlobal),
+    tables: &Tables,
+    name: &str,
+    steps: &[i32],
+    variable: i32,
+    scratch: &str,
+) -> Result<()> {
+    for bytes in scratch.split(' ') {
+        let bytes = bytes.parse()?;
+        proof::small(rt, tables, name, steps, (bytes, 16))?;
+        row::small(rt, tables, name, variable, (bytes, 1_025))?;
+    }
+    Ok(())
+}
+
+// A case of any kind, one of a proof or a row on these tables.
+fn run_case(rt: &(impl Print + AllocGlobal), tables: &Tables, fields: &[&str]) -> Result<()> {
+    let alloc = rt.alloc();
+    match fields {
+        ["file", name, file, sizes @ ..] => file::case(
+            rt,
+            name,
+            &bytes(alloc, file)?,
+            pair_or(sizes, (4, 4))?,
+        ),
+        ["proof", name, steps, sizes @ ..] => {
+            proof::large(
+                rt,
+                tables,
+                name,
+                &words(alloc, steps)?,
+                pair_or(sizes, (8_200, 16))?,
+            )
+        }
+        ["small proof", name, steps, sizes @ ..] => {
+            proof::small(
+                rt,
+                tables,
+                name,
+                &words(alloc, steps)?,
+                pair_or(sizes, (640, 16))?,
+            )
+        }
+        ["small row", name, variable, sizes @ ..] => {
+            row::small(
+                rt,
+                tables,
+                name,
+                variable.parse()?,
+                pair_or(sizes, (640, 1_025))?,
+            )
+        }
+        ["both", name, steps, variable, scratch] => {
+            run_both(
+                rt,
+                tables,
+                name,
+                &words(alloc, steps)?,
+                variable.parse()?,
+                scratch,
+            )
+        }
+        _ => bail!("no case: {fields:?}"),
+    }
+}
+
+// All cases, list by list. A list's line of a formula gives the tables for the cases behind it.
+fn main(rt: HostRuntime) -> Result<()> {
+    let alloc = rt.alloc();
+    for file in ["files", "buffers", "steps", "long", "small"] {
+        let mut tables = Tables::lent(alloc, 0, 0)?;
+        run_list(&rt, file, |fields| match fields {
+            ["formula", prefix, clauses] => {
+                tables = Tables::parse(alloc, prefix, clauses)?;
+                Ok(())
+            }
+            _ => run_case(&rt, &tables, fields),
+        })?;
+    }
+    Ok(())
 }

@@ -2,6 +2,8 @@
 -- is looked at. Then the contract of `check_line`, with the claim that an `accepted` line is to be trusted for. Laws are in
 -- Check/Laws.antt.
 pub mod Laws
+use Rattle.std.specs.Prelude.{Err, Ok}
+use Rattle.checker.specs.Verdict.{Verdict, accept}
 use Rattle.std.specs.Prelude.{ℕ, ◌≤◌, ◌≡◌, List, length, take, replicate, leb, ℤ, pos}
 use Rattle.qbf.specs.Play.{Lost}
 use Rattle.formula.specs.Decode.{formula_of}
@@ -11,8 +13,6 @@ use Rattle.formula.specs.declared.refusal.Reason.TheVariants.{Oversized}
 use Rattle.formula.specs.Text.{Reading, read, refused, reading}
 use Rattle.prooffile.specs.File.{ProofReading, proof_reading}
 use Rattle.prooffile.specs.File.{read as readSteps, refused as refusedFile}
-use Rattle.checker.specs.declared.verdict.Verdict.{Verdict}
-use Rattle.checker.specs.declared.verdict.Verdict.TheVariants.{Accepted, Refused}
 use Rattle.inference.specs.Rules.{plain_rules}
 use Rattle.checker.specs.Verdict.{verdict_of}
 use Rattle.report.specs.Line.{accepted_text, accepted_line, refused_line, line_room, settled, used, held}
@@ -39,8 +39,8 @@ lent file prefix clauses steps scratch offsets =
     }
 
 abbrev pub verdict_line : (variables clauses : ℕ) → Verdict → List ℕ
-verdict_line variables clauses (Accepted empty steps) = accepted_line variables clauses steps empty.0
-verdict_line variables clauses (Refused r) = refused_line r
+verdict_line variables clauses (Ok a) = accepted_line variables clauses a.steps a.empty.0
+verdict_line variables clauses (Err r) = refused_line r
 
 -- What the proof file is read as: 2 on the file's length comes ahead of all else in it.
 unfoldable pub settled_proof : (bound : ℕ) → List ℕ → (count room : ℕ) → ProofReading

@@ -12,18 +12,16 @@ use crate::line::{accepted_line, finish, refused_line};
 use crate::settle::{settle_formula, settle_proof};
 use checker::proof::check_proof;
 use checker::verdict::Verdict;
-use formula::clear::{clear_bytes, clear_numbers, clear_words};
+use formula::clear::clear_tail;
 use formula::prefix::entry_count;
-use formula::read::ReadAnswer;
-use prooffile::file::ProofAnswer;
 
 // The line of a verdict, V and C being the formula's.
 fn verdict_line(line: &mut [u8], variables: usize, count: usize, verdict: Verdict) -> usize
     ensures { StoresShort line_room line.old (verdict_line variables count verdict) line.new result }
 {
     match verdict {
-        Verdict::Accepted { empty, steps } => accepted_line(line, variables, count, steps, empty.0),
-        Verdict::Refused(r) => refused_line(line, r),
+        Ok(accepted) => { accepted_line(line, variables, count, accepted.steps, accepted.empty.0) }
+        Err(r) => refused_line(line, r),
     }
 }
 
@@ -59,16 +57,8 @@ fn proof_line(
     ensures { StoresShort line_room line.old (steps_line (length scratch.old) (length offsets.old) prefix.now clauses.now count (settled_proof file_bound proof.now count (length steps.old))) line.new result }
 {
     match settle_proof(proof, file_bound, count as u32, steps) {
-        ProofAnswer::Refused(r) => refused_line(line, r),
-        ProofAnswer::Read(n) => judged_line(
-            prefix,
-            clauses,
-            count,
-            &steps[..n],
-            scratch,
-            offsets,
-            line,
-        ),
+        Err(r) => refused_line(line, r),
+        Ok(n) => judged_line(prefix, clauses, count, &steps[..n], scratch, offsets, line),
     }
 }
 
@@ -87,17 +77,13 @@ fn files_line(
     ensures { StoresShort line_room line.old (check_line (lent file_bound prefix.old clauses.old steps.old scratch.old offsets.old) formula.now proof.now) line.new result }
 {
     match settle_formula(formula, file_bound, prefix, clauses) {
-        ReadAnswer::Refused(r) => refused_line(line, r),
-        ReadAnswer::Read {
-            prefix_used,
-            clauses_used,
-            clauses: count,
-        } => proof_line(
+        Err(r) => refused_line(line, r),
+        Ok(filled) => proof_line(
             proof,
             file_bound,
-            &prefix[..prefix_used],
-            &clauses[..clauses_used],
-            count,
+            &prefix[..filled.prefix_used],
+            &clauses[..filled.clauses_used],
+            filled.clauses,
             steps,
             scratch,
             offsets,
@@ -124,10 +110,10 @@ pub fn check_line(
     let end = files_line(
         formula, proof, file_bound, prefix, clauses, steps, scratch, offsets, line,
     );
-    clear_words(prefix, 0);
-    clear_words(clauses, 0);
-    clear_words(steps, 0);
-    clear_bytes(scratch, 0);
-    clear_numbers(offsets, 0);
+    clear_tail(prefix, 0, 0);
+    clear_tail(clauses, 0, 0);
+    clear_tail(steps, 0, 0);
+    clear_tail(scratch, 0, 0);
+    clear_tail(offsets, 0, 0);
     finish(line, end)
 }

@@ -1,5 +1,5 @@
 // What the second program prints: for each universal the dependents of its row, or the refused line. Each writing function
-// answers the place behind what it wrote; room is asked for once, at the end.
+// answers the place behind what it wrote; room is asked for once, at the end. No `Display`: see decimal.rt of `formula`.
 ghost use Rattle.std.specs.Prelude.{◌≡◌, true, [], ◌+◌, ◌^◌, ◌<◌, ◌≤◌, length};
 ghost use Rattle.qbf.specs.Formula.{universal};
 ghost use Rattle.formula.specs.Decode.{formula_of};
@@ -16,11 +16,10 @@ use crate::line::{finish, refused_line};
 use crate::settle::settle_formula;
 use dependency::row::{depends_in, make_row};
 use dependency::scratch::{SCRATCH, SMALL};
-use formula::clear::{clear_bytes, clear_words};
+use formula::clear::clear_tail;
 use formula::decimal::{put, write_number};
 use formula::literal::Variable;
 use formula::prefix::{Entry, entry_at, entry_count, variable_at};
-use formula::read::ReadAnswer;
 use formula::refusal::{Reason, Refusal};
 
 // A variable with the space before it, where it is a dependent.
@@ -42,13 +41,10 @@ fn write_dependents(prefix: &[i32], scratch: &[u8], text: &mut [u8], at: usize) 
     requires prefix_bound { at + length (marked (row_in scratch.now) (prefix_of prefix.now)) < 2 ^ 64 }
     ensures { Stores text.old at (marked (row_in scratch.now) (prefix_of prefix.now)) text.new result }
 {
-    let count = entry_count(prefix);
     let mut next = at;
-    let mut i = 0;
-    while i < count {
+    for i in 0..entry_count(prefix) {
         let variable = variable_at(prefix, i);
         next = write_dependent(text, next, depends_in(scratch, variable.0), variable);
-        i += 1;
     }
     next
 }
@@ -118,12 +114,9 @@ fn write_lines(prefix: &[i32], clauses: &[i32], scratch: &mut [u8], text: &mut [
     requires scratch_bound_in_bounds { scratch_bound ≤ length scratch.old }
     ensures { Stores text.old 0 (universal_lines (formula_of prefix.now clauses.now) (prefix_of prefix.now) (prefix_of prefix.now)) text.new result }
 {
-    let count = entry_count(prefix);
     let mut next = 0;
-    let mut place = 0;
-    while place < count {
+    for place in 0..entry_count(prefix) {
         next = write_entry_line(prefix, clauses, place, scratch, text, next);
-        place += 1;
     }
     next
 }
@@ -151,14 +144,10 @@ fn write_settled(
     ensures { StoresShort text_room text.old (dependency_text (lent file_bound prefix.old clauses.old [] scratch.old []) formula.now) text.new result }
 {
     match settle_formula(formula, file_bound, prefix, clauses) {
-        ReadAnswer::Refused(r) => refused_line(text, r),
-        ReadAnswer::Read {
-            prefix_used,
-            clauses_used,
-            clauses: _,
-        } => write_tables(
-            &prefix[..prefix_used],
-            &clauses[..clauses_used],
+        Err(r) => refused_line(text, r),
+        Ok(filled) => write_tables(
+            &prefix[..filled.prefix_used],
+            &clauses[..filled.clauses_used],
             scratch,
             text,
         ),
@@ -178,8 +167,8 @@ pub fn dependency_lines(
     ensures { LinesPrinted (lent file_bound prefix.old clauses.old [] scratch.old []) formula.now text.old text.new result prefix.new clauses.new scratch.new }
 {
     let end = write_settled(formula, file_bound, prefix, clauses, scratch, text);
-    clear_words(prefix, 0);
-    clear_words(clauses, 0);
-    clear_bytes(scratch, 0);
+    clear_tail(prefix, 0, 0);
+    clear_tail(clauses, 0, 0);
+    clear_tail(scratch, 0, 0);
     finish(text, end)
 }

@@ -7,7 +7,6 @@ use crate::check::check_line;
 use crate::dependents::dependency_lines;
 use crate::settle::{FileLength, settle_formula};
 use dependency::scratch::SCRATCH;
-use formula::read::ReadAnswer;
 
 // Prints the first program's line for its two files and answers its length. 160 bytes always do.
 pub fn program_line(formula: &[u8], proof: &[u8], line: &mut [u8]) -> usize
@@ -54,12 +53,5 @@ pub fn formula_is_read(formula: &[u8]) -> bool
 {
     let mut prefix = [0i32; 3_072];
     let mut clauses = [0i32; 16_384];
-    match settle_formula(formula, FileLength::MAX, &mut prefix, &mut clauses) {
-        ReadAnswer::Read {
-            prefix_used: _,
-            clauses_used: _,
-            clauses: _,
-        } => true,
-        ReadAnswer::Refused(_) => false,
-    }
+    settle_formula(formula, FileLength::MAX, &mut prefix, &mut clauses).is_ok()
 }

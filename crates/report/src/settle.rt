@@ -3,32 +3,26 @@
 ghost use Rattle.std.specs.Prelude.{◌≡◌, leb, length};
 ghost use Rattle.report.specs.Settle.{file_fit, FormulaSettled, ProofSettled};
 
-use formula::read::{ReadAnswer, read_formula};
+use formula::read::{Filled, read_formula};
 use formula::refusal::{Reason, Refusal};
-use prooffile::file::{ProofAnswer, read_proof};
+use prooffile::file::read_proof;
 
 // How many bytes a file has.
 #[derive(Clone, Copy)]
 pub struct FileLength(pub usize);
 
-#[derive(Clone, Copy)]
-pub enum FileFit {
-    Within(FileLength),
-    Oversized,
-}
-
 impl FileLength {
     // The largest that 01's programs take.
     pub const MAX: usize = 65_536;
 
-    // The length of a file that is taken: one within the bound.
-    pub fn new(n: usize, bound: usize) -> FileFit
+    // The length of a file, if it is taken: within the bound.
+    pub fn new(n: usize, bound: usize) -> Option<FileLength>
         ensures { result ≡ file_fit (leb n bound) n }
     {
         if n <= bound {
-            FileFit::Within(FileLength(n))
+            Some(FileLength(n))
         } else {
-            FileFit::Oversized
+            None
         }
     }
 }
@@ -39,21 +33,26 @@ pub fn settle_formula(
     bound: usize,
     prefix: &mut [i32],
     clauses: &mut [i32],
-) -> ReadAnswer
+) -> Result<Filled, Refusal>
     ensures { FormulaSettled bound file.now (length prefix.old) (length clauses.old) prefix.new clauses.new result }
 {
-    match FileLength::new(file.len(), bound) {
-        FileFit::Oversized => ReadAnswer::Refused(Refusal::new(Reason::Oversized, 0)),
-        FileFit::Within(_) => read_formula(file, prefix, clauses),
-    }
+    let Some(_) = FileLength::new(file.len(), bound) else {
+        return Err(Refusal::new(Reason::Oversized, 0));
+    };
+    read_formula(file, prefix, clauses)
 }
 
 // The proof file for a formula of `clause_count` clauses, read into the table of steps.
-pub fn settle_proof(file: &[u8], bound: usize, clause_count: u32, steps: &mut [i32]) -> ProofAnswer
+pub fn settle_proof(
+    file: &[u8],
+    bound: usize,
+    clause_count: u32,
+    steps: &mut [i32],
+) -> Result<usize, Refusal>
     ensures { ProofSettled bound file.now clause_count (length steps.old) steps.new result }
 {
-    match FileLength::new(file.len(), bound) {
-        FileFit::Oversized => ProofAnswer::Refused(Refusal::new(Reason::Oversized, 0)),
-        FileFit::Within(_) => read_proof(file, clause_count, steps),
-    }
+    let Some(_) = FileLength::new(file.len(), bound) else {
+        return Err(Refusal::new(Reason::Oversized, 0));
+    };
+    read_proof(file, clause_count, steps)
 }

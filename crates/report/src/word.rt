@@ -45,14 +45,7 @@ fn words() -> [[u8; 14]; 23]
 fn undotted(bytes: &[u8]) -> usize
     ensures { result ≡ length (word_in bytes.now) }
 {
-    let mut n = 0;
-    while n < bytes.len() {
-        if bytes[n] == b'.' {
-            return n;
-        }
-        n += 1;
-    }
-    n
+    bytes.iter().take_while(|b| **b != b'.').count()
 }
 
 // The word of a reason. Answers the place behind it.

@@ -38,12 +38,10 @@ pub enum Next {
     },
 }
 
-// Of a run of bytes up to a blank or the end: whether it is digits alone, of which a first 0 stands alone, then their value; and
-// where it ends.
+// Of a run of bytes up to a blank or the end: its value, if it is digits alone, of which a first 0 stands alone; and where it ends.
 #[derive(Clone, Copy)]
 pub struct Digits {
-    pub plain: bool,
-    pub value: usize,
+    pub value: Option<usize>,
     pub end: usize,
 }
 
@@ -97,14 +95,12 @@ pub fn first_token(text: &[u8]) -> Position
 {
     let mut lead = Lead::LineStart;
     let mut at = Position::start();
-    while at.place < text.len() {
-        let i = at.place;
-        let b = text[i];
-        lead = lead_step(lead, b);
+    for b in text {
+        lead = lead_step(lead, *b);
         if let Lead::Over = lead {
             return at;
         }
-        at = at.past(b);
+        at = at.past(*b);
     }
     at
 }
@@ -126,16 +122,12 @@ fn more_digits(read: Digits, first: bool, b: u8) -> Digits
     requires { read.end + 1 < 2 ^ 64 }
     ensures { result ≡ more_digits read first b }
 {
-    if (read.plain & is_digit(b)) & (first | (0 < read.value)) {
-        return Digits {
-            plain: true,
-            value: numeral(read.value, b),
-            end: read.end + 1,
-        };
-    }
+    let value = match read.value {
+        Some(n) if is_digit(b) & (first | (0 < n)) => Some(numeral(n, b)),
+        _ => None,
+    };
     Digits {
-        plain: false,
-        value: read.value,
+        value,
         end: read.end + 1,
     }
 }
@@ -146,10 +138,10 @@ fn read_digits(text: &[u8], from: usize) -> Digits
     ensures { DigitsRead text.now from result }
 {
     let mut read = Digits {
-        plain: true,
-        value: 0,
+        value: Some(0),
         end: from,
     };
+    // A `for` over the rest of the text makes a scan of short tokens 1.4 times as long.
     while read.end < text.len() {
         let i = read.end;
         let b = text[i];
@@ -167,36 +159,20 @@ fn token_at(text: &[u8], place: Position) -> Next
     ensures { result ≡ next_of text.now (tokens_at text.now place.place) }
 {
     let start = place.place;
-    if text[start] == b'-' {
-        let read = read_digits(text, start + 1);
-        let next = place.along(read.end - start);
-        if read.plain & (0 < read.value) {
-            return Next::Found {
-                token: Token::Negative(read.value),
-                place,
-                next,
-            };
-        }
-        return Next::Found {
-            token: Token::NoNumber,
-            place,
-            next,
-        };
-    }
-    let read = read_digits(text, start);
+    let minus = text[start] == b'-';
+    // One call, from the place chosen first, makes a scan of short tokens 1.2 times as long.
+    let read = if minus {
+        read_digits(text, start + 1)
+    } else {
+        read_digits(text, start)
+    };
     let next = place.along(read.end - start);
-    if read.plain {
-        return Next::Found {
-            token: Token::Natural(read.value),
-            place,
-            next,
-        };
-    }
-    Next::Found {
-        token: Token::NoNumber,
-        place,
-        next,
-    }
+    let token = match read.value {
+        Some(n) if !minus => Token::Natural(n),
+        Some(n) if 0 < n => Token::Negative(n),
+        _ => Token::NoNumber,
+    };
+    Next::Found { token, place, next }
 }
 
 // The next byte that is no blank, or the end.
@@ -205,6 +181,7 @@ fn skip_blanks(text: &[u8], from: Position) -> Position
     ensures { SkipPost text.now from.place result }
 {
     let mut at = from;
+    // A `for` over the rest of the text makes a scan of short tokens 1.2 times as long.
     while at.place < text.len() {
         let i = at.place;
         let b = text[i];
@@ -241,15 +218,5 @@ pub fn is_word(text: &[u8], from: usize, to: usize, word: &[u8]) -> bool
     requires { (from ≤ to) × (to ≤ length text.now) }
     ensures { result ≡ same (take (to - from) (drop from text.now)) word.now }
 {
-    if to - from != word.len() {
-        return false;
-    }
-    let mut i = 0;
-    while i < word.len() {
-        if text[from + i] != word[i] {
-            return false;
-        }
-        i += 1;
-    }
-    true
+    &text[from..to] == word
 }

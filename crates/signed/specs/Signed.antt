@@ -2,6 +2,8 @@
 -- admitted table has an old one with its entries, each old one that was admitted has a table of records, and what 01's entries answer is the same; the
 -- theorems are in proofs/Theorems/Signed/Laws.antt, and for verdicts without 17's numbers in Numbers.antt beside it, 001's prefix both ways in
 -- Examples.antt.
+use Rattle.std.specs.Prelude.{Err, Ok}
+use Rattle.checker.specs.Verdict.{Verdict, accept}
 use Rattle.std.specs.Prelude.{ℕ, suc, ◌≤◌, ◌≡◌, length, ℤ, pos, negsuc, neg_ℤ, nat_abs}
 use mathlib.Core.List.{List, [], map, Memᴰ}
 use Rattle.qbf.specs.Formula.{Quantifier, existential, universal, Entry, entry, Prefix, Formula, Distinct}
@@ -10,8 +12,6 @@ use Rattle.formula.specs.Decode.{clauses_of, matrix_of}
 use Rattle.formula.specs.Refusal.{number}
 use Rattle.formula.specs.Tables.{zeros}
 use Rattle.inference.specs.Steps.{Scope}
-use Rattle.checker.specs.declared.verdict.Verdict.{Verdict}
-use Rattle.checker.specs.declared.verdict.Verdict.TheVariants.{Accepted, Refused}
 
 -- The entry of a word, and the entries of the words.
 abbrev pub signed_entry : ℤ → Entry
@@ -58,8 +58,8 @@ pub data Said : Type 0 where
   refused : (number place line column : ℕ) → Said
 
 abbrev pub said : Verdict → Said
-said (Accepted n count) = accepted n.0 count
-said (Refused r) = refused (number r.reason) r.place r.line r.column
+said (Ok a) = accepted a.empty.0 a.steps
+said (Err r) = refused (number r.reason) r.place r.line r.column
 
 -- What steps know but for the blocks.
 abbrev pub blockless : Scope → Scope

@@ -1,17 +1,22 @@
 -- The flag at a place, storing one, the flags of bytes that are joined, cut and cleared. Definitions: Flags. Assumes nothing.
+use Rattle.std.proofs.Common.{add_comm}
+use Rattle.std.proofs.Common.{drop-cons}
+use Rattle.std.proofs.Math.Seq.{drop-length}
 use Rattle.std.specs.Prelude.{ℕ, zero, suc, ◌+◌, ◌*◌, ◌-◌, ◌/◌, ◌%◌, ◌^◌, ◌<◌, ◌≤◌, ◌≡◌, refl, ◌≢◌, Bool, true, false, not, ◌&&◌, List, [], ◌∷◌, ◌++◌, length, set, take, drop, replicate, eqb}
 use Rattle.std.proofs.Math.Path.{ap, sym}
-use Rattle.std.proofs.Common.{◌∙◌, add_comm, div-one, eqb-true, eq-eqb, ne_eqb, get_or-set_other, drop-cons}
+use Rattle.std.proofs.Common.{◌∙◌, div-one, eqb-true, eq-eqb, ne_eqb, get_or-set_other}
 use Rattle.std.proofs.Math.Logic.{dite}
 use Rattle.std.proofs.lemmas.Bool.{false≢true}
 use Rattle.std.proofs.Math.Nat.{div-div-eq-div-mul}
 use native.Mathlib.Omega.{arith}
 use Rattle.std.proofs.Math.Decide.{ℕ_discrete, dec_lt}
 use Rattle.std.proofs.Math.ListN.{get_or, length-set, get_or-eq_default}
-use Rattle.std.proofs.Math.Seq.{ext_get_or, get_or-set_same, take-nil, drop-nil, drop-length}
+use Rattle.std.proofs.Math.Seq.{ext_get_or, get_or-set_same, take-nil, drop-nil}
 use Rattle.std.specs.Int.Bits.{bit_or, bit_and, or_zero_r, and_zero_r}
 use Rattle.std.proofs.lemmas.Nat.{or_shr, or_mod, and_shr, and_mod}
 use Rattle.std.specs.Int.Count.{ones, ones_step}
+use Rattle.std.specs.List.{sum_by}
+use Rattle.std.proofs.lemmas.List.Sums.{sum_by-cons}
 use Rattle.bits.specs.Flags.{flags, flag, total, BitStored}
 
 and_both : (a b : Bool) → (a && b) ≡ true → (a ≡ true) × (b ≡ true)
@@ -192,6 +197,12 @@ pub total_bound : (bs : List ℕ) → total (flags bs) ≤ 8 * length bs
 unfolding flags total
 total_bound [] = omega arith
 total_bound (b ∷ bs) = let k = total_bound bs in omega arith
+
+-- The flags that are 1 are the ones of the bytes, added up.
+pub total_ones : (bs : List ℕ) → ((k : ℕ) → get_or bs k 0 < 256) → sum_by ones bs ≡ total (flags bs)
+unfolding flags total
+total_ones [] h = refl
+total_ones (b ∷ bs) h = sum_by-cons ones b bs ∙ ap (λ (n : ℕ). ones b + n) (total_ones bs (λ k. h (suc k))) ∙ total_byte b bs (h 0)
 
 pub total_none : (bs : List ℕ) → total (flags (drop (length bs) bs)) ≡ 0
 unfolding flags total

@@ -1,4 +1,5 @@
 -- What the code finds by marks and flags is `crosses` of inference/specs/Steps.antt. Assumes nothing.
+use Rattle.std.specs.Prelude.{Result, ⊤}
 use Rattle.std.specs.Prelude.{ℕ, suc, ◌-◌, ◌≤◌, ◌≡◌, Bool, true, false, ◌&&◌, ◌||◌, length, get_or, take, drop, replicate, eqb, ℤ, neg_ℤ, nat_abs}
 use Rattle.std.proofs.Math.Path.{refl, ap, sym}
 use Rattle.std.proofs.Common.{ap₂, ◌∙◌, arith, take_at, drop_at, take-take, length-take-le}
@@ -6,6 +7,7 @@ use Rattle.std.proofs.Math.Bool.{not, or-false, or_assoc}
 use Rattle.std.proofs.lemmas.Bool.{false≢true}
 use Rattle.std.proofs.Math.Option.{Option}
 use mathlib.Core.List.{List, [], ◌∷◌, ◌++◌, Memᴰ}
+use Rattle.std.specs.List.{list_any}
 use borrow.Rule.Slice.PartMut.{same_len_mid, mid_len}
 use Rattle.qbf.specs.Formula.{universal, Prefix, after}
 use Rattle.bits.specs.Flags.{flags}
@@ -15,7 +17,6 @@ use Rattle.formula.specs.Prefix.{AllRanged, quantifies}
 use Rattle.formula.specs.declared.refusal.Reason.{Reason}
 use Rattle.inference.specs.declared.read.Family.{Family}
 use Rattle.inference.specs.declared.read.Family.TheVariants.{Ordinary, LongDistance}
-use Rattle.inference.specs.declared.result.Judgement.{Judgement}
 use Rattle.inference.specs.Words.{Words, same_word, holds, without, AllInRange}
 use Rattle.inference.specs.Steps.{resolvent, crosses, unresolvable}
 use Rattle.inference.specs.Scope.{mergeable_in}
@@ -52,9 +53,10 @@ module _ (may : ℕ → Bool) (m : List ℕ) where
   pub crosses_cons : (e x : ℤ) (C D : Words) → D ≡ x ∷ C → crosses_marks may m (without e D) ≡ (crosses_marks may m (without e (alone x)) || crosses_marks may m (without e C))
   crosses_cons e x C D d = rw d (ap (crosses_marks may m) (without_cons e x C) ∙ crosses_append (without e (alone x)) (without e C))
 
-  pub crosses_none : (e : ℤ) (D : Words) → D ≡ [] → crosses_marks may m (without e D) ≡ false
+  pub crosses_any : (e : ℤ) (C : Words) → list_any (λ (x : ℤ). crosses_marks may m (without e (alone x))) C ≡ crosses_marks may m (without e C)
   unfolding crosses_marks without
-  crosses_none e D d = rw d
+  crosses_any e [] = refl
+  crosses_any e (x ∷ C) = ap (λ (b : Bool). crosses_marks may m (without e (alone x)) || b) (crosses_any e C) ∙ sym (crosses_cons e x C (x ∷ C) refl)
 
   pub crosses_left_out : (e x : ℤ) → same_word e x ≡ true → false ≡ crosses_marks may m (without e (alone x))
   unfolding crosses_marks without
@@ -138,8 +140,13 @@ cross_told LongDistance may e C D told h = h
 
 pub crossed_judged :
     {f : Family} {crossed told : Bool} {scratch scratch' : List ℕ} → Crossed f crossed told scratch scratch' → length scratch ≡ small_bound
-    → (bytes : List ℕ) → length bytes ≡ row_at → {reason : Option Reason} {r : Judgement} → JudgedClean reason r (marks_in bytes)
+    → (bytes : List ℕ) → length bytes ≡ row_at → {reason : Option Reason} {r : Result ⊤ Reason} → JudgedClean reason r (marks_in bytes)
     → Answers reason r scratch (bytes ++ drop row_at scratch')
 crossed_judged {scratch' = scratch'} h whole bytes size j =
     let a = front_judged scratch' bytes size h.clean.size j in
     record { answer = a.answer; size = a.size ∙ h.clean.size ∙ sym whole; marks = a.marks; kept = a.kept ∙ h.kept }
+
+module _ (may : ℕ → Bool) (m : List ℕ) where
+  pub crosses_none : (e : ℤ) (D : Words) → D ≡ [] → crosses_marks may m (without e D) ≡ false
+  unfolding crosses_marks without
+  crosses_none e D d = rw d

@@ -1,6 +1,8 @@
 -- A right step taken by the run, a wrong one, and one that comes after an empty clause; the run under way. Assumes nothing.
+use Rattle.std.specs.Prelude.{Result, Err}
+use Rattle.checker.specs.declared.step.StepTaken.{StepTaken}
 use Rattle.std.specs.Prelude.{ℕ, zero, suc, ◌+◌, ◌-◌, ◌≤◌, ◌<◌, ◌≡◌, refl, Bool, true, false, ◌&&◌, ltb, length, get_or, set, ℤ, pos, nat_abs}
-use Rattle.std.proofs.Common.{ap, ap₂, sym, ◌∙◌, add-one, length-set, drop-cons, drop-drop, get_or-set_same, get_or-set_other}
+use Rattle.std.proofs.Common.{ap, ap₂, sym, ◌∙◌, add-one, length-set, drop-cons, drop-drop, get_or-set_same, get_or-set_other, Ok}
 use Rattle.std.proofs.Math.Option.{none, some}
 use mathlib.Core.List.{List, [], ◌∷◌, ◌++◌}
 use native.Mathlib.Omega.{arith}
@@ -13,9 +15,8 @@ use Rattle.formula.specs.Decode.{formula_of, clauses_of, clause_at}
 use Rattle.formula.specs.declared.refusal.Reason.{Reason}
 use Rattle.formula.specs.declared.refusal.Reason.TheVariants.{Afterword}
 use Rattle.inference.specs.Rules.{plain_rules, ending, former_rules}
-use Rattle.checker.specs.declared.step.StepAnswer.{StepAnswer}
-use Rattle.checker.specs.declared.step.StepAnswer.TheVariants.{Right as RightStep, Wrong as WrongStep}
 use Rattle.inference.specs.Words.{Words, AllWords, InRange}
+use Rattle.inference.specs.declared.read.Family.{Family}
 use Rattle.inference.specs.Steps.{Scope, Step, resolution, reduction, family_of, stated_by, size_of, judge, Judged, right, wrong, judge_read, judge_first, read_step, run, refused}
 use Rattle.inference.specs.Steps.Run.{run_right, run_wrong, after_refused, before_judged, rightly}
 use Rattle.inference.specs.Lawful.{NoZeros}
@@ -32,7 +33,6 @@ use Rattle.inference.specs.Read.Laws.{statement_read}
 use Rattle.checker.specs.Step.{Ready, KeptReady, step_answer}
 use Rattle.checker.specs.Step.Laws.{none_kept}
 use Rattle.checker.specs.Run.{step_place, StepStands, Placed, RunDone}
-use Rattle.checker.specs.declared.run.Run.TheVariants.{Ended, Refused}
 
 -- Clauses in range hold no 0.
 pub in_range_nonzero : (known : List Words) → AllWords InRange known → NoZeros known
@@ -57,23 +57,23 @@ pub record Taken (S : Scope) (room : ℕ) (known : List Words) (steps : Words) (
 
 module _ (S : Scope) (room : ℕ) (known : List Words) (steps : Words) (at kept : ℕ) (within : at < length steps) where
   pub right_taken :
-      (next row : ℕ) (ends : Bool) → RightStep next row ends ≡ step_answer at kept (judge_read S room known (read_step (family_of steps) (drop at steps)))
+      (next row : ℕ) (ends : Bool) → Ok (record { next = next; kept = row; empty = ends }) ≡ step_answer at kept (judge_read S room known (read_step (family_of steps) (drop at steps)))
       → Taken S room known steps at next ends
   right_taken next row ends h = go (judge_read S room known (read_step (family_of steps) (drop at steps))) refl h
     where
-      next_of : StepAnswer → ℕ
-      next_of (RightStep a b c) = a
-      next_of (WrongStep r) = 0
+      next_of : Result StepTaken Reason → ℕ
+      next_of (Ok t) = t.next
+      next_of (Err r) = 0
 
-      ends_of : StepAnswer → Bool
-      ends_of (RightStep a b c) = c
-      ends_of (WrongStep r) = false
+      ends_of : Result StepTaken Reason → Bool
+      ends_of (Ok t) = t.empty
+      ends_of (Err r) = false
 
       larger : (s : Step) → at < at + size_of s
       larger (resolution f i j e L) = omega arith
       larger (reduction f i a L) = omega arith
 
-      go : (j : Judged) → judge_read S room known (read_step (family_of steps) (drop at steps)) ≡ j → RightStep next row ends ≡ step_answer at kept j → Taken S room known steps at next ends
+      go : (j : Judged) → judge_read S room known (read_step (family_of steps) (drop at steps)) ≡ j → Ok (record { next = next; kept = row; empty = ends }) ≡ step_answer at kept j → Taken S room known steps at next ends
       go (wrong r) e q = let z : ◌≡◌ {A = ℕ} 0 1 = cc in absurd (omega arith)
       go (right s) e q =
           let r = rightly former_rules (family_of steps) S room known (drop at steps) s (before_judged former_rules (family_of steps) S room known refl (drop at steps) ∙ e) in
@@ -99,11 +99,11 @@ module _ (S : Scope) (room : ℕ) (known : List Words) (steps : Words) (at kept 
         go d = rw d (run_wrong (ending strict plain_rules) (family_of steps) S room known (get_or steps at (pos 0)) (drop (suc at) steps) r (rw d at j))
 
     pub wrong_run :
-        (r : Reason) → (strict && some_empty known) ≡ false → WrongStep r ≡ step_answer at kept (judge_read S room known (read_step (family_of steps) (drop at steps)))
+        (r : Reason) → (strict && some_empty known) ≡ false → Err r ≡ step_answer at kept (judge_read S room known (read_step (family_of steps) (drop at steps)))
         → run (ending strict plain_rules) (family_of steps) S room known zero (drop at steps) ≡ refused (refusal r (suc (length known)))
     wrong_run r may h = run_refused r (before_judged (ending strict plain_rules) (family_of steps) S room known may (drop at steps) ∙ go (judge_read S room known (read_step (family_of steps) (drop at steps))) h)
       where
-        go : (j : Judged) → WrongStep r ≡ step_answer at kept j → j ≡ wrong r
+        go : (j : Judged) → Err r ≡ step_answer at kept j → j ≡ wrong r
         go (right s) q = let z : ◌≡◌ {A = ℕ} 0 1 = cc in absurd (omega arith)
         go (wrong p) q = let e : p ≡ r = cc in ap wrong e
 
@@ -196,11 +196,21 @@ module _ (strict : Bool) (prefix clauses steps : List ℤ) (inputs : ℕ) (scrat
         reached = let n : inputs - inputs ≡ 0 = omega arith in rw n;
       }
 
-module _ (strict : Bool) (prefix clauses steps : List ℤ) (inputs room : ℕ) (scratch offsets : List ℕ) (numbered at kept empty : ℕ)
+module _ {strict : Bool} {prefix clauses steps : List ℤ} {inputs room : ℕ} {scratch offsets : List ℕ} {numbered at kept empty : ℕ}
     (g : Going strict prefix clauses steps inputs room scratch offsets numbered at kept empty) where
   -- What the code tests: whether some clause is empty.
   some_is : (b : Bool) → (strict && ltb 0 empty) ≡ b → (strict && some_empty (stored inputs clauses steps offsets numbered)) ≡ b
   some_is b h = ap (λ (t : Bool). strict && t) (sym (ap (ltb 0) g.first_empty_lem ∙ some_number (stored inputs clauses steps offsets numbered))) ∙ h
+
+  -- What a right step says, and that its offset has room.
+  module _
+      (within : at < length steps) {family : Family} (same : family ≡ family_of steps) {next row : ℕ} {ends : Bool}
+      (told : Ok (record { next = next; kept = row; empty = ends }) ≡ step_answer at kept (judge_read (scope_of prefix clauses) (length offsets) (stored inputs clauses steps offsets numbered) (read_step family (drop at steps)))) where
+    pub going_takes : Taken (scope_of prefix clauses) (length offsets) (stored inputs clauses steps offsets numbered) steps at next ends
+    going_takes = right_taken (scope_of prefix clauses) (length offsets) (stored inputs clauses steps offsets numbered) steps at kept within next row ends (rw same at told)
+
+    pub going_fits : numbered < length offsets
+    going_fits = omega (arith, going_takes.fits, stored_length inputs clauses steps offsets numbered)
 
   -- A right step's offset is kept.
   pub going_turns :
@@ -228,7 +238,7 @@ module _ (strict : Bool) (prefix clauses steps : List ℤ) (inputs room : ℕ) (
       (r : Reason) (scratch' : List ℕ)
       → run (ending strict plain_rules) (family_of steps) (scope_of prefix clauses) (length offsets) (stored inputs clauses steps offsets numbered) zero (drop at steps) ≡ refused (refusal r (suc (length (stored inputs clauses steps offsets numbered))))
       → Ready prefix scratch'
-      → RunDone strict prefix clauses steps inputs (Refused (refusal r (numbered + 1))) scratch' offsets
+      → RunDone strict prefix clauses steps inputs (Err (refusal r (numbered + 1))) scratch' offsets
   going_stops r scratch' w k =
       let n : suc (length (stored inputs clauses steps offsets numbered)) ≡ numbered + 1 = let l = stored_length inputs clauses steps offsets numbered in omega arith in
       record {
@@ -242,21 +252,21 @@ module _ (strict : Bool) (prefix clauses steps : List ℤ) (inputs room : ℕ) (
 
   pub going_refused :
       (r : Reason) (scratch' : List ℕ) → at < length steps → (strict && ltb 0 empty) ≡ false
-      → WrongStep r ≡ step_answer at kept (judge_read (scope_of prefix clauses) (length offsets) (stored inputs clauses steps offsets numbered) (read_step (family_of steps) (drop at steps)))
+      → Err r ≡ step_answer at kept (judge_read (scope_of prefix clauses) (length offsets) (stored inputs clauses steps offsets numbered) (read_step (family_of steps) (drop at steps)))
       → Ready prefix scratch'
-      → RunDone strict prefix clauses steps inputs (Refused (refusal r (numbered + 1))) scratch' offsets
+      → RunDone strict prefix clauses steps inputs (Err (refusal r (numbered + 1))) scratch' offsets
   going_refused r scratch' h may e k =
       going_stops r scratch' (wrong_run (scope_of prefix clauses) (length offsets) (stored inputs clauses steps offsets numbered) steps at kept h strict r (some_is false may) e) k
 
   -- One that comes after an empty clause.
   pub going_afterwards :
       at < length steps → (strict && ltb 0 empty) ≡ true
-      → RunDone strict prefix clauses steps inputs (Refused (refusal Afterword (numbered + 1))) scratch offsets
+      → RunDone strict prefix clauses steps inputs (Err (refusal Afterword (numbered + 1))) scratch offsets
   going_afterwards h e =
       going_stops Afterword scratch (after_run (scope_of prefix clauses) (length offsets) (stored inputs clauses steps offsets numbered) steps at kept h strict (some_is true e)) g.ready.ready
 
   -- No word is left.
-  pub going_ends : length steps ≤ at → RunDone strict prefix clauses steps inputs (Ended numbered empty) scratch offsets
+  pub going_ends : length steps ≤ at → RunDone strict prefix clauses steps inputs (Ok (record { numbered = numbered; empty = empty })) scratch offsets
   unfolding run
   going_ends h =
       let nothing : drop at steps ≡ [] = drop_of_length-le steps {i = at} h in

@@ -1,5 +1,9 @@
 -- The parts of a step's check make up the judgement of inference/specs/Steps.antt, and each leaves the scratch ready. Assumes nothing.
-use Rattle.std.specs.Prelude.{ℕ, zero, suc, ◌+◌, ◌-◌, ◌≤◌, ◌<◌, ◌≡◌, Bool, ◌&&◌, leb, length, get_or, replicate, ℤ, pos, negsuc, neg_ℤ, nat_abs}
+use Rattle.std.specs.Prelude.{Option as Optional}
+use Rattle.std.specs.Prelude.{Result, Ok, Err, ⊤}
+use Rattle.formula.specs.declared.literal.Variable.{Variable}
+use Rattle.formula.specs.Refusal.{passes}
+use Rattle.std.specs.Prelude.{ℕ, zero, suc, ◌+◌, ◌≤◌, ◌<◌, ◌≡◌, Bool, ◌&&◌, length, replicate, ℤ, pos, negsuc, neg_ℤ, nat_abs}
 use Rattle.std.proofs.Math.Path.{refl, ap, sym}
 use Rattle.std.proofs.Common.{◌∙◌, arith, lt-ltb, le-ltb, length-append, length-drop, take-append-drop, zero-add, take_at, drop_at, drop-drop, take-take, length-take-le}
 use Rattle.std.proofs.Math.Bool.{true, false}
@@ -15,27 +19,19 @@ use Rattle.dependency.specs.Scratch.{row_at, later, small_bound, row_in}
 use Rattle.formula.specs.Prefix.{prefix_of, quantifies}
 use Rattle.formula.specs.Bounds.{variable_fit}
 use Rattle.formula.specs.Tables.{Admitted}
-use Rattle.formula.specs.declared.literal.VariableFit.{VariableFit}
 use Rattle.formula.specs.declared.refusal.Reason.{Reason}
 use Rattle.formula.specs.declared.refusal.Reason.TheVariants.{WrongPivot, BrokenStep, NoRoom}
-use Rattle.inference.specs.Words.{Words, holds, AllWords, InRange, AllInRange}
-use Rattle.formula.specs.Decode.{clause_at}
+use Rattle.inference.specs.Words.{Words, holds}
 use Rattle.inference.specs.declared.read.Family.{Family}
-use Rattle.inference.specs.declared.result.Judgement.{Judgement}
-use Rattle.inference.specs.declared.result.Judgement.TheVariants.{Right, Wrong}
-use Rattle.checker.specs.declared.step.StepAnswer.TheVariants.{Right as RightStep, Wrong as WrongStep}
 use Rattle.inference.specs.Steps.{Scope, Step, resolution, stated_by, size_of, antecedent, resolvent, positive_existential, unresolvable, demand, judge_resolution, judge, judge_read}
-use Rattle.inference.specs.Lawful.Laws.{found_member}
 use Rattle.inference.specs.Scope.{mergeable_in, scope_of}
-use Rattle.inference.specs.Numbered.{table_of, place_of, stored_at, stored}
-use Rattle.inference.specs.Numbered.Laws.{stored_get}
 use Rattle.inference.specs.Empty.{is_empty}
 use Rattle.inference.specs.Read.{fields_of}
 use Rattle.inference.specs.Marks.{marks_in}
 use Rattle.inference.specs.Marks.Laws.{marks_cleared}
 use Rattle.inference.specs.Existentials.{existentials_of}
 use Rattle.inference.specs.Existentials.Laws.{existential_fit}
-use Rattle.inference.specs.Result.{judgement_of, result_reason, JudgedClean}
+use Rattle.inference.specs.Result.{result_reason, JudgedClean}
 use Rattle.checker.specs.Step.{existentials_in, Clean, Ready, RowReady, KeptReady, kept_after, kept_if, resolving_reason, resolution_reason, Answers, JudgedReady, step_answer}
 
 -- A part in the middle, cut from either end first.
@@ -46,7 +42,7 @@ drop_take (suc n) k (x ∷ l) = let e : suc n + k ≡ suc (n + k) = omega arith 
 
 -- The marks, lent and given back: what is behind them stands as it was.
 module _ (scratch bytes : List ℕ) (size : length bytes ≡ row_at) where
-  pub front_judged : {reason : Option Reason} {r : Judgement} → length scratch ≡ small_bound → JudgedClean reason r (marks_in bytes) → Answers reason r scratch (bytes ++ drop row_at scratch)
+  pub front_judged : {reason : Option Reason} {r : Result ⊤ Reason} → length scratch ≡ small_bound → JudgedClean reason r (marks_in bytes) → Answers reason r scratch (bytes ++ drop row_at scratch)
   front_judged whole h =
       record {
         answer = h.answer;
@@ -71,7 +67,7 @@ module _ (prefix : List ℤ) (scratch : List ℕ) (ready : Ready prefix scratch)
   ready_clean = record { size = ready.size; marks = ready.marks }
 
   -- An answer leaves the scratch ready.
-  pub ready_again : {reason : Option Reason} {r : Judgement} {scratch' : List ℕ} → Answers reason r scratch scratch' → Ready prefix scratch'
+  pub ready_again : {reason : Option Reason} {r : Result ⊤ Reason} {scratch' : List ℕ} → Answers reason r scratch scratch' → Ready prefix scratch'
   ready_again {scratch' = scratch'} h =
       record {
         size = h.size ∙ ready.size;
@@ -91,13 +87,13 @@ module _ (prefix clauses : List ℤ) (scratch : List ℕ) where
   pub kept_row : {kept u : ℕ} → KeptReady prefix clauses kept scratch → kept ≡ u → 1 ≤ u → RowReady prefix clauses u scratch
   kept_row k e h = record { row = rw e at (k.row (rw e h)); ready = k.ready }
 
-  pub kept_again : {kept : ℕ} {reason : Option Reason} {r : Judgement} {scratch' : List ℕ} → KeptReady prefix clauses kept scratch → Answers reason r scratch scratch' → KeptReady prefix clauses (kept_if r kept) scratch'
+  pub kept_again : {kept : ℕ} {reason : Option Reason} {r : Result ⊤ Reason} {scratch' : List ℕ} → KeptReady prefix clauses kept scratch → Answers reason r scratch scratch' → KeptReady prefix clauses (kept_if r kept) scratch'
   unfolding row_in
   kept_again {kept = kept} {r = r} {scratch' = scratch'} k h = go r (ready_again prefix scratch k.ready h)
     where
-      go : (r : Judgement) → Ready prefix scratch' → KeptReady prefix clauses (kept_if r kept) scratch'
-      go Right ready = record { row = λ l. ap {B = List ℕ} (λ (bytes : List ℕ). 0 ∷ flags bytes) (row_part scratch scratch' h.kept) ∙ k.row l; ready = ready }
-      go (Wrong reason) ready = record { row = λ l. absurd (omega arith); ready = ready }
+      go : (r : Result ⊤ Reason) → Ready prefix scratch' → KeptReady prefix clauses (kept_if r kept) scratch'
+      go (Ok tt) ready = record { row = λ l. ap {B = List ℕ} (λ (bytes : List ℕ). 0 ∷ flags bytes) (row_part scratch scratch' h.kept) ∙ k.row l; ready = ready }
+      go (Err reason) ready = record { row = λ l. absurd (omega arith); ready = ready }
 
 -- The existentials filled in behind the row: the scratch is ready where the marks were 0, and the row stands as it was.
 module _ (prefix : List ℤ) (scratch bytes : List ℕ) (size : length scratch ≡ small_bound) (part : length bytes ≡ length (take 128 (drop later scratch))) where
@@ -133,23 +129,6 @@ module _ (prefix : List ℤ) (scratch bytes : List ℕ) (size : length scratch �
       ∙ sym (row_before (drop later scratch))
       ∙ ap (λ (l : List ℕ). take 128 (drop row_at l)) (take-append-drop later scratch))
 
--- A numbered clause by its number.
-pub stored_by_number :
-    (inputs : ℕ) (clauses steps : Words) (offsets : List ℕ) (n : ℕ) → 1 ≤ n
-    → stored_at inputs clauses steps offsets (n - 1) ≡ clause_at (table_of (leb n inputs) clauses steps) (place_of (leb n inputs) steps (get_or offsets (n - 1) 0))
-unfolding stored_at
-stored_by_number inputs clauses steps offsets n h =
-    let e : suc (n - 1) ≡ n = omega arith in
-    ap (λ (k : ℕ). clause_at (table_of (leb k inputs) clauses steps) (place_of (leb k inputs) steps (get_or offsets (n - 1) 0))) e
-
-pub stored_in_range :
-    (inputs : ℕ) (clauses steps : Words) (offsets : List ℕ) (last n : ℕ) → 1 ≤ n → n ≤ last
-    → AllWords InRange (stored inputs clauses steps offsets last)
-    → AllInRange (stored_at inputs clauses steps offsets (n - 1))
-stored_in_range inputs clauses steps offsets last n h k all =
-    all (stored_at inputs clauses steps offsets (n - 1))
-    (found_member (stored inputs clauses steps offsets last) (n - 1) (stored_at inputs clauses steps offsets (n - 1)) (stored_get inputs clauses steps offsets last (n - 1) (omega arith)))
-
 -- The judgement from its parts, on tables that pass.
 module _ (prefix clauses : List ℤ) (a : Admitted prefix clauses) where
   abbrev may : ℕ → ℕ → Bool
@@ -168,40 +147,29 @@ module _ (prefix clauses : List ℤ) (a : Admitted prefix clauses) where
   unfolding judge_resolution
   resolution_judged f e L none B = refl
   resolution_judged f e L (some C) none = refl
-  resolution_judged f e L (some C) (some D) = ap (λ (v : VariableFit). resolving_reason f may v C D L) (existential_fit prefix clauses a e) ∙ resolving f e C D L
+  resolution_judged f e L (some C) (some D) = ap (λ (v : Optional Variable). resolving_reason f may v C D L) (existential_fit prefix clauses a e) ∙ resolving f e C D L
 
   -- The answer to a resolution, with the existentials in the scratch.
   pub resolution_answers :
-      (kept : ℕ) (scratch : List ℕ) → KeptReady prefix clauses kept scratch → (known : List Words) (r : Judgement) (scratch' : List ℕ) (f : Family) (i j e : ℤ) (L : Words)
+      (kept : ℕ) (scratch : List ℕ) → KeptReady prefix clauses kept scratch → (known : List Words) (r : Result ⊤ Reason) (scratch' : List ℕ) (f : Family) (i j e : ℤ) (L : Words)
       → Answers (resolution_reason f may (existentials_in scratch) e L (antecedent known i) (antecedent known j)) r scratch scratch'
       → JudgedReady prefix clauses kept (judge (scope_of prefix clauses) known (resolution f i j e L)) r scratch'
   resolution_answers kept scratch k known r scratch' f i j e L h =
       record {
-        answer = (rw k.ready.existentials at h.answer) ∙ ap judgement_of (resolution_judged f e L (antecedent known i) (antecedent known j));
+        answer = (rw k.ready.existentials at h.answer) ∙ ap passes (resolution_judged f e L (antecedent known i) (antecedent known j));
         ready = kept_again prefix clauses scratch k h;
       }
 
 -- The step's answer, by what was read and judged.
 module _ (S : Scope) (room : ℕ) (known : List Words) (o : Option Step) (at kept : ℕ) where
-  pub step_broken : o ≡ none → WrongStep BrokenStep ≡ step_answer at kept (judge_read S room known o)
+  pub step_broken : o ≡ none → Err BrokenStep ≡ step_answer at kept (judge_read S room known o)
   step_broken e = rw e
 
-  pub step_no_room : (s : Step) → o ≡ some s → room ≤ length known → WrongStep NoRoom ≡ step_answer at kept (judge_read S room known o)
+  pub step_no_room : (s : Step) → o ≡ some s → room ≤ length known → Err NoRoom ≡ step_answer at kept (judge_read S room known o)
   step_no_room s e h = rw (e, le-ltb (length known) room h)
 
-  pub step_right : (s : Step) → o ≡ some s → length known < room → judge S known s ≡ none → RightStep (at + size_of s) (kept_after (fields_of at s) kept) (is_empty (stated_by s)) ≡ step_answer at kept (judge_read S room known o)
+  pub step_right : (s : Step) → o ≡ some s → length known < room → judge S known s ≡ none → Ok (record { next = at + size_of s; kept = kept_after (fields_of at s) kept; empty = is_empty (stated_by s) }) ≡ step_answer at kept (judge_read S room known o)
   step_right s e h j = rw (e, lt-ltb (length known) room h, j)
 
-  pub step_wrong : (s : Step) (r : Reason) → o ≡ some s → length known < room → judge S known s ≡ some r → WrongStep r ≡ step_answer at kept (judge_read S room known o)
+  pub step_wrong : (s : Step) (r : Reason) → o ≡ some s → length known < room → judge S known s ≡ some r → Err r ≡ step_answer at kept (judge_read S room known o)
   step_wrong s r e h j = rw (e, lt-ltb (length known) room h, j)
-
-pub judgement_right : (o : Option Reason) → Right ≡ judgement_of o → o ≡ none
-judgement_right none h = refl
-judgement_right (some r) h = let z : ◌≡◌ {A = ℕ} 0 1 = cc in absurd (omega arith)
-
-pub judgement_wrong : (o : Option Reason) (r : Reason) → Wrong r ≡ judgement_of o → o ≡ some r
-judgement_wrong none r h = let z : ◌≡◌ {A = ℕ} 0 1 = cc in absurd (omega arith)
-judgement_wrong (some q) r h = ap {B = Option Reason} some (same q r h)
-  where
-    same : (q r : Reason) → Wrong r ≡ Wrong q → q ≡ r
-    same q r e = cc

@@ -1,6 +1,8 @@
 -- What an accepted verdict says (01, "Steps"; wish 2) and what makes it, with nothing supposed of tables or room, by any rules and for both families;
 -- Exact.antt has the wish as its sentence, by the checker's rules. The verdict is blocked only where an existential of the clause depends, and what blocks
 -- is an entry of the prefix. And wish 3 for the checker: an accepted proof makes the game lost. Assumes nothing.
+use Rattle.std.specs.Prelude.{Err, Ok}
+use Rattle.checker.specs.Verdict.{Verdict, accept}
 use Rattle.std.specs.Prelude.{ℕ, zero, suc, ◌+◌, ◌-◌, ◌≤◌, ◌<◌, ◌≡◌, refl, ◌≢◌, Bool, true, leb, length, get_or, ℤ, pos, nat_abs}
 use Rattle.std.proofs.Common.{ap, sym, subst, ◌∙◌, arith, length-append}
 use Rattle.std.proofs.Math.Option.{Option, none, some}
@@ -23,8 +25,6 @@ use Rattle.formula.specs.Refusal.{refusal, require, number, no_blocker}
 use Rattle.formula.specs.declared.refusal.Refusal.{Refusal}
 use Rattle.formula.specs.declared.refusal.Blocker.{Blocker}
 use Rattle.formula.specs.declared.refusal.Reason.TheVariants.{Oversized, NoRoom, NoConclusion, Blocked}
-use Rattle.checker.specs.declared.verdict.Verdict.{Verdict}
-use Rattle.checker.specs.declared.verdict.Verdict.TheVariants.{Accepted, Refused}
 use Rattle.inference.specs.declared.read.Family.{Family}
 use Rattle.inference.specs.Rules.{Rules}
 use Rattle.formula.specs.Refusal.Laws.{require_passed}
@@ -46,21 +46,21 @@ use Rattle.checker.specs.Verdict.Conclusion.{run_conclusion}
 use Rattle.inference.proofs.Theorems.Scope.Laws.{scope_decides}
 
 -- The order of refusals, taken apart.
-admitted_passed : (o : Option Refusal) (later v : Verdict) → ((r : Refusal) → o ≡ some r → v ≢ Refused r) → if_admitted o later ≡ v → (o ≡ none) × (later ≡ v)
+admitted_passed : (o : Option Refusal) (later v : Verdict) → ((r : Refusal) → o ≡ some r → v ≢ Err r) → if_admitted o later ≡ v → (o ≡ none) × (later ≡ v)
 admitted_passed none later v n h = (refl, h)
 admitted_passed (some r) later v n h = absurd (n r refl (sym h))
 
 -- Accepted verdicts that are the same have the same numbers.
-pub numbers_same : (a b c d : ℕ) → ◌≡◌ {A = Verdict} (Accepted (record { 0 = a }) b) (Accepted (record { 0 = c }) d) → (a ≡ c) × (b ≡ d)
+pub numbers_same : (a b c d : ℕ) → ◌≡◌ {A = Verdict} (accept (record { 0 = a }) b) (accept (record { 0 = c }) d) → (a ≡ c) × (b ≡ d)
 numbers_same a b c d e = (ap first e, ap second e)
   where
     first : Verdict → ℕ
-    first (Accepted k l) = k.0
-    first (Refused r) = 0
+    first (Ok a) = a.empty.0
+    first (Err r) = 0
 
     second : Verdict → ℕ
-    second (Accepted k l) = l
-    second (Refused r) = 0
+    second (Ok a) = a.steps
+    second (Err r) = 0
 
 -- What stands right behind others.
 behind : (left right : List Blocker) (x : Blocker) → get_or (left ++ (x ∷ right)) (length left) no_blocker ≡ x
@@ -93,7 +93,7 @@ module _ (rules : Rules) (prefix clauses steps : List ℤ) (scratch room : ℕ) 
 
   -- A verdict that no test before the steps gave: those refuse with numbers up to 9.
   pub verdict_passed :
-      (v : Verdict) → ((q : Refusal) → number q.reason ≤ 9 → v ≢ Refused q)
+      (v : Verdict) → ((q : Refusal) → number q.reason ≤ 9 → v ≢ Err q)
       → verdict_of rules prefix clauses steps scratch room ≡ v
       → Passed rules prefix clauses steps scratch room × (conclude rules (zeros clauses) outcome ≡ v)
   unfolding verdict_of sized_verdict
@@ -111,14 +111,14 @@ module _ (rules : Rules) (prefix clauses steps : List ℤ) (scratch room : ℕ) 
         d.1,
       )
     where
-      test : (b : Bool) (q : Refusal) → number q.reason ≤ 9 → (later : Verdict) → require b (Refused q) later ≡ v → (b ≡ true) × (later ≡ v)
-      test b q small later e = require_passed b (Refused q) later v (λ k. n q small (sym k)) e
+      test : (b : Bool) (q : Refusal) → number q.reason ≤ 9 → (later : Verdict) → require b (Err q) later ≡ v → (b ≡ true) × (later ≡ v)
+      test b q small later e = require_passed b (Err q) later v (λ k. n q small (sym k)) e
 
   -- What a run that ended concludes with is its first empty clause.
   pub ended_conclusion : Admitted prefix clauses → (final : List Words) → outcome ≡ ended final → conclusion rules.strict (zeros clauses) final ≡ first_empty 1 final
   ended_conclusion a final e = rw (← admitted_closed prefix clauses a) (run_conclusion rules (family_of steps) (scope_of prefix clauses) room (clauses_of clauses) steps final e)
 
-  pub accepted_apart : (n m : ℕ) (q : Refusal) → Accepted (record { 0 = n }) m ≢ Refused q
+  pub accepted_apart : (n m : ℕ) (q : Refusal) → accept (record { 0 = n }) m ≢ Err q
   accepted_apart n m q e = let z : ◌≡◌ {A = ℕ} 0 1 = cc in omega arith
 
   -- Clauses of the table hold no 0.
@@ -127,17 +127,17 @@ module _ (rules : Rules) (prefix clauses steps : List ℤ) (scratch room : ℕ) 
 
   -- Accepted: the words are a refutation.
   pub accepted_refutation :
-      (n m : ℕ) → verdict_of rules prefix clauses steps scratch room ≡ Accepted (record { 0 = n }) m
+      (n m : ℕ) → verdict_of rules prefix clauses steps scratch room ≡ accept (record { 0 = n }) m
       → Accepting rules prefix clauses steps scratch room n m
   accepted_refutation n m h =
-      let p = verdict_passed (Accepted (record { 0 = n }) m) (λ q small. accepted_apart n m q) h in
+      let p = verdict_passed (accept (record { 0 = n }) m) (λ q small. accepted_apart n m q) h in
       go p.0 outcome refl p.1
     where
       finish :
           Passed rules prefix clauses steps scratch room
           → (final : List Words) → RunEnds rules (family_of steps) F room final (clauses_of clauses) steps
           → (o : Option ℕ) → first_empty 1 final ≡ o
-          → concluded (zeros clauses) (length final) o ≡ Accepted (record { 0 = n }) m
+          → concluded (zeros clauses) (length final) o ≡ accept (record { 0 = n }) m
           → Accepting rules prefix clauses steps scratch room n m
       finish p final ends none f k = absurd (accepted_apart n m (refusal NoConclusion (length final)) (sym k))
       finish p final ends (some k) f q =
@@ -163,7 +163,7 @@ module _ (rules : Rules) (prefix clauses steps : List ℤ) (scratch room : ℕ) 
             counted = omega arith;
           }
 
-      go : Passed rules prefix clauses steps scratch room → (o : Outcome) → outcome ≡ o → conclude rules (zeros clauses) o ≡ Accepted (record { 0 = n }) m → Accepting rules prefix clauses steps scratch room n m
+      go : Passed rules prefix clauses steps scratch room → (o : Outcome) → outcome ≡ o → conclude rules (zeros clauses) o ≡ accept (record { 0 = n }) m → Accepting rules prefix clauses steps scratch room n m
       go p (ended final) e k =
           finish p final (run_lawful rules (family_of steps) (scope_of prefix clauses) F (scope_decides prefix clauses) room final (clauses_of clauses) steps inputs_no_zero e) (first_empty 1 final) refl
           (ap (concluded (zeros clauses) (length final)) (sym (ended_conclusion p.admitted final e)) ∙ k)
@@ -178,7 +178,7 @@ module _ (rules : Rules) (prefix clauses steps : List ℤ) (scratch room : ℕ) 
   -- A refutation whose steps may stand where they do is accepted.
   pub refutation_accepted :
       (n m : ℕ) → Accepting rules prefix clauses steps scratch room n m
-      → verdict_of rules prefix clauses steps scratch room ≡ Accepted (record { 0 = n }) m
+      → verdict_of rules prefix clauses steps scratch room ≡ accept (record { 0 = n }) m
   refutation_accepted n m r =
       let list = r.steps in
       let known = numbered_clauses (clauses_of clauses) list in
@@ -193,7 +193,7 @@ module _ (rules : Rules) (prefix clauses steps : List ℤ) (scratch room : ℕ) 
       ∙ rw (ran, ended_conclusion r.admitted known ran, first, counts)
 
   -- The refusal of a blocked step comes behind those tests.
-  blocked_late : (x : Blocker) (place : ℕ) (q : Refusal) → number q.reason ≤ 9 → Refused (refusal (Blocked x) place) ≢ Refused q
+  blocked_late : (x : Blocker) (place : ℕ) (q : Refusal) → number q.reason ≤ 9 → ◌≢◌ {A = Verdict} (Err (refusal (Blocked x) place)) (Err q)
   blocked_late x place q small e =
       let r : refusal (Blocked x) place ≡ q = cc in
       let k : 17 ≡ number q.reason = ap (λ (r : Refusal). number r.reason) r in
@@ -201,21 +201,21 @@ module _ (rules : Rules) (prefix clauses steps : List ℤ) (scratch room : ℕ) 
 
   -- Refused as blocked: after lawful steps stands a reduction whose clause holds an existential that depends.
   pub blocked_depends :
-      (x : Blocker) (place : ℕ) → verdict_of rules prefix clauses steps scratch room ≡ Refused (refusal (Blocked x) place)
+      (x : Blocker) (place : ℕ) → verdict_of rules prefix clauses steps scratch room ≡ Err (refusal (Blocked x) place)
       → RunBlocked rules F (clauses_of clauses) steps place x
-  blocked_depends x place h = go outcome refl (verdict_passed (Refused (refusal (Blocked x) place)) (blocked_late x place) h).1
+  blocked_depends x place h = go outcome refl (verdict_passed (Err (refusal (Blocked x) place)) (blocked_late x place) h).1
     where
-      same : (a b : Refusal) → ◌≡◌ {A = Verdict} (Refused a) (Refused b) → a ≡ b
+      same : (a b : Refusal) → ◌≡◌ {A = Verdict} (Err a) (Err b) → a ≡ b
       same a b e = cc
 
-      finish : (final : List Words) (o : Option ℕ) → concluded (zeros clauses) (length final) o ≡ Refused (refusal (Blocked x) place) → ⊥
+      finish : (final : List Words) (o : Option ℕ) → concluded (zeros clauses) (length final) o ≡ Err (refusal (Blocked x) place) → ⊥
       finish final none e =
           let q : NoConclusion ≡ Blocked x = ap (λ (r : Refusal). r.reason) (same (refusal NoConclusion (length final)) (refusal (Blocked x) place) e) in
           let z : ◌≡◌ {A = ℕ} 0 1 = cc in
           omega arith
       finish final (some n) e = let z : ◌≡◌ {A = ℕ} 0 1 = cc in omega arith
 
-      go : (o : Outcome) → outcome ≡ o → conclude rules (zeros clauses) o ≡ Refused (refusal (Blocked x) place) → RunBlocked rules F (clauses_of clauses) steps place x
+      go : (o : Outcome) → outcome ≡ o → conclude rules (zeros clauses) o ≡ Err (refusal (Blocked x) place) → RunBlocked rules F (clauses_of clauses) steps place x
       go (ended final) e k = absurd (finish final (conclusion rules.strict (zeros clauses) final) k)
       go (refused r) e k =
           run_blocked rules (family_of steps) (scope_of prefix clauses) F (scope_decides prefix clauses) room x (clauses_of clauses) steps place inputs_no_zero
@@ -223,11 +223,11 @@ module _ (rules : Rules) (prefix clauses steps : List ℤ) (scratch room : ℕ) 
 
   -- What blocks is an entry of the prefix: its three words are the variable, 1 and the block.
   pub blocked_entry :
-      (x : Blocker) (place : ℕ) → verdict_of rules prefix clauses steps scratch room ≡ Refused (refusal (Blocked x) place)
+      (x : Blocker) (place : ℕ) → verdict_of rules prefix clauses steps scratch room ≡ Err (refusal (Blocked x) place)
       → BlockerEntry prefix x
   blocked_entry x place h =
       let r = blocked_depends x place h in
-      named (verdict_passed (Refused (refusal (Blocked x) place)) (blocked_late x place) h).0.admitted (numbered_clauses (clauses_of clauses) r.steps) r.blocked r.blocks
+      named (verdict_passed (Err (refusal (Blocked x) place)) (blocked_late x place) h).0.admitted (numbered_clauses (clauses_of clauses) r.steps) r.blocked r.blocks
     where
       named : Admitted prefix clauses → (known : List Words) (s : Step) → BlockedStep F known s x → BlockerEntry prefix x
       named adm known (resolution f i j e L) b = absurd b
@@ -261,7 +261,7 @@ module _ (rules : Rules) (prefix clauses steps : List ℤ) (scratch room : ℕ) 
   )
 
   -- Accepted: the game is lost.
-  pub accepted_lost : (n m : ℕ) → verdict_of rules prefix clauses steps scratch room ≡ Accepted (record { 0 = n }) m → Lost F
+  pub accepted_lost : (n m : ℕ) → verdict_of rules prefix clauses steps scratch room ≡ accept (record { 0 = n }) m → Lost F
   accepted_lost n m h =
       let r = accepted_refutation n m h in
       let derived = lawful_steps_derived F r.family (clauses_of clauses) r.steps r.of_family r.lawful (inputs_derived r.admitted r.family) in

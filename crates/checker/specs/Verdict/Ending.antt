@@ -1,6 +1,8 @@
 -- No steps after the end (02, P10). An accepted proof's empty clause is its last one, or without steps the first empty input clause. A proof that is
 -- accepted is accepted with the same numbers where steps may follow an empty clause; one that is accepted there is accepted here with the same
 -- numbers, or refused with 23, at the first step that follows an empty clause. Assumes nothing.
+use Rattle.std.specs.Prelude.{Err}
+use Rattle.checker.specs.Verdict.{Verdict, accept}
 use Rattle.std.specs.Prelude.{ℕ, zero, suc, ◌+◌, ◌-◌, ◌≤◌, ◌<◌, ◌≡◌, ◌⊎◌, Bool, true, false, cond, List, [], ◌∷◌, ◌++◌, map, leb, ltb, eqb, length, drop, ℤ}
 use Rattle.std.proofs.Math.Path.{refl}
 use Rattle.std.proofs.Common.{ap, sym, ◌∙◌, inl, inr, append-nil, arith, lt-ltb, le-ltb, ltb-true, ltb-false, leb-true, leb-false, eqb-true}
@@ -13,8 +15,6 @@ use Rattle.formula.specs.Tables.{zeros}
 use Rattle.formula.proofs.Theorems.Tables.Laws.{admitted_closed}
 use Rattle.formula.specs.Refusal.{refusal}
 use Rattle.formula.specs.declared.refusal.Reason.TheVariants.{NoConclusion, Afterword}
-use Rattle.checker.specs.declared.verdict.Verdict.{Verdict}
-use Rattle.checker.specs.declared.verdict.Verdict.TheVariants.{Accepted, Refused}
 use Rattle.inference.specs.declared.read.Family.{Family}
 use Rattle.inference.specs.Rules.{Rules, plain_rules, ending, former_rules}
 use Rattle.inference.specs.Words.{Words}
@@ -111,23 +111,23 @@ module _ (rules : Rules) (family : Family) (S : Scope) (room : ℕ) where
 abbrev pub answer_now : (inputs empty count : ℕ) → Verdict
 answer_now inputs empty count =
     cond (eqb count 0)
-    (Accepted (record { 0 = empty }) count)
+    (accept (record { 0 = empty }) count)
     (cond (leb empty inputs)
-    (Refused (refusal Afterword (suc inputs)))
-    (cond (ltb empty (inputs + count)) (Refused (refusal Afterword (suc empty))) (Accepted (record { 0 = empty }) count)))
+    (Err (refusal Afterword (suc inputs)))
+    (cond (ltb empty (inputs + count)) (Err (refusal Afterword (suc empty))) (accept (record { 0 = empty }) count)))
 
 -- The same as what holds in each case.
 record AfterEnd (inputs empty count : ℕ) (v : Verdict) : Type 0 where
-  after_input : empty ≤ inputs → 1 ≤ count → v ≡ Refused (refusal Afterword (suc inputs))
-  after_step : inputs < empty → empty < inputs + count → v ≡ Refused (refusal Afterword (suc empty))
-  same : (count ≡ 0) ⊎ (inputs + count ≤ empty) → v ≡ Accepted (record { 0 = empty }) count
+  after_input : empty ≤ inputs → 1 ≤ count → v ≡ Err (refusal Afterword (suc inputs))
+  after_step : inputs < empty → empty < inputs + count → v ≡ Err (refusal Afterword (suc empty))
+  same : (count ≡ 0) ⊎ (inputs + count ≤ empty) → v ≡ accept (record { 0 = empty }) count
 
 answered : (inputs empty count : ℕ) (v : Verdict) → AfterEnd inputs empty count v → v ≡ answer_now inputs empty count
 answered inputs empty count v a = go (eqb count 0) refl (leb empty inputs) refl (ltb empty (inputs + count)) refl
   where
     go :
         (x : Bool) → eqb count 0 ≡ x → (y : Bool) → leb empty inputs ≡ y → (z : Bool) → ltb empty (inputs + count) ≡ z
-        → v ≡ cond x (Accepted (record { 0 = empty }) count) (cond y (Refused (refusal Afterword (suc inputs))) (cond z (Refused (refusal Afterword (suc empty))) (Accepted (record { 0 = empty }) count)))
+        → v ≡ cond x (accept (record { 0 = empty }) count) (cond y (Err (refusal Afterword (suc inputs))) (cond z (Err (refusal Afterword (suc empty))) (accept (record { 0 = empty }) count)))
     go true e y f z g = a.same (inl (eqb-true count 0 e))
     go false e true f z g = a.after_input (leb-true empty inputs f) (let n = eqb-false count 0 e in dite (ℕ_discrete count 0) (λ q. absurd (n q)) (λ q. omega arith))
     go false e false f true g = a.after_step (leb-false empty inputs f) (ltb-true empty (inputs + count) g)
@@ -136,7 +136,7 @@ answered inputs empty count v a = go (eqb count 0) refl (leb empty inputs) refl 
 module _ (prefix clauses steps : List ℤ) (scratch room empty count : ℕ) where
   -- The empty clause is numbered C plus steps, or without steps it is the first empty input clause.
   pub accepted_last :
-      verdict_of plain_rules prefix clauses steps scratch room ≡ Accepted (record { 0 = empty }) count
+      verdict_of plain_rules prefix clauses steps scratch room ≡ accept (record { 0 = empty }) count
       → ((count ≡ 0) × ((place : ℕ) × (empty ≡ suc place) × FirstEmpty (clauses_of clauses) place)) ⊎ ((1 ≤ count) × (empty ≡ zeros clauses + count))
   accepted_last h =
       let r = accepted_refutation plain_rules prefix clauses steps scratch room empty count h in
@@ -157,8 +157,8 @@ module _ (prefix clauses steps : List ℤ) (scratch room empty count : ℕ) wher
 
   -- Accepted, and so it is where steps may follow an empty clause.
   pub accepted_former :
-      verdict_of plain_rules prefix clauses steps scratch room ≡ Accepted (record { 0 = empty }) count
-      → verdict_of former_rules prefix clauses steps scratch room ≡ Accepted (record { 0 = empty }) count
+      verdict_of plain_rules prefix clauses steps scratch room ≡ accept (record { 0 = empty }) count
+      → verdict_of former_rules prefix clauses steps scratch room ≡ accept (record { 0 = empty }) count
   accepted_former h =
       let r = accepted_refutation plain_rules prefix clauses steps scratch room empty count h in
       refutation_accepted former_rules prefix clauses steps scratch room empty count
@@ -192,12 +192,12 @@ module _ (prefix clauses steps : List ℤ) (scratch room empty count : ℕ) wher
         passed_verdict plain_rules prefix clauses steps scratch room
         (record { admitted = p.admitted; sized = p.sized; scratch_fits = p.scratch_fits; inputs_fit = p.inputs_fit })
 
-    refuses : (place : ℕ) → run plain_rules (family_of steps) S room inputs zero steps ≡ refused (refusal Afterword place) → verdict_of plain_rules prefix clauses steps scratch room ≡ Refused (refusal Afterword place)
+    refuses : (place : ℕ) → run plain_rules (family_of steps) S room inputs zero steps ≡ refused (refusal Afterword place) → verdict_of plain_rules prefix clauses steps scratch room ≡ Err (refusal Afterword place)
     refuses place e = concludes ∙ ap (conclude plain_rules (zeros clauses)) e
 
     accepts :
         (final : List Words) → first_empty 1 final ≡ some empty → length final - zeros clauses ≡ count → run plain_rules (family_of steps) S room inputs zero steps ≡ ended final
-        → verdict_of plain_rules prefix clauses steps scratch room ≡ Accepted (record { 0 = empty }) count
+        → verdict_of plain_rules prefix clauses steps scratch room ≡ accept (record { 0 = empty }) count
     accepts final first counted e =
         concludes
         ∙ ap (conclude plain_rules (zeros clauses)) e
@@ -254,14 +254,14 @@ module _ (prefix clauses steps : List ℤ) (scratch room empty count : ℕ) wher
 
   -- Accepted where steps may follow an empty clause: what the checker answers.
   pub former_accepted :
-      verdict_of former_rules prefix clauses steps scratch room ≡ Accepted (record { 0 = empty }) count
+      verdict_of former_rules prefix clauses steps scratch room ≡ accept (record { 0 = empty }) count
       → verdict_of plain_rules prefix clauses steps scratch room ≡ answer_now (zeros clauses) empty count
   former_accepted h =
-      let p = verdict_passed former_rules prefix clauses steps scratch room (Accepted (record { 0 = empty }) count) (λ q small. accepted_apart former_rules prefix clauses steps scratch room empty count q) h in
+      let p = verdict_passed former_rules prefix clauses steps scratch room (accept (record { 0 = empty }) count) (λ q small. accepted_apart former_rules prefix clauses steps scratch room empty count q) h in
       answered (zeros clauses) empty count (verdict_of plain_rules prefix clauses steps scratch room) (go p.0 (run former_rules (family_of steps) S room inputs zero steps) refl p.1)
     where
       numbers :
-          (final : List Words) (o : Option ℕ) → first_empty 1 final ≡ o → concluded (zeros clauses) (length final) o ≡ Accepted (record { 0 = empty }) count
+          (final : List Words) (o : Option ℕ) → first_empty 1 final ≡ o → concluded (zeros clauses) (length final) o ≡ accept (record { 0 = empty }) count
           → (first_empty 1 final ≡ some empty) × (length final - zeros clauses ≡ count)
       numbers final none f k = absurd (accepted_apart former_rules prefix clauses steps scratch room empty count (refusal NoConclusion (length final)) (sym k))
       numbers final (some a) f k = let same = numbers_same a (length final - zeros clauses) empty count k in (f ∙ ap {B = Option ℕ} some same.0, same.1)
@@ -274,7 +274,7 @@ module _ (prefix clauses steps : List ℤ) (scratch room empty count : ℕ) wher
       some_or_none p list q t true e = ended_inputs p list q t.0 t.1 e
       some_or_none p list q t false e = open_inputs p list q t.0 t.1 e
 
-      go : Passed former_rules prefix clauses steps scratch room → (o : Outcome) → run former_rules (family_of steps) S room inputs zero steps ≡ o → conclude former_rules (zeros clauses) o ≡ Accepted (record { 0 = empty }) count → AfterEnd (zeros clauses) empty count (verdict_of plain_rules prefix clauses steps scratch room)
+      go : Passed former_rules prefix clauses steps scratch room → (o : Outcome) → run former_rules (family_of steps) S room inputs zero steps ≡ o → conclude former_rules (zeros clauses) o ≡ accept (record { 0 = empty }) count → AfterEnd (zeros clauses) empty count (verdict_of plain_rules prefix clauses steps scratch room)
       go p (refused r) e k = absurd (accepted_apart former_rules prefix clauses steps scratch room empty count r (sym k))
       go p (ended final) e k =
           let t = run_ended former_rules (family_of steps) S room inputs steps final e in

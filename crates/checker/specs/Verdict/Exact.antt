@@ -2,6 +2,8 @@
 -- words are a refutation, whose last clause, or without steps some input clause, is empty; its two numbers are then those of the refutation
 -- (that the first is C + steps is in Ending.antt); and refused as blocked only where a path of each
 -- sign exists. Definitions: Refutation.antt. Assumes nothing.
+use Rattle.std.specs.Prelude.{Err}
+use Rattle.checker.specs.Verdict.{accept}
 use Rattle.std.specs.Prelude.{ℕ, suc, ◌≡◌, refl, ◌↔◌, List, length, ℤ}
 use Rattle.std.proofs.Common.{sym, ◌∙◌}
 use Rattle.formula.specs.Decode.{clauses_of, formula_of}
@@ -9,7 +11,6 @@ use Rattle.formula.specs.Refusal.{refusal}
 use Rattle.formula.specs.declared.refusal.Blocker.{Blocker}
 use Rattle.formula.specs.declared.refusal.Reason.TheVariants.{Blocked}
 use Rattle.formula.specs.Tables.{Admitted}
-use Rattle.checker.specs.declared.verdict.Verdict.TheVariants.{Accepted, Refused}
 use Rattle.inference.specs.Rules.{plain_rules}
 use Rattle.inference.specs.Lawful.{numbered_clauses, RunBlocked, BlockerEntry}
 use Rattle.checker.specs.Refutation.{Refutation, FirstEmpty, Within}
@@ -20,20 +21,20 @@ use Rattle.checker.specs.Verdict.Accuracy.{numbers_same, accepted_refutation, re
 
 -- After lawful steps stands a reduction whose clause holds an existential that depends, and what blocks is named.
 pub refused_blocked_depends :
-    (prefix clauses words : List ℤ) (scratch offsets place : ℕ) (x : Blocker) → verdict_of plain_rules prefix clauses words scratch offsets ≡ Refused (refusal (Blocked x) place)
+    (prefix clauses words : List ℤ) (scratch offsets place : ℕ) (x : Blocker) → verdict_of plain_rules prefix clauses words scratch offsets ≡ Err (refusal (Blocked x) place)
     → RunBlocked plain_rules (formula_of prefix clauses) (clauses_of clauses) words place x
 refused_blocked_depends prefix clauses words scratch offsets place x = blocked_depends plain_rules prefix clauses words scratch offsets x place
 
 -- What blocks is an entry of the prefix: its three words are the variable, 1 and the block.
 pub refused_blocked_entry :
-    (prefix clauses words : List ℤ) (scratch offsets place : ℕ) (x : Blocker) → verdict_of plain_rules prefix clauses words scratch offsets ≡ Refused (refusal (Blocked x) place)
+    (prefix clauses words : List ℤ) (scratch offsets place : ℕ) (x : Blocker) → verdict_of plain_rules prefix clauses words scratch offsets ≡ Err (refusal (Blocked x) place)
     → BlockerEntry prefix x
 refused_blocked_entry prefix clauses words scratch offsets place x = blocked_entry plain_rules prefix clauses words scratch offsets x place
 
 module _ (prefix clauses words : List ℤ) (scratch offsets : ℕ) (admitted : Admitted prefix clauses) (within : Within clauses words scratch offsets) where
   refuted :
       (r : Refutation prefix clauses words) (place : ℕ) → FirstEmpty (numbered_clauses (clauses_of clauses) r.steps) place
-      → verdict_of plain_rules prefix clauses words scratch offsets ≡ Accepted (record { 0 = suc place }) (length r.steps)
+      → verdict_of plain_rules prefix clauses words scratch offsets ≡ accept (record { 0 = suc place }) (length r.steps)
   refuted r place f =
       refutation_accepted plain_rules prefix clauses words scratch offsets (suc place) (length r.steps)
       (record {
@@ -62,7 +63,7 @@ module _ (prefix clauses words : List ℤ) (scratch offsets : ℕ) (admitted : A
 
   -- The number of steps, and the number of the first empty clause.
   pub accepted_numbers :
-      (empty count : ℕ) → verdict_of plain_rules prefix clauses words scratch offsets ≡ Accepted (record { 0 = empty }) count
+      (empty count : ℕ) → verdict_of plain_rules prefix clauses words scratch offsets ≡ accept (record { 0 = empty }) count
       → (r : Refutation prefix clauses words)
       → (count ≡ length r.steps) × ((place : ℕ) × (empty ≡ suc place) × FirstEmpty (numbered_clauses (clauses_of clauses) r.steps) place)
   accepted_numbers empty count h r =

@@ -1,9 +1,9 @@
 -- The check of a proof from its parts: what was lent, cleared, and the conclusion. Assumes nothing.
+use Rattle.checker.specs.Verdict.{accept}
 use Rattle.std.specs.Prelude.{ℕ, zero, suc, ◌+◌, ◌-◌, ◌≤◌, ◌≡◌, refl, List, length, replicate}
 use Rattle.std.proofs.Common.{ap, arith}
 use Rattle.formula.specs.Clear.{clear_from}
 use Rattle.formula.specs.declared.literal.ClauseNumber.{ClauseNumber}
-use Rattle.checker.specs.declared.verdict.Verdict.TheVariants.{Accepted}
 use Rattle.inference.specs.Empty.{number_found}
 use Rattle.checker.specs.Verdict.{concluded}
 
@@ -12,6 +12,6 @@ unfolding clear_from
 cleared_whole l = refl
 
 -- The conclusion from the first empty clause's number.
-pub concluded_at : (inputs numbered empty : ℕ) (n : ClauseNumber) → 1 ≤ empty → n.0 ≡ empty - 1 + 1 → Accepted n (numbered - inputs) ≡ concluded inputs numbered (number_found empty)
+pub concluded_at : (inputs numbered empty : ℕ) (n : ClauseNumber) → 1 ≤ empty → n.0 ≡ empty - 1 + 1 → accept n (numbered - inputs) ≡ concluded inputs numbered (number_found empty)
 concluded_at inputs numbered zero n h e = absurd (omega arith)
-concluded_at inputs numbered (suc k) n h e = let q : n.0 ≡ suc k = omega arith in ap (λ (m : ℕ). Accepted (record { 0 = m }) (numbered - inputs)) q
+concluded_at inputs numbered (suc k) n h e = let q : n.0 ≡ suc k = omega arith in ap (λ (m : ℕ). accept (record { 0 = m }) (numbered - inputs)) q

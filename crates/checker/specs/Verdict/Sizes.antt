@@ -1,4 +1,5 @@
 -- How many bytes of scratch are asked for decides nothing but whether there is room: where both have it, the verdicts are equal (02, P8). Assumes nothing.
+use Rattle.checker.specs.Verdict.{Verdict, accept}
 use Prim.Native.Nat.{ℕ, zero, suc, ◌≤◌}
 use Rattle.std.specs.Prelude.{◌≡◌, ℤ, length, replicate}
 use Rattle.std.proofs.Math.Path.{refl, ap}
@@ -11,8 +12,6 @@ use Rattle.inference.specs.declared.read.Family.{Family}
 use Rattle.inference.specs.Rules.{Rules, resized, plain_rules, small_rules}
 use Rattle.inference.specs.Words.{Words}
 use Rattle.inference.specs.Steps.{Scope, Step, family_of, stated_by, size_of, read_step, Judged, right, wrong, judge_first, turn, less_one, Outcome, ended, refused, run}
-use Rattle.checker.specs.declared.verdict.Verdict.{Verdict}
-use Rattle.checker.specs.declared.verdict.Verdict.TheVariants.{Accepted}
 use Rattle.checker.specs.Verdict.Accuracy.{accepted_refutation}
 use Rattle.checker.specs.Verdict.{conclude, sized_verdict, verdict_of, Checked}
 use Rattle.inference.specs.Scope.{scope_of}
@@ -66,8 +65,8 @@ small_verdict prefix clauses steps scratch scratch-s room h k = resized_verdict 
 -- What the small entry accepts the large one accepts in scratch enough, with the same numbers: so what is shown of an accepted proof by the checker's rules
 -- (Exact.antt, Ending.antt) holds of the small entry too.
 pub small_accepted :
-    (prefix clauses steps : List ℤ) (scratch room empty count : ℕ) → verdict_of small_rules prefix clauses steps scratch room ≡ Accepted (record { 0 = empty }) count
-    → verdict_of plain_rules prefix clauses steps scratch_bound room ≡ Accepted (record { 0 = empty }) count
+    (prefix clauses steps : List ℤ) (scratch room empty count : ℕ) → verdict_of small_rules prefix clauses steps scratch room ≡ accept (record { 0 = empty }) count
+    → verdict_of plain_rules prefix clauses steps scratch_bound room ≡ accept (record { 0 = empty }) count
 small_accepted prefix clauses steps scratch room empty count h =
     let r = accepted_refutation small_rules prefix clauses steps scratch room empty count h in
     small_verdict prefix clauses steps scratch_bound scratch room (omega arith) r.scratch_fits ∙ h

@@ -1,7 +1,7 @@
 -- What an answer says of the refusals behind it, and what holds where a row is refused by none of them; which number asks for
 -- a universal; how the row comes into its buffer. Definitions: Answer. Assumes nothing.
 use Prim.Native.Nat.{ℕ, zero, suc, ◌-◌, ◌≤◌, ◌<◌}
-use Rattle.std.specs.Prelude.{◌≡◌, Bool, true, false, ◌&&◌, List, ◌++◌, length, get_or, set, drop, replicate, leb, ℤ, pos, negsuc, nat_abs}
+use Rattle.std.specs.Prelude.{◌≡◌, Bool, true, false, ◌&&◌, List, ◌++◌, length, get_or, set, drop, replicate, leb, ℤ, pos, negsuc, nat_abs, Ok, Err}
 use Rattle.std.proofs.Math.Path.{refl}
 use Rattle.std.proofs.Common.{ap, sym, ◌∙◌, arith, leb-true, le-leb, length-append, length-drop, drop-cons}
 use Rattle.std.proofs.lemmas.Bool.{false≢true}
@@ -22,19 +22,10 @@ use Rattle.formula.specs.declared.literal.Variable.{Variable}
 use Rattle.formula.specs.declared.word.Word.TheVariants.{Positive}
 use Rattle.formula.specs.declared.refusal.Refusal.{Refusal}
 use Rattle.formula.specs.declared.refusal.Reason.TheVariants.{NoRoom, NotUniversal}
-use Rattle.dependency.specs.declared.answer.RowAnswer.TheVariants.{Filled, Refused}
 use Rattle.dependency.specs.Row.{row_below, row_of}
 use Rattle.dependency.specs.Row.Laws.{row_length}
 use Rattle.dependency.specs.Scratch.Laws.{row_depends}
-use Rattle.dependency.specs.Answer.{universal_asked, row_refusal, answer_row, asked_byte, asked_bytes}
-
-pub row_passed : (r : Option Refusal) → answer_row r ≡ Filled → r ≡ none
-row_passed none e = refl
-row_passed (some x) e = let z : ◌≡◌ {A = ℕ} 0 1 = cc in absurd (omega arith)
-
-pub row_refused : (r : Option Refusal) (x : Refusal) → answer_row r ≡ Refused x → r ≡ some x
-row_refused none x e = let z : ◌≡◌ {A = ℕ} 0 1 = cc in absurd (omega arith)
-row_refused (some y) x e = let z : y ≡ x = cc in ap {B = Option Refusal} some z
+use Rattle.dependency.specs.Answer.{universal_asked, asked_for, row_refusal, asked_byte, asked_bytes}
 
 -- No refusal: admitted tables, a universal, room.
 pub record Granted (bytes : ℕ) (p c : List ℤ) (v : ℤ) (row scratch : ℕ) : Type 0 where
@@ -60,6 +51,15 @@ granted bytes p c v row scratch h = go (tables_refusal p c) (universal_asked (pr
     go none true true e f g k =
         let room = and_both (leb 1025 row) (leb bytes scratch) g in
         record { admitted = record { passes = e }; asked = f; row_room = leb-true 1025 row room.0; scratch_room = leb-true bytes scratch room.1 }
+
+-- What an answer with a variable tells of the refusal.
+pub asked_none : (o : Option Refusal) (w : ℤ) (v : Variable) → asked_for o w ≡ Ok v → (o ≡ none) × (v ≡ record { 0 = nat_abs w })
+asked_none none w v e = (refl, cc)
+asked_none (some r) w v e = let z : ◌≡◌ {A = ℕ} 0 1 = cc in absurd (omega arith)
+
+pub asked_some : (o : Option Refusal) (w : ℤ) (r : Refusal) → asked_for o w ≡ Err r → o ≡ some r
+asked_some none w r e = let z : ◌≡◌ {A = ℕ} 0 1 = cc in absurd (omega arith)
+asked_some (some s) w r e = cc
 
 -- Where a universal is asked for, the number is recognised as a variable.
 module _ (p : List ℤ) (entries : Entries p) where

@@ -9,6 +9,7 @@ use Rattle.std.proofs.Math.Seq.{set-get_or}
 use Rattle.bits.specs.Flags.{flags}
 use Rattle.bits.specs.Flags.Laws.{length_flags}
 use Rattle.qbf.specs.Connectives.{and_both}
+use Rattle.dependency.specs.declared.marks.Seen.{Seen}
 use Rattle.dependency.specs.Marks.{select, several, see_at, reach_at}
 use Rattle.dependency.specs.Bits.{mark_from, is_on, base, marks_of, marks_in, seen_by, ReachedAt}
 use Rattle.dependency.specs.Bits.Laws.{mark_literal, enter, enter_other}
@@ -21,9 +22,9 @@ entry_within true i h = omega arith
 entry_within false i h = omega arith
 
 -- Both searches saw the same number.
-pub seen_both : (p n k : ℕ) → (eqb p k && eqb n k) ≡ true → (s : Bool) → seen_by s p n ≡ k
-seen_both p n k e true = eqb-true p k (and_both (eqb p k) (eqb n k) e).0
-seen_both p n k e false = eqb-true n k (and_both (eqb p k) (eqb n k) e).1
+pub seen_both : (seen : Seen) (k : ℕ) → (eqb seen.positive k && eqb seen.negative k) ≡ true → (s : Bool) → seen_by s seen ≡ k
+seen_both seen k e true = eqb-true seen.positive k (and_both (eqb seen.positive k) (eqb seen.negative k) e).0
+seen_both seen k e false = eqb-true seen.negative k (and_both (eqb seen.positive k) (eqb seen.negative k) e).1
 
 module _ (s : Bool) (bytes : List ℕ) (p : ℕ) (l : 2 ≤ p) (h : p < 2050) where
   abbrev fs : List ℕ

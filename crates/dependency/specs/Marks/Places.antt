@@ -1,10 +1,10 @@
--- Where clauses begin and end, from the table's end back: the end is a boundary, and so is the place behind a 0; a literal more before a clause. Assumes
--- nothing.
+-- Where clauses begin and end: past the last word; and from the table's end back, where the end is a boundary, and so is the place behind a 0; a literal
+-- more before a clause. Assumes nothing.
 use Rattle.std.specs.Prelude.{ℕ, zero, suc, ◌+◌, ◌-◌, ◌≤◌, ◌<◌, ◌≡◌, refl, true, false, List, [], ◌∷◌, length, get_or, drop, ℤ, pos, negsuc}
-use Rattle.std.proofs.Common.{ap, ◌∙◌, arith, drop_of_length-le, drop-cons}
+use Rattle.std.proofs.Common.{ap, sym, ◌∙◌, arith, drop_of_length-le, drop-cons}
 use Rattle.formula.specs.Word.{is_zero}
 use Rattle.formula.specs.Decode.{later_words, words_after}
-use Rattle.formula.specs.Decode.Places.{after_zero, after_literal}
+use Rattle.formula.specs.Decode.Places.{after_zero, after_literal, after_past}
 use Rattle.dependency.specs.Marks.{Boundary}
 
 -- One word is a clause, closed or not.
@@ -13,6 +13,12 @@ unfolding later_words
 one_word (pos zero) = refl
 one_word (pos (suc n)) = refl
 one_word (negsuc n) = refl
+
+-- After a place past the last word no words are left, as after the table's end.
+pub after_end : (ws : List ℤ) (i : ℕ) → length ws ≤ i → drop (length ws) ws ≡ words_after ws i
+after_end ws i past =
+    let same : length ws ≤ length ws = omega arith in
+    drop_of_length-le ws same ∙ sym (drop_of_length-le ws past) ∙ sym (after_past ws i past)
 
 pub boundary_end : (ws : List ℤ) → Boundary ws (length ws)
 boundary_end ws h =

@@ -1,11 +1,10 @@
 -- The completion as the code does it, by the marks that reading the clauses leaves (Text/Clauses.antt says what a mark is). Laws are in
 -- proofs/Theorems/Free/Complete/Laws.antt.
+use Rattle.std.specs.Prelude.{Option, Some, None}
 use Rattle.std.specs.Prelude.{ℕ, ◌+◌, ◌%◌, ◌≤◌, ◌<◌, ◌≡◌, Bool, not, ◌&&◌, List, ◌++◌, ltb, eqb, ℤ, length, get_or, take, drop}
 use Rattle.qbf.specs.Formula.{Prefix}
 use Rattle.formula.specs.Prefix.{prefix_words, entry_words, entries_in}
 use Rattle.formula.specs.Free.{passing, existentials}
-use Rattle.formula.specs.declared.free.Completion.{Completion}
-use Rattle.formula.specs.declared.free.Completion.TheVariants.{Completed, NoRoom}
 
 -- A set lists the variable of a mark; it is free: some clause holds it, and no set lists it.
 abbrev pub is_listed : ℕ → Bool
@@ -29,7 +28,7 @@ completed_in marks v used prefix = existentials (free_marked marks v) ++ entries
 
 -- What `complete` promises of the prefix table, in which `used` entries stand: so many words are used then, those of the completed
 -- prefix with its blocks, or there is no room.
-abbrev pub CompletionPost : (marks : List ℕ) (v used : ℕ) (prefix prefix' : List ℤ) → Completion → Type 0
-CompletionPost marks v used prefix prefix' (Completed words) =
+abbrev pub CompletionPost : (marks : List ℕ) (v used : ℕ) (prefix prefix' : List ℤ) → Option ℕ → Type 0
+CompletionPost marks v used prefix prefix' (Some words) =
     (words ≡ entry_words (length (free_marked marks v) + used)) × (words ≤ length prefix') × (take words prefix' ≡ prefix_words (completed_in marks v used prefix))
-CompletionPost marks v used prefix prefix' NoRoom = length prefix < entry_words (length (free_marked marks v) + used)
+CompletionPost marks v used prefix prefix' None = length prefix < entry_words (length (free_marked marks v) + used)

@@ -1,12 +1,18 @@
 -- Laws of the prefix table: how many entries there are, the entry at a place and those after it, entries to words and back, blocks, an
 -- entry put behind others, blocks numbered. Definitions: Prefix. Assumes nothing.
+use Rattle.std.proofs.Common.{get_or-set_same}
+use Rattle.std.proofs.Common.{get_or-set_other}
+use Rattle.std.proofs.Common.{get_or-take}
+use Rattle.std.proofs.Common.{get_or-drop}
+use Rattle.std.proofs.Common.{ext_get_or}
+use Rattle.std.proofs.Math.Decide.{ℕ_discrete}
+use Rattle.formula.specs.Prefix.{Moved}
 use Rattle.std.specs.Prelude.{ℕ, zero, suc, ◌+◌, ◌-◌, ◌*◌, ◌/◌, ◌≤◌, ◌<◌, ◌≡◌, refl, ◌⊎◌, Bool, true, false, cond, ◌&&◌, ◌||◌, get_or, set, take, drop, eqb, ℤ, pos}
-use Rattle.std.proofs.Common.{ap, ◌∙◌, inl, inr, le_of_suc-le-suc, not-suc-le-zero, arith, leb-true, le-leb, eqb-true, eq-eqb, length-set, length-drop, drop_of_length-le, drop-cons, drop-set-lt, take-suc-set, take_all, take-add, get_or-set_same, get_or-set_other, get_or-take, get_or-drop, ext_get_or, length-take-le}
+use Rattle.std.proofs.Common.{ap, ◌∙◌, inl, inr, le_of_suc-le-suc, not-suc-le-zero, arith, leb-true, le-leb, eqb-true, eq-eqb, length-set, length-drop, drop_of_length-le, drop-cons, drop-set-lt, take-suc-set, take_all, take-add, length-take-le}
 use Rattle.std.proofs.Math.Path.{sym}
 use Rattle.std.proofs.lemmas.Bool.{false≢true}
 use mathlib.Core.List.Memᴰ
 use mathlib.Core.List.{List, [], ◌∷◌, ◌++◌, append-nil, append_assoc, Memᴰ}
-use Rattle.std.proofs.Math.Decide.{ℕ_discrete}
 use Rattle.std.proofs.Math.ListN.{length}
 use Rattle.qbf.specs.Formula.{Quantifier, existential, universal, Entry, entry, Prefix}
 use Rattle.qbf.specs.Connectives.{and_both, or_either, or_right}
@@ -14,7 +20,7 @@ use Rattle.formula.specs.Bounds.{variable_bound}
 use Rattle.formula.specs.Word.{word_of, ordinal}
 use Rattle.formula.specs.Word.Laws.{ordinal_number}
 use Rattle.formula.specs.Refusal.{no_blocker}
-use Rattle.formula.specs.Prefix.{quantifier_number, quantifier_as, prefix_of, next_block, blocks_from, with_blocks, words_from, prefix_words, IsTable, entry_count, entry_at, later_entries, entry_words, entries_in, entry_fits, put_entry, Moved, entry_shown, quantifier_of, is_quantifier, quantifies, AllRanged, Entries}
+use Rattle.formula.specs.Prefix.{quantifier_number, quantifier_as, prefix_of, next_block, blocks_from, with_blocks, words_from, prefix_words, IsTable, entry_count, entry_at, later_entries, entry_words, entries_in, entry_fits, put_entry, entry_shown, quantifier_of, is_quantifier, quantifies, AllRanged, Entries}
 use Rattle.formula.specs.declared.literal.Variable.{Variable}
 use Rattle.formula.specs.declared.refusal.Blocker.{Blocker}
 use Rattle.formula.specs.declared.prefix.Entry.TheVariants.{Existential, Universal}
@@ -364,42 +370,6 @@ module _ {table₀ table : List ℤ} {i last block : ℕ} (I : NumberedSoFar tab
       let few : length (prefix_of table₀) ≤ i = omega (arith, all) in
       sym (I.done ∙ rw (drop_of_length-le (prefix_of table₀) few, append-nil, all) (take_all (entry_words (entry_count table₀)) table (omega (arith, I.same, whole))))
 
--- Words moved on by so many places, the last one first: those from the place i on are moved.
-pub record MovedSoFar (used by : ℕ) (table₀ table : List ℤ) (i : ℕ) : Type 0 where
-  pub left : i ≤ used
-  pub same : length table ≡ length table₀
-  pub before : (k : ℕ) → k < i → get_or table k (pos 0) ≡ get_or table₀ k (pos 0)
-  pub after : (k : ℕ) → i ≤ k → k < used → get_or table (by + k) (pos 0) ≡ get_or table₀ k (pos 0)
-
-pub move_begins : (used by : ℕ) (table : List ℤ) → MovedSoFar used by table table used
-move_begins used by table = record { left = omega arith; same = refl; before = λ k h. refl; after = λ k h l. absurd (omega arith) }
-
-module _ {used by : ℕ} {table₀ table : List ℤ} (room : by + used ≤ length table₀) where
-  pub move_step : {i : ℕ} (j : ℕ) → i ≡ suc j → MovedSoFar used by table₀ table i → MovedSoFar used by table₀ (set table (by + j) (get_or table j (pos 0))) j
-  move_step {i} j e M =
-      record {
-        left = omega (arith, M.left);
-        same = length-set table (by + j) (get_or table j (pos 0)) ∙ M.same;
-        before = λ k h. get_or-set_other table (by + j) k (get_or table j (pos 0)) (pos 0) (λ q. omega (arith, q, h)) ∙ M.before k (omega (arith, e, h));
-        after = λ k h l. after k h l (ℕ_discrete k j);
-      }
-    where
-      after : (k : ℕ) → j ≤ k → k < used → Dec (k ≡ j) → get_or (set table (by + j) (get_or table j (pos 0))) (by + k) (pos 0) ≡ get_or table₀ k (pos 0)
-      after k h l (yes q) =
-          rw q (get_or-set_same table (by + j) (get_or table j (pos 0)) (pos 0) (omega (arith, M.same, M.left, e, room)) ∙ M.before j (omega (arith, e)))
-      after k h l (no q) =
-          get_or-set_other table (by + j) (by + k) (get_or table j (pos 0)) (pos 0) (λ r. q (omega (arith, r)))
-          ∙ M.after k (omega (arith, h, q, e)) l
-
-  pub move_ends : MovedSoFar used by table₀ table 0 → Moved used by table₀ table
-  move_ends M =
-      let a : length (take used (drop by table)) ≡ used = length-take-le used (drop by table) (omega (arith, length-drop by table, M.same, room)) in
-      let b : length (take used table₀) ≡ used = length-take-le used table₀ (omega (arith, room)) in
-      ext_get_or (pos 0) (take used (drop by table)) (take used table₀) (a ∙ sym b)
-      (λ k h.
-      rw (get_or-take used (drop by table) k (pos 0) (omega (arith, a, h)), get_or-drop by table k (pos 0), get_or-take used table₀ k (pos 0) (omega (arith, a, h)))
-      (M.after k (omega arith) (omega (arith, a, h))))
-
 -- `quantifies` tests membership.
 quantifier_sound : (q r : Quantifier) → is_quantifier q r ≡ true → r ≡ q
 quantifier_sound existential existential h = refl
@@ -436,3 +406,39 @@ quantifies_complete q (x ∷ P) v m = go (Memᴰ.cases_cons m) (λ k. quantifies
         → ((is_quantifier q x.quantifier && eqb x.variable v) || quantifies q P v) ≡ true
     go (inl e) later = rw (← e, quantifier_self q, eq-eqb v v refl)
     go (inr k) later = or_right (is_quantifier q x.quantifier && eqb x.variable v) (quantifies q P v) (later k)
+
+-- Words moved on by so many places, the last one first: those from the place i on are moved.
+pub record MovedSoFar (used by : ℕ) (table₀ table : List ℤ) (i : ℕ) : Type 0 where
+  pub left : i ≤ used
+  pub same : length table ≡ length table₀
+  pub before : (k : ℕ) → k < i → get_or table k (pos 0) ≡ get_or table₀ k (pos 0)
+  pub after : (k : ℕ) → i ≤ k → k < used → get_or table (by + k) (pos 0) ≡ get_or table₀ k (pos 0)
+
+pub move_begins : (used by : ℕ) (table : List ℤ) → MovedSoFar used by table table used
+move_begins used by table = record { left = omega arith; same = refl; before = λ k h. refl; after = λ k h l. absurd (omega arith) }
+
+module _ {used by : ℕ} {table₀ table : List ℤ} (room : by + used ≤ length table₀) where
+  pub move_step : {i : ℕ} (j : ℕ) → i ≡ suc j → MovedSoFar used by table₀ table i → MovedSoFar used by table₀ (set table (by + j) (get_or table j (pos 0))) j
+  move_step {i} j e M =
+      record {
+        left = omega (arith, M.left);
+        same = length-set table (by + j) (get_or table j (pos 0)) ∙ M.same;
+        before = λ k h. get_or-set_other table (by + j) k (get_or table j (pos 0)) (pos 0) (λ q. omega (arith, q, h)) ∙ M.before k (omega (arith, e, h));
+        after = λ k h l. after k h l (ℕ_discrete k j);
+      }
+    where
+      after : (k : ℕ) → j ≤ k → k < used → Dec (k ≡ j) → get_or (set table (by + j) (get_or table j (pos 0))) (by + k) (pos 0) ≡ get_or table₀ k (pos 0)
+      after k h l (yes q) =
+          rw q (get_or-set_same table (by + j) (get_or table j (pos 0)) (pos 0) (omega (arith, M.same, M.left, e, room)) ∙ M.before j (omega (arith, e)))
+      after k h l (no q) =
+          get_or-set_other table (by + j) (by + k) (get_or table j (pos 0)) (pos 0) (λ r. q (omega (arith, r)))
+          ∙ M.after k (omega (arith, h, q, e)) l
+
+  pub move_ends : MovedSoFar used by table₀ table 0 → Moved used by table₀ table
+  move_ends M =
+      let a : length (take used (drop by table)) ≡ used = length-take-le used (drop by table) (omega (arith, length-drop by table, M.same, room)) in
+      let b : length (take used table₀) ≡ used = length-take-le used table₀ (omega (arith, room)) in
+      ext_get_or (pos 0) (take used (drop by table)) (take used table₀) (a ∙ sym b)
+      (λ k h.
+      rw (get_or-take used (drop by table) k (pos 0) (omega (arith, a, h)), get_or-drop by table k (pos 0), get_or-take used table₀ k (pos 0) (omega (arith, a, h)))
+      (M.after k (omega arith) (omega (arith, a, h))))

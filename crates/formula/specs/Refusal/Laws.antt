@@ -1,8 +1,8 @@
 -- Laws of refusals: what tells a reason are its numbers, and every reason has its row in the table; a test that must hold, taken apart. Definitions: Refusal. Assumes nothing.
-use Rattle.std.specs.Prelude.{ℕ, ◌≤◌, ◌≡◌, refl, Bool, true, false, ◌≢◌, length}
+use Rattle.std.specs.Prelude.{ℕ, ◌≤◌, ◌≡◌, refl, Bool, true, false, ◌≢◌, length, Ok, Err}
 use Rattle.std.proofs.Common.{ap, sym, arith}
 use Rattle.std.proofs.Math.Option.{Option, none, some}
-use Rattle.formula.specs.Refusal.{numbers, number_of, number, word, TaggedNumber, Tagged, require}
+use Rattle.formula.specs.Refusal.{numbers, number_of, number, word, TaggedNumber, Tagged, require, passes}
 use Rattle.formula.specs.declared.refusal.Reason.{Reason}
 use Rattle.formula.specs.declared.refusal.Reason.TheVariants.{
   Headless,
@@ -38,6 +38,15 @@ tagged_numbers r (Blocking b) h = rw h refl
 pub tagged_number : (r : Reason) (t : Numbers) → Tagged r t → (number_of t ≡ number r) × TaggedNumber (number_of t)
 tagged_number r (Alone n) h = (ap number_of (tagged_numbers r (Alone n) h), h.2)
 tagged_number r (Blocking b) h = (ap number_of (tagged_numbers r (Blocking b) h), (refl, omega arith, omega arith))
+
+-- What a check that only lets go on or refuses tells of the refusal.
+pub passes_none : {R : Type 0} (o : Option R) → passes o ≡ Ok tt → o ≡ none
+passes_none none e = refl
+passes_none (some r) e = let z : ◌≡◌ {A = ℕ} 0 1 = cc in absurd (omega arith)
+
+pub passes_some : {R : Type 0} (o : Option R) (r : R) → passes o ≡ Err r → o ≡ some r
+passes_some none r e = let z : ◌≡◌ {A = ℕ} 0 1 = cc in absurd (omega arith)
+passes_some (some s) r e = cc
 
 -- A test that must hold: an answer that is not the refusal; no refusal at all.
 pub require_passed : {A : Type 0} (b : Bool) (refused later answer : A) → refused ≢ answer → require b refused later ≡ answer → (b ≡ true) × (later ≡ answer)

@@ -1,22 +1,13 @@
 -- What the parts of the check of tables find: marks of listed variables, a bit each, one entry judged, the run of literals that a clause
 -- begins with, how far it goes without a clash, and one clause judged. Laws are in the crate's proofs/Scan.antt.
-use Rattle.std.specs.Prelude.{ℕ, zero, suc, ◌+◌, ◌-◌, ◌≤◌, ◌<◌, ◌≡◌, Bool, true, false, not, cond, ◌&&◌, List, [], ◌∷◌, length, get_or, take, drop, ltb, eqb, ℤ, pos, nat_abs}
+use Rattle.formula.specs.declared.tables.LastEntry.{LastEntry}
+use Rattle.std.specs.Prelude.{ℕ, zero, suc, ◌+◌, ◌-◌, ◌≤◌, ◌<◌, ◌≡◌, Bool, true, false, not, cond, ◌&&◌, List, [], ◌∷◌, length, get_or, take, drop, ltb, eqb, ℤ, pos, nat_abs, Result, Ok, Err}
 use Rattle.std.proofs.Math.Option.{Option, some}
 use Rattle.bits.specs.Flags.{flags}
-use Rattle.formula.specs.Refusal.{unless}
 use Rattle.formula.specs.Bounds.{variable_bound, in_range}
 use Rattle.formula.specs.Word.{ordinal}
 use Rattle.formula.specs.Tables.{is_in, prefix_refusal, clauses_refusal, listed_in}
 use Rattle.formula.specs.declared.refusal.Refusal.{Refusal}
-use Rattle.formula.specs.declared.tables.Check.{Check}
-use Rattle.formula.specs.declared.tables.Check.TheVariants.{Passed, Refused}
-use Rattle.formula.specs.declared.tables.EntryCheck.{EntryCheck}
-use Rattle.formula.specs.declared.tables.EntryCheck.TheVariants.{Passed as EntryPassed, Refused as EntryRefused}
-use Rattle.formula.specs.declared.tables.ClauseCheck.{ClauseCheck}
-use Rattle.formula.specs.declared.tables.ClauseCheck.TheVariants.{Closed, Refused as Stopped}
-
-abbrev pub check_of : Option Refusal → Check
-check_of r = unless Refused r Passed
 
 -- So many bytes have a bit for each variable, or there are none.
 abbrev pub AllOrNone : ℕ → Type 0
@@ -44,15 +35,15 @@ unfoldable pub variables_before : List ℤ → ℕ → List ℕ
 variables_before ws zero = []
 variables_before ws (suc n) = nat_abs (get_or ws n (pos 0)) ∷ variables_before ws n
 
--- An entry judged, its first word at the place `at`, `seen` being the variables before it: the check refuses, or goes on behind the entry with its
+-- An entry judged, its first word at the place `at`, behind the entry `last`, `seen` being the variables before it: the check refuses, or goes on behind the entry with its
 -- quantifier and its block, its variable marked.
-abbrev pub EntryStep : (ws : List ℤ) (at last block : ℕ) → EntryCheck → (marks' : List ℕ) → Type 0
-EntryStep ws at last block (EntryRefused r) marks' = (seen : List ℕ) → Lists (take at ws) seen → prefix_refusal at seen last block (drop at ws) ≡ some r
-EntryStep ws at last block (EntryPassed q b) marks' =
+abbrev pub EntryStep : (ws : List ℤ) (at : ℕ) (last : LastEntry) → Result LastEntry Refusal → (marks' : List ℕ) → Type 0
+EntryStep ws at last (Err r) marks' = (seen : List ℕ) → Lists (take at ws) seen → prefix_refusal at seen last.quantifier last.block (drop at ws) ≡ some r
+EntryStep ws at last (Ok next) marks' =
     ((seen : List ℕ) → Lists (take at ws) seen
-    → prefix_refusal at seen last block (drop at ws) ≡ prefix_refusal (at + 3) (ordinal (get_or ws at (pos 0)) ∷ seen) q b (drop (at + 3) ws))
+    → prefix_refusal at seen last.quantifier last.block (drop at ws) ≡ prefix_refusal (at + 3) (ordinal (get_or ws at (pos 0)) ∷ seen) next.quantifier next.block (drop (at + 3) ws))
     × Listing (take (at + 3) ws) marks'
-    × (b ≤ block + 1)
+    × (next.block ≤ last.block + 1)
 
 -- One word further where a test is true.
 abbrev pub further : Bool → ℕ → ℕ
@@ -70,11 +61,11 @@ clash_free seen [] = 0
 clash_free seen (w ∷ ws) = further (not (is_in (nat_abs w) seen)) (clash_free (nat_abs w ∷ seen) ws)
 
 -- What is left to refuse after one clause was judged.
-abbrev pub after_clause : (ℕ → Bool) → List ℤ → ClauseCheck → Option Refusal
-after_clause known ws (Closed next) = clauses_refusal known next [] (drop next ws)
-after_clause known ws (Stopped r) = some r
+abbrev pub after_clause : (ℕ → Bool) → List ℤ → Result ℕ Refusal → Option Refusal
+after_clause known ws (Ok next) = clauses_refusal known next [] (drop next ws)
+after_clause known ws (Err r) = some r
 
 -- The clause that begins at `from` is judged: either the refusal, or the check goes on at a later place of the table.
-pub record ClauseStep (known : ℕ → Bool) (ws : List ℤ) (from : ℕ) (answer : ClauseCheck) : Type 0 where
+pub record ClauseStep (known : ℕ → Bool) (ws : List ℤ) (from : ℕ) (answer : Result ℕ Refusal) : Type 0 where
   pub same : clauses_refusal known from [] (drop from ws) ≡ after_clause known ws answer
-  pub onward : (next : ℕ) → answer ≡ Closed next → (from < next) × (next ≤ length ws)
+  pub onward : (next : ℕ) → answer ≡ Ok next → (from < next) × (next ≤ length ws)

@@ -1,6 +1,10 @@
 -- What the functions that read the clauses of a text answer and leave in the clause table and in the marks. Laws are in
 -- proofs/Theorems/Text/Clauses/Laws.antt.
-use Rattle.std.specs.Prelude.{ℕ, ◌+◌, ◌*◌, ◌/◌, ◌%◌, ◌≤◌, ◌<◌, ◌≡◌, Bool, true, false, not, List, [], ℤ, pos, length, get_or, set, take, ltb, eqb}
+use Rattle.formula.specs.declared.clauses.ClauseStep.{ClauseStep}
+use Rattle.formula.specs.declared.clauses.ClauseStep.TheVariants.{Literal, Closed}
+use Rattle.formula.specs.declared.refusal.Refusal.{Refusal}
+use Rattle.formula.specs.declared.clauses.MatrixRead.{MatrixRead}
+use Rattle.std.specs.Prelude.{ℕ, ◌+◌, ◌*◌, ◌/◌, ◌%◌, ◌≤◌, ◌<◌, ◌≡◌, Bool, true, false, not, List, [], ℤ, pos, length, get_or, set, take, ltb, eqb, Result, Ok, Err}
 use Rattle.std.proofs.Math.Option.{Option}
 use Rattle.qbf.specs.Formula.{Prefix, listed}
 use Rattle.formula.specs.Bounds.{variable_bound}
@@ -15,10 +19,6 @@ use Rattle.formula.specs.declared.refusal.Reason.TheVariants.{Unfinished, Miscou
 use Rattle.formula.specs.declared.refusal.Reason.{Reason}
 use Rattle.scanner.specs.Token.{Number}
 use Rattle.scanner.specs.declared.position.Position.{Position}
-use Rattle.formula.specs.declared.clauses.ClauseStep.{ClauseStep}
-use Rattle.formula.specs.declared.clauses.ClauseStep.TheVariants.{Literal, Closed, Refused as NoStep}
-use Rattle.formula.specs.declared.clauses.ClausesAnswer.{ClausesAnswer}
-use Rattle.formula.specs.declared.clauses.ClausesAnswer.TheVariants.{Clauses, Refused as NoClauses}
 
 -- A mark is twice the number of the last clause that holds the variable, and 1 more where a set lists it: whether the open clause, `closed`
 -- clauses being closed, holds it; and its mark once it does.
@@ -38,57 +38,57 @@ pub record Marked (marks : List ℕ) (P : Prefix) (words : List ℤ) (closed : �
   pub count : zeros words ≡ closed
 
 -- A literal of the variable n: refused, or written and marked.
-abbrev pub literal_step : Option Reason → ClauseStep
-literal_step x = unless NoStep x Literal
+abbrev pub literal_step : Option Reason → Result ClauseStep Reason
+literal_step x = unless Err x (Ok Literal)
 
 -- By its variable's mark.
 abbrev pub marked_reason : (v n : ℕ) (marks : List ℕ) (closed used room : ℕ) → Option Reason
 marked_reason v n marks closed used room = literal_reason v n (holds_open (get_or marks n 0) closed) used room
 
-abbrev pub LiteralStores : (n : ℕ) (positive : Bool) (used closed : ℕ) (table : List ℤ) (marks : List ℕ) (table' : List ℤ) (marks' : List ℕ) → ClauseStep → Type 0
-LiteralStores n positive used closed table marks table' marks' Literal = (table' ≡ set table used (signed positive n)) × (marks' ≡ set marks n (mark_for (get_or marks n 0) closed))
-LiteralStores n positive used closed table marks table' marks' Closed = Unit {0}
-LiteralStores n positive used closed table marks table' marks' (NoStep r) = Unit {0}
+abbrev pub LiteralStores : (n : ℕ) (positive : Bool) (used closed : ℕ) (table : List ℤ) (marks : List ℕ) (table' : List ℤ) (marks' : List ℕ) → Result ClauseStep Reason → Type 0
+LiteralStores n positive used closed table marks table' marks' (Ok Literal) = (table' ≡ set table used (signed positive n)) × (marks' ≡ set marks n (mark_for (get_or marks n 0) closed))
+LiteralStores n positive used closed table marks table' marks' (Ok Closed) = Unit {0}
+LiteralStores n positive used closed table marks table' marks' (Err r) = Unit {0}
 
-pub record LiteralPost (n variables : ℕ) (positive : Bool) (used closed : ℕ) (table : List ℤ) (marks : List ℕ) (table' : List ℤ) (marks' : List ℕ) (answer : ClauseStep) : Type 0 where
+pub record LiteralPost (n variables : ℕ) (positive : Bool) (used closed : ℕ) (table : List ℤ) (marks : List ℕ) (table' : List ℤ) (marks' : List ℕ) (answer : Result ClauseStep Reason) : Type 0 where
   pub answers : answer ≡ literal_step (marked_reason variables n marks closed used (length table))
   pub stores : LiteralStores n positive used closed table marks table' marks' answer
 
 -- A clause's closing 0: refused, or written.
-abbrev pub closing_step : Option Reason → ClauseStep
-closing_step x = unless NoStep x Closed
+abbrev pub closing_step : Option Reason → Result ClauseStep Reason
+closing_step x = unless Err x (Ok Closed)
 
-abbrev pub ClosingStores : (used : ℕ) (table table' : List ℤ) → ClauseStep → Type 0
-ClosingStores used table table' Literal = Unit {0}
-ClosingStores used table table' Closed = table' ≡ set table used (pos 0)
-ClosingStores used table table' (NoStep r) = Unit {0}
+abbrev pub ClosingStores : (used : ℕ) (table table' : List ℤ) → Result ClauseStep Reason → Type 0
+ClosingStores used table table' (Ok Literal) = Unit {0}
+ClosingStores used table table' (Ok Closed) = table' ≡ set table used (pos 0)
+ClosingStores used table table' (Err r) = Unit {0}
 
-pub record ClosingPost (used : ℕ) (table table' : List ℤ) (answer : ClauseStep) : Type 0 where
+pub record ClosingPost (used : ℕ) (table table' : List ℤ) (answer : Result ClauseStep Reason) : Type 0 where
   pub answers : answer ≡ closing_step (closing_reason used (length table))
   pub stores : ClosingStores used table table' answer
 
 -- A token of a clause, wherever it stands: where the state goes, and what the marks then say; a word was left, or it is refused.
-abbrev pub TokenStates : (m : Number) (place v used closed : ℕ) (table table' : List ℤ) (marks' : List ℕ) (prefixRoom c : ℕ) (P : Prefix) → ClauseStep → Type 0
-TokenStates m place v used closed table table' marks' prefixRoom c P Literal =
+abbrev pub TokenStates : (m : Number) (place v used closed : ℕ) (table table' : List ℤ) (marks' : List ℕ) (prefixRoom c : ℕ) (P : Prefix) → Result ClauseStep Reason → Type 0
+TokenStates m place v used closed table table' marks' prefixRoom c P (Ok Literal) =
     (clause_token prefixRoom (length table) place v c P (take used table) m ≡ clauses v c P (take (used + 1) table')) × Marked marks' P (take (used + 1) table') closed × (is_open (open_clause (take (used + 1) table')) ≡ true)
-TokenStates m place v used closed table table' marks' prefixRoom c P Closed =
+TokenStates m place v used closed table table' marks' prefixRoom c P (Ok Closed) =
     (clause_token prefixRoom (length table) place v c P (take used table) m ≡ clauses v c P (take (used + 1) table')) × Marked marks' P (take (used + 1) table') (closed + 1) × (is_open (open_clause (take (used + 1) table')) ≡ false)
-TokenStates m place v used closed table table' marks' prefixRoom c P (NoStep r) =
+TokenStates m place v used closed table table' marks' prefixRoom c P (Err r) =
     clause_token prefixRoom (length table) place v c P (take used table) m ≡ stopped place r
 
-abbrev pub TokenStores : (used : ℕ) (table : List ℤ) (marks' : List ℕ) → ClauseStep → Type 0
-TokenStores used table marks' Literal = (used < length table) × (length marks' ≡ variable_bound + 1)
-TokenStores used table marks' Closed = (used < length table) × (length marks' ≡ variable_bound + 1)
-TokenStores used table marks' (NoStep r) = Unit {0}
+abbrev pub TokenStores : (used : ℕ) (table : List ℤ) (marks' : List ℕ) → Result ClauseStep Reason → Type 0
+TokenStores used table marks' (Ok Literal) = (used < length table) × (length marks' ≡ variable_bound + 1)
+TokenStores used table marks' (Ok Closed) = (used < length table) × (length marks' ≡ variable_bound + 1)
+TokenStores used table marks' (Err r) = Unit {0}
 
-pub record ClauseTokenPost (m : Number) (v used closed : ℕ) (table : List ℤ) (marks : List ℕ) (table' : List ℤ) (marks' : List ℕ) (answer : ClauseStep) : Type 0 where
+pub record ClauseTokenPost (m : Number) (v used closed : ℕ) (table : List ℤ) (marks : List ℕ) (table' : List ℤ) (marks' : List ℕ) (answer : Result ClauseStep Reason) : Type 0 where
   pub states : (place prefixRoom c : ℕ) (P : Prefix) → Marked marks P (take used table) closed → TokenStates m place v used closed table table' marks' prefixRoom c P answer
   pub stores : TokenStores used table marks' answer
 
 -- The text ends.
-abbrev pub clauses_end : (end : Position) (clauseOpen missing : Bool) (used : ℕ) → ClausesAnswer
+abbrev pub clauses_end : (end : Position) (clauseOpen missing : Bool) (used : ℕ) → Result MatrixRead Refusal
 clauses_end end clauseOpen missing used =
-    require (not clauseOpen) (NoClauses (refused_at end Unfinished)) (require (not missing) (NoClauses (refused_at end Miscount)) (Clauses used end))
+    require (not clauseOpen) (Err (refused_at end Unfinished)) (require (not missing) (Err (refused_at end Miscount)) (Ok (record { used = used; end = end })))
 
 -- What the marks then tell of the variables that no set binds.
 pub record MarksFree (marks : List ℕ) (P : Prefix) (words : List ℤ) : Type 0 where
@@ -96,11 +96,11 @@ pub record MarksFree (marks : List ℕ) (P : Prefix) (words : List ℤ) : Type 0
   pub frees : (v : ℕ) → 1 ≤ v → v ≤ variable_bound → is_free P words v ≡ is_free_mark (get_or marks v 0)
 
 -- The clauses, from the byte after the sets on: what is read from there are these words and the completed prefix.
-abbrev pub ClausesPost : (text : List ℕ) (at v c prefixRoom : ℕ) (P : Prefix) (table table' : List ℤ) (marks' : List ℕ) → ClausesAnswer → Type 0
-ClausesPost text at v c prefixRoom P table table' marks' (Clauses n end) =
-    (reading_from prefixRoom (length table) text (clauses v c P []) at ≡ completing prefixRoom text (completed v P (take n table')) (take n table') c)
-    × (n ≤ length table')
-    × MarksFree marks' P (take n table')
-    × (end ≡ position_at text (length text))
-ClausesPost text at v c prefixRoom P table table' marks' (NoClauses r) =
+abbrev pub ClausesPost : (text : List ℕ) (at v c prefixRoom : ℕ) (P : Prefix) (table table' : List ℤ) (marks' : List ℕ) → Result MatrixRead Refusal → Type 0
+ClausesPost text at v c prefixRoom P table table' marks' (Ok r) =
+    (reading_from prefixRoom (length table) text (clauses v c P []) at ≡ completing prefixRoom text (completed v P (take r.used table')) (take r.used table') c)
+    × (r.used ≤ length table')
+    × MarksFree marks' P (take r.used table')
+    × (r.end ≡ position_at text (length text))
+ClausesPost text at v c prefixRoom P table table' marks' (Err r) =
     reading_from prefixRoom (length table) text (clauses v c P []) at ≡ refused r

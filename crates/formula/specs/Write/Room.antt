@@ -1,4 +1,5 @@
 -- From the check of tables, the stores and the test of room to what `write_formula` promises. Assumes nothing.
+use Rattle.std.specs.Prelude.{Result, Err}
 use Rattle.std.specs.Prelude.{ℕ, ◌≡◌, Bool, ℤ}
 use Rattle.std.proofs.Math.Path.{refl, ap}
 use Rattle.std.proofs.Common.{◌∙◌, arith, leb-true}
@@ -16,18 +17,16 @@ use Rattle.formula.specs.Tables.{tables_refusal, Admitted}
 use Rattle.formula.specs.Write.{written, if_room, writing_refusal, text_after, Writes}
 use Rattle.formula.specs.Write.Stream.{Finishes}
 use Rattle.formula.specs.declared.refusal.Refusal.{Refusal}
-use Rattle.formula.specs.declared.write.WriteAnswer.{WriteAnswer}
-use Rattle.formula.specs.declared.write.WriteAnswer.TheVariants.{Refused}
 
 module _ (p c : List ℤ) where
   -- Tables that are refused.
-  pub writes_refused : (text : List ℕ) (r : Refusal) → tables_refusal p c ≡ some r → Writes p c (length text) (Refused r) (clear_from 0 0 text)
+  pub writes_refused : (text : List ℕ) (r : Refusal) → tables_refusal p c ≡ some r → Writes p c (length text) (Err r) (clear_from 0 0 text)
   unfolding writing_refusal
   writes_refused text r e = record { answers = rw e; leaves = rw e (clear_all 0 text) }
 
   -- Tables that are written.
   pub writes_finished :
-      {text middle after : List ℕ} {used : ℕ} {answer : WriteAnswer}
+      {text middle after : List ℕ} {used : ℕ} {answer : Result ℕ Refusal}
       → Admitted p c → Stores text 0 (written p c) middle used → Finishes middle used answer after → Writes p c (length text) answer after
   unfolding writing_refusal
   writes_finished {text} {middle} {after} {used} {answer} a s f =

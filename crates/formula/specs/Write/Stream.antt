@@ -1,12 +1,13 @@
 -- The written text as the writer's loops go through it, entry by entry and word by word, and what its inner functions ask and promise. That
 -- it is the text of Write.antt is the law `written_stream` of proofs/Theorems/Write/Lines.antt.
+use Rattle.std.specs.Prelude.{Result}
+use Rattle.formula.specs.declared.refusal.Refusal.{Refusal}
 use Rattle.std.specs.Prelude.{ℕ, zero, suc, ◌≤◌, ◌≡◌, Bool, true, false, List, [], ◌∷◌, ◌++◌, length, get_or, leb, eqb, ℤ, pos, negsuc, nat_abs}
 use Rattle.qbf.specs.Formula.{Prefix}
 use Rattle.formula.specs.Bounds.{variable_bound}
 use Rattle.formula.specs.Clear.{clear_from, kept_up_to}
 use Rattle.formula.specs.Decimal.{decimal}
 use Rattle.formula.specs.Write.{letter_of, if_room, answer_writing}
-use Rattle.formula.specs.declared.write.WriteAnswer.{WriteAnswer}
 
 -- The end of the line whose letter is `last`; no line is open where that is 0.
 unfoldable pub line_end : ℕ → List ℕ
@@ -42,6 +43,6 @@ pub record Bounded (ws : List ℤ) : Type 0 where
 
 -- What the end of a writing promises, `used` being the place behind what was written: its answer, and the text with
 -- what was not used cleared.
-pub record Finishes (text : List ℕ) (used : ℕ) (answer : WriteAnswer) (after : List ℕ) : Type 0 where
+pub record Finishes (text : List ℕ) (used : ℕ) (answer : Result ℕ Refusal) (after : List ℕ) : Type 0 where
   pub answers : answer ≡ answer_writing (if_room (leb used (length text))) used
   pub leaves : after ≡ clear_from 0 (kept_up_to (leb used (length text)) used) text

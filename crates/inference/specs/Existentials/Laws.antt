@@ -1,5 +1,8 @@
 -- The flags of the existentials answer the test of a scope, on tables that pass the check; and what a word out of range is. Assumes nothing.
-use Rattle.std.specs.Prelude.{ℕ, zero, suc, ◌-◌, ◌≤◌, ◌<◌, ◌≡◌, refl, Bool, true, false, not, ◌&&◌, ◌||◌, leb, length, get_or, replicate, ℤ, pos, negsuc, nat_abs}
+use Rattle.std.specs.Prelude.{not}
+use Rattle.formula.specs.Prefix.{quantifier_of}
+use Rattle.std.specs.Prelude.{Option, Some, None}
+use Rattle.std.specs.Prelude.{ℕ, zero, suc, ◌-◌, ◌≤◌, ◌<◌, ◌≡◌, refl, Bool, true, false, ◌&&◌, ◌||◌, leb, length, get_or, replicate, ℤ, pos, negsuc, nat_abs}
 use Rattle.std.proofs.Math.Path.{ap, sym}
 use Rattle.std.proofs.Common.{◌∙◌, arith, le-leb, leb-true, leb-false, eq-eqb, ne_eqb, length-set, get_or-set_same, get_or-set_other}
 use Rattle.std.proofs.Math.Logic.{dite}
@@ -14,15 +17,13 @@ use Rattle.qbf.specs.Formula.{Quantifier, existential, universal, entry, Prefix}
 use Rattle.bits.specs.Flags.{flags}
 use Rattle.bits.specs.Flags.Laws.{flags_zeros}
 use Rattle.formula.specs.Bounds.{variable_fit, in_range}
-use Rattle.formula.specs.Prefix.{prefix_of, is_quantifier, quantifier_of, quantifies, AllRanged, Entries}
+use Rattle.formula.specs.Prefix.{prefix_of, is_quantifier, quantifies, AllRanged, Entries}
 use Rattle.formula.specs.Prefix.Laws.{quantifies_sound}
 use Rattle.formula.specs.Word.{word_of, variable_of, positive, negative}
 use Rattle.formula.specs.Word.Laws.{variable_magnitude, variable_large}
 use Rattle.formula.specs.Tables.{Admitted}
 use Rattle.formula.proofs.Theorems.Tables.Laws.{admitted_entries}
 use Rattle.formula.specs.declared.literal.Variable.{Variable}
-use Rattle.formula.specs.declared.literal.VariableFit.{VariableFit}
-use Rattle.formula.specs.declared.literal.VariableFit.TheVariants.{Within, Outside}
 use Rattle.inference.specs.Words.Laws.{not_true_false}
 use Rattle.inference.specs.Steps.{positive_existential}
 use Rattle.inference.specs.Scope.{scope_of}
@@ -32,15 +33,6 @@ use Rattle.inference.specs.Existentials.{put_if, quantified_entry, flags_from, q
 pub from_cleared : (q : Quantifier) (P : Prefix) (bytes : List ℕ) → bytes ≡ replicate 128 0 → flags_from q (flags bytes) P ≡ quantified_flags q P
 unfolding quantified_flags
 from_cleared q P bytes e = ap (λ (fs : List ℕ). flags_from q fs P) (ap flags e ∙ flags_zeros 128)
-
--- A quantifier told by whether it is the existential one, against either.
-pub existential_asked : (b : Bool) → is_quantifier (quantifier_of b) existential ≡ b
-existential_asked true = refl
-existential_asked false = refl
-
-pub universal_asked_lem : (b : Bool) → is_quantifier (quantifier_of b) universal ≡ not b
-universal_asked_lem true = refl
-universal_asked_lem false = refl
 
 -- One entry put: its own flag is 1, every other as it was.
 module _ (fs : List ℕ) (size : length fs ≡ 1024) (k : ℕ) where
@@ -108,34 +100,43 @@ existential_fit prefix clauses a (pos (suc n)) = go (leb (suc n) 1024) refl
     go false e = rw (not_listed prefix (admitted_entries prefix clauses a) existential (suc n) (λ l u. let h = leb-false (suc n) 1024 e in omega arith))
 existential_fit prefix clauses a (negsuc n) = go (leb (suc n) 1024)
   where
-    go : (b : Bool) → existential_of (existentials_of prefix) (negative b (suc n)) ≡ Outside
+    go : (b : Bool) → existential_of (existentials_of prefix) (negative b (suc n)) ≡ None
     go true = refl
     go false = refl
 
 -- A variable that was found, or not.
-first : VariableFit → ℕ
-first (Within v) = v.0
-first Outside = 0
+first : Option Variable → ℕ
+first (Some v) = v.0
+first None = 0
 
-pub fit_found : (b : Bool) (n : ℕ) (v : Variable) → Within v ≡ variable_fit b n → (v.0 ≡ n) × (b ≡ true)
+pub fit_found : (b : Bool) (n : ℕ) (v : Variable) → Some v ≡ variable_fit b n → (v.0 ≡ n) × (b ≡ true)
 unfolding first
 fit_found true n v e = (ap first e, refl)
 fit_found false n v e = let z : ◌≡◌ {A = ℕ} 0 1 = cc in absurd (omega arith)
 
-pub fit_missed : (b : Bool) (n : ℕ) → Outside ≡ variable_fit b n → b ≡ false
+pub fit_missed : (b : Bool) (n : ℕ) → None ≡ variable_fit b n → b ≡ false
 fit_missed true n e = let z : ◌≡◌ {A = ℕ} 0 1 = cc in absurd (omega arith)
 fit_missed false n e = refl
 
-pub existential_bound : (fs : List ℕ) (w : ℤ) (v : Variable) → Within v ≡ existential_of fs (word_of w) → v.0 ≤ 1024
+pub existential_bound : (fs : List ℕ) (w : ℤ) (v : Variable) → Some v ≡ existential_of fs (word_of w) → v.0 ≤ 1024
 unfolding word_of
 existential_bound fs (pos zero) v e = let z : ◌≡◌ {A = ℕ} 0 1 = cc in absurd (omega arith)
 existential_bound fs (pos (suc n)) v e = go (leb (suc n) 1024) refl e
   where
-    go : (b : Bool) → leb (suc n) 1024 ≡ b → Within v ≡ existential_of fs (positive b (suc n)) → v.0 ≤ 1024
+    go : (b : Bool) → leb (suc n) 1024 ≡ b → Some v ≡ existential_of fs (positive b (suc n)) → v.0 ≤ 1024
     go true q h = let f = (fit_found (eqb (get_or fs (suc n - 1) 0) 1) (suc n) v h).0 in let l = leb-true (suc n) 1024 q in omega arith
     go false q h = let z : ◌≡◌ {A = ℕ} 0 1 = cc in absurd (omega arith)
 existential_bound fs (negsuc n) v e = go (leb (suc n) 1024) e
   where
-    go : (b : Bool) → Within v ≡ existential_of fs (negative b (suc n)) → v.0 ≤ 1024
+    go : (b : Bool) → Some v ≡ existential_of fs (negative b (suc n)) → v.0 ≤ 1024
     go true h = let z : ◌≡◌ {A = ℕ} 0 1 = cc in absurd (omega arith)
     go false h = let z : ◌≡◌ {A = ℕ} 0 1 = cc in absurd (omega arith)
+
+-- A quantifier told by whether it is the existential one, against either.
+pub existential_asked : (b : Bool) → is_quantifier (quantifier_of b) existential ≡ b
+existential_asked true = refl
+existential_asked false = refl
+
+pub universal_asked_lem : (b : Bool) → is_quantifier (quantifier_of b) universal ≡ not b
+universal_asked_lem true = refl
+universal_asked_lem false = refl

@@ -4,6 +4,7 @@
 use Rattle.std.specs.Prelude.{ℕ, zero, suc, ◌+◌, ◌*◌, ◌/◌, ◌%◌, ◌-◌, ◌<◌, ◌≤◌, ◌≡◌, ◌≢◌, Bool, true, false, not, ◌&&◌, ◌||◌, eqb, length, get_or, set, drop, replicate, ℤ, pos, negsuc, neg_ℤ}
 use Rattle.std.proofs.Math.Path.{refl, sym}
 use Rattle.std.proofs.Common.{ap, ◌∙◌, arith, add-one, le-leb, ne_eqb, length-set, drop_of_length-le, drop-cons}
+use Rattle.std.proofs.lemmas.List.{length-replicate}
 use Rattle.std.proofs.Math.Logic.{dite}
 use Rattle.std.proofs.lemmas.Bool.{false≢true}
 use Rattle.std.proofs.Math.Bool.{or-true, or-false, or_assoc}
@@ -11,7 +12,7 @@ use mathlib.Core.List.Memᴰ
 use mathlib.Core.List.{List, [], ◌∷◌, ◌++◌}
 use Rattle.std.proofs.Math.Decide.{ℕ_discrete}
 use Rattle.bits.specs.Flags.{flags}
-use Rattle.bits.specs.Flags.Laws.{flags_zeros, flag_small}
+use Rattle.bits.specs.Flags.Laws.{flags_zeros, flag_small, length_flags}
 use Rattle.formula.specs.Word.{word_of}
 use Rattle.formula.specs.Word.Laws.{slot_bound}
 use Rattle.inference.specs.Words.{Words, same_word, keep, without, InRange, AllInRange}
@@ -35,6 +36,9 @@ pub slot_has_bit : (x : ℤ) → InRange x → 2 ≤ slot_at x
 slot_has_bit (pos zero) r = absurd (omega (arith, r.0))
 slot_has_bit (pos (suc n)) r = let e = slot_positive n r.1 in omega arith
 slot_has_bit (negsuc n) r = let e = slot_negative n r.1 in omega arith
+
+pub slot_bits : (x : ℤ) (slot : ℕ) → slot ≡ slot_at x → InRange x → (2 ≤ slot) × (slot < 2050)
+slot_bits x slot at within = rw at (slot_has_bit x within, slot_at_bound x)
 
 pub opposite_in_range : (x : ℤ) → InRange x → InRange (neg_ℤ x)
 opposite_in_range (pos zero) r = r
@@ -105,6 +109,17 @@ module _ (m : List ℕ) (e x : ℤ) where
   pub mark_one : same_word e x ≡ false → Marked m (without e (alone x)) (eqb (get_or m (slot_at (neg_ℤ x)) 0) 1) (set m (slot_at x) 1)
   unfolding without meets mark_all
   mark_one h = rw h (record { told = sym (or-false (eqb (get_or m (slot_at (neg_ℤ x)) 0) 1)); left = refl })
+
+-- Bytes whose marks are as many as all, as clean ones are, are all that hold marks.
+pub marks_whole : (bytes marks : List ℕ) → marks_in bytes ≡ marks → length marks ≡ 2050 → length bytes ≡ 256
+unfolding marks_in
+marks_whole bytes marks e h = let k = length_flags bytes in let l : suc (suc (length (flags bytes))) ≡ 2050 = ap length e ∙ h in omega arith
+
+pub clean_whole : (bytes : List ℕ) → marks_in bytes ≡ clean → length bytes ≡ 256
+clean_whole bytes e = marks_whole bytes clean e (length-replicate {A = ℕ} 2050 0)
+
+pub marked_whole : (bytes m : List ℕ) (C : Words) (met : Bool) → m ≡ clean → Marked m C met (marks_in bytes) → length bytes ≡ 256
+marked_whole bytes m C met e h = marks_whole bytes (mark_all m C) h.left (length_mark m C ∙ ap length e ∙ length-replicate {A = ℕ} 2050 0)
 
 pub length_tick : (m : List ℕ) (L : Words) → length (tick_all m L) ≡ length m
 unfolding tick_all

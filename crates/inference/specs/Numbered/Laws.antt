@@ -1,9 +1,10 @@
 -- Numbered clauses as the code finds them are the numbered clauses: by their place, as antecedents, one more, and those of the
 -- clause table. Assumes nothing.
+use Rattle.std.specs.Prelude.{Option as Optional, Some, None}
 use Prim.Native.Nat.{ℕ, zero, suc, ◌+◌, ◌-◌, ◌≤◌, ◌<◌}
 use Rattle.std.specs.Prelude.{◌≡◌, Bool, true, false, ◌&&◌, List, [], ◌∷◌, ◌++◌, leb, ltb, set, drop, ℤ, pos, negsuc}
 use Rattle.std.proofs.Math.Path.{refl, ap, sym}
-use Rattle.std.proofs.Common.{ap₂, ◌∙◌, append_assoc, append-nil, add-one, not-suc-le-zero, le_of_suc-le-suc, leb-true, leb-false, le-leb, drop_of_length-le, get_or-set_other}
+use Rattle.std.proofs.Common.{ap₂, ◌∙◌, append_assoc, append-nil, add-one, not-suc-le-zero, le_of_suc-le-suc, leb-true, leb-false, le-leb, drop_of_length-le, get_or, get_or-set_other}
 use Rattle.std.proofs.Math.Option.{Option, none, some}
 use native.Mathlib.Omega.{arith}
 use Rattle.std.proofs.Math.Decide.{dec_lt}
@@ -13,12 +14,11 @@ use Rattle.std.proofs.Math.Seq.{get_or-set_same}
 use Rattle.qbf.specs.Connectives.{and_both}
 use Rattle.formula.specs.Bounds.{in_range, number_fit}
 use Rattle.formula.specs.declared.literal.ClauseNumber.{ClauseNumber}
-use Rattle.formula.specs.declared.literal.NumberFit.{NumberFit}
-use Rattle.formula.specs.declared.literal.NumberFit.TheVariants.{Within, Outside}
-use Rattle.inference.specs.Words.{Words}
+use Rattle.inference.specs.Words.{Words, InRange, AllInRange, AllWords}
 use Rattle.formula.specs.Decode.{clauses_of, clause_at}
 use Rattle.formula.specs.Decode.Places.{clauses_place}
 use Rattle.inference.specs.Steps.{antecedent}
+use Rattle.inference.specs.Lawful.Laws.{found_member}
 use Rattle.inference.specs.Read.{statement_of}
 use Rattle.inference.specs.Empty.{is_empty, first_empty, empty_number, empty_after}
 use Rattle.inference.specs.Empty.Laws.{empty_then, empty_turns, empty_ends}
@@ -73,43 +73,43 @@ module _ (inputs : ℕ) (clauses steps : Words) (offsets : List ℕ) where
 
 -- A word that is a number.
 pub number_within :
-    (w : ℤ) (last : ℕ) (n : ClauseNumber) → Within n ≡ number_of w last
+    (w : ℤ) (last : ℕ) (n : ClauseNumber) → Some n ≡ number_of w last
     → (k : ℕ) × (n.0 ≡ suc k) × (k < last) × (w ≡ pos (suc k))
 number_within (negsuc m) last n e = let z : ◌≡◌ {A = ℕ} 0 1 = cc in absurd (omega arith)
 number_within (pos m) last n e = go m (in_range m last) refl e
   where
-    first : NumberFit → ℕ
-    first (Within k) = k.0
-    first Outside = 0
+    first : Optional ClauseNumber → ℕ
+    first (Some k) = k.0
+    first None = 0
 
-    go : (m : ℕ) (b : Bool) → in_range m last ≡ b → Within n ≡ number_fit b m → (k : ℕ) × (n.0 ≡ suc k) × (k < last) × (pos m ≡ pos (suc k))
+    go : (m : ℕ) (b : Bool) → in_range m last ≡ b → Some n ≡ number_fit b m → (k : ℕ) × (n.0 ≡ suc k) × (k < last) × (pos m ≡ pos (suc k))
     go m false q h = let z : ◌≡◌ {A = ℕ} 0 1 = cc in absurd (omega arith)
     go zero true q h = let t = and_both (leb 1 0) (leb 0 last) q in absurd (omega (arith, leb-true 1 0 t.0))
     go (suc k) true q h = let t = and_both (leb 1 (suc k)) (leb (suc k) last) q in (k, ap first h, leb-true (suc k) last t.1, refl)
 
-pub number_outside : (known : List Words) (w : ℤ) (last : ℕ) → length known ≡ last → Outside ≡ number_of w last → antecedent known w ≡ none
+pub number_outside : (known : List Words) (w : ℤ) (last : ℕ) → length known ≡ last → None ≡ number_of w last → antecedent known w ≡ none
 number_outside known (negsuc m) last l e = refl
 number_outside known (pos zero) last l e = refl
 number_outside known (pos (suc k)) last l e = go (leb (suc k) last) refl e
   where
-    go : (b : Bool) → leb (suc k) last ≡ b → Outside ≡ number_fit (leb 1 (suc k) && b) (suc k) → get_elem? known k ≡ none
+    go : (b : Bool) → leb (suc k) last ≡ b → None ≡ number_fit (leb 1 (suc k) && b) (suc k) → get_elem? known k ≡ none
     go true q h = let s : leb 1 (suc k) ≡ true = le-leb 1 (suc k) (omega arith) in let z : ◌≡◌ {A = ℕ} 0 1 = absurd_within (rw s at h) in absurd (omega arith)
       where
-        absurd_within : Outside ≡ Within (record { 0 = suc k }) → ◌≡◌ {A = ℕ} 0 1
+        absurd_within : ◌≡◌ {A = Optional ClauseNumber} None (Some (record { 0 = suc k })) → ◌≡◌ {A = ℕ} 0 1
         absurd_within p = cc
     go false q h = get_past known k (let g = leb-false (suc k) last q in omega arith)
 
 module _ (inputs : ℕ) (clauses steps : Words) (offsets : List ℕ) (last : ℕ) where
   -- The antecedent that a number names.
   pub number_antecedent :
-      (w : ℤ) (n : ClauseNumber) → Within n ≡ number_of w last
+      (w : ℤ) (n : ClauseNumber) → Some n ≡ number_of w last
       → antecedent (stored inputs clauses steps offsets last) w ≡ some (stored_at inputs clauses steps offsets (n.0 - 1))
   number_antecedent w n e =
       let t = number_within w last n e in
       let k : n.0 - 1 ≡ t.0 = let q = t.1 in omega arith in
       rw (t.3, k) (stored_get inputs clauses steps offsets last t.0 t.2)
 
-  pub number_no_antecedent : (w : ℤ) → Outside ≡ number_of w last → antecedent (stored inputs clauses steps offsets last) w ≡ none
+  pub number_no_antecedent : (w : ℤ) → None ≡ number_of w last → antecedent (stored inputs clauses steps offsets last) w ≡ none
   number_no_antecedent w e = number_outside (stored inputs clauses steps offsets last) w last (stored_length inputs clauses steps offsets last) e
 
 -- An offset stored past a numbered clause does not change it; that of a step past the input clauses makes its statement the clause.
@@ -122,6 +122,15 @@ module _ (inputs : ℕ) (clauses steps : Words) (offsets : List ℕ) where
   pub stored_at_step : (n v : ℕ) → inputs ≤ n → n < length offsets → stored_at inputs clauses steps (set offsets n v) n ≡ clause_at steps (statement_of steps v)
   unfolding stored_at
   stored_at_step n v h k = rw (lt-leb (suc n) inputs (omega arith), get_or-set_same offsets n v 0 k)
+
+-- A numbered clause by its number.
+pub stored_by_number :
+    (inputs : ℕ) (clauses steps : Words) (offsets : List ℕ) (n : ℕ) → 1 ≤ n
+    → stored_at inputs clauses steps offsets (n - 1) ≡ clause_at (table_of (leb n inputs) clauses steps) (place_of (leb n inputs) steps (get_or offsets (n - 1) 0))
+unfolding stored_at
+stored_by_number inputs clauses steps offsets n h =
+    let e : suc (n - 1) ≡ n = omega arith in
+    ap (λ (k : ℕ). clause_at (table_of (leb k inputs) clauses steps) (place_of (leb k inputs) steps (get_or offsets (n - 1) 0))) e
 
 pub stored_set_later :
     (inputs : ℕ) (clauses steps : Words) (offsets : List ℕ) (n i v : ℕ) → n ≤ i
@@ -214,8 +223,17 @@ filling_ends clauses offsets n empty from h f l =
         sym (append-nil (stored (length (clauses_of clauses)) clauses steps offsets n)) ∙ (rw nothing at (h steps))
 
 -- A number that was found is in range.
-pub number_range : (w : ℤ) (last : ℕ) (n : ClauseNumber) → Within n ≡ number_of w last → (1 ≤ n.0) × (n.0 ≤ last)
+pub number_range : (w : ℤ) (last : ℕ) (n : ClauseNumber) → Some n ≡ number_of w last → (1 ≤ n.0) × (n.0 ≤ last)
 number_range w last n e = go (number_within w last n e)
   where
     go : (k : ℕ) × (n.0 ≡ suc k) × (k < last) × (w ≡ pos (suc k)) → (1 ≤ n.0) × (n.0 ≤ last)
     go t = let p = t.1 in let q = t.2 in (omega arith, omega arith)
+
+-- A numbered clause is in range.
+pub stored_in_range :
+    (inputs : ℕ) (clauses steps : Words) (offsets : List ℕ) (last n : ℕ) → 1 ≤ n → n ≤ last
+    → AllWords InRange (stored inputs clauses steps offsets last)
+    → AllInRange (stored_at inputs clauses steps offsets (n - 1))
+stored_in_range inputs clauses steps offsets last n h k all =
+    all (stored_at inputs clauses steps offsets (n - 1))
+    (found_member (stored inputs clauses steps offsets last) (n - 1) (stored_at inputs clauses steps offsets (n - 1)) (stored_get inputs clauses steps offsets last (n - 1) (omega arith)))

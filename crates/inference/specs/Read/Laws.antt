@@ -1,4 +1,5 @@
 -- What the code reads of a step is what the step is. Assumes nothing.
+use Rattle.std.specs.Prelude.{Option as Optional, Some, None}
 use Rattle.std.specs.Prelude.{ℕ, suc, ◌+◌, ◌-◌, ◌<◌, ◌≤◌, ◌≢◌, Bool, ◌||◌, [], ◌∷◌, get_or, drop, ℤ, pos}
 use Rattle.std.proofs.Math.Path.{◌≡◌, refl}
 use Rattle.std.proofs.Common.{ap, sym, ◌∙◌, arith, not-suc-le-zero, le_of_suc-le-suc, length-drop, drop-cons, drop-drop, get_or-drop}
@@ -9,29 +10,25 @@ use Rattle.std.proofs.Math.ListN.{length, get_or-eq_default}
 use Rattle.formula.specs.Decode.{first_clause, clause_at}
 use Rattle.inference.specs.declared.read.Family.{Family}
 use Rattle.inference.specs.declared.read.Family.TheVariants.{Ordinary, LongDistance}
-use Rattle.inference.specs.declared.read.Kind.{Kind as KindRead}
-use Rattle.inference.specs.declared.read.Kind.TheVariants.{Resolves, Reduces, Other}
-use Rattle.inference.specs.declared.read.Close.TheVariants.{At, Missing}
 use Rattle.inference.specs.declared.read.StepKind.{StepKind}
 use Rattle.inference.specs.declared.read.StepKind.TheVariants.{Resolution, Reduction}
 use Rattle.inference.specs.declared.read.StepRead.{StepRead}
-use Rattle.inference.specs.declared.read.Reading.TheVariants.{Broken, Step as Fields}
 use Rattle.inference.specs.Words.{Words, same_word, is_zero, closes}
 use Rattle.inference.specs.Words.Laws.{same_sound, zero_ends, literal_first}
 use Rattle.inference.specs.Steps.{Step, resolution, reduction, stated_by, size_of, Kind, resolves, reduces, other, kind_of, family_by, family_of, if_closed, read_fields, read_step}
 use Rattle.inference.specs.Read.{kind_read, kind_is, or_kind, any_kind, statement_from, statement_of, close_if, closed_at, fields_of, reading_of, step_by, step_of}
 
-kind_read_resolves : (k : Kind) → Resolves ≡ kind_read k → k ≡ resolves
+kind_read_resolves : (k : Kind) → (Some Resolution) ≡ kind_read k → k ≡ resolves
 kind_read_resolves resolves e = refl
 kind_read_resolves reduces e = let z : ◌≡◌ {A = ℕ} 0 1 = cc in absurd (omega arith)
 kind_read_resolves other e = let z : ◌≡◌ {A = ℕ} 0 1 = cc in absurd (omega arith)
 
-kind_read_reduces : (k : Kind) → Reduces ≡ kind_read k → k ≡ reduces
+kind_read_reduces : (k : Kind) → (Some Reduction) ≡ kind_read k → k ≡ reduces
 kind_read_reduces resolves e = let z : ◌≡◌ {A = ℕ} 0 1 = cc in absurd (omega arith)
 kind_read_reduces reduces e = refl
 kind_read_reduces other e = let z : ◌≡◌ {A = ℕ} 0 1 = cc in absurd (omega arith)
 
-kind_read_other : (k : Kind) → Other ≡ kind_read k → k ≡ other
+kind_read_other : (k : Kind) → None ≡ kind_read k → k ≡ other
 kind_read_other resolves e = let z : ◌≡◌ {A = ℕ} 0 1 = cc in absurd (omega arith)
 kind_read_other reduces e = let z : ◌≡◌ {A = ℕ} 0 1 = cc in absurd (omega arith)
 kind_read_other other e = refl
@@ -56,37 +53,37 @@ closes_past (w ∷ ws) h = go (is_zero w) refl (closes_past ws)
     go false e later = later (le_of_suc-le-suc (rw (literal_first w ws e) at h))
 
 module _ (words : Words) (from end : ℕ) (ends : end ≡ from + length (clause_at words from)) where
-  pub close_found : end < length words → At (end + 1) ≡ closed_at from (drop from words)
+  pub close_found : end < length words → Some (end + 1) ≡ closed_at from (drop from words)
   unfolding closed_at
   close_found h =
       let k : length (clause_at words from) < length (drop from words) = rw (length-drop from words) (omega arith) in
-      rw (closes_within (drop from words) k) (ap (λ (n : ℕ). At (n + 1)) ends)
+      rw (closes_within (drop from words) k) (ap (λ (n : ℕ). Some (n + 1)) ends)
 
-  pub close_missing : length words ≤ end → Missing ≡ closed_at from (drop from words)
+  pub close_missing : length words ≤ end → None ≡ closed_at from (drop from words)
   unfolding closed_at
   close_missing h =
       let k : length (drop from words) ≤ length (clause_at words from) = rw (length-drop from words) (omega arith) in
       rw (closes_past (drop from words) k)
 
 -- What the closing said.
-close_at : (from : ℕ) (ws : Words) (n : ℕ) → At n ≡ closed_at from ws → (closes ws ≡ true) × (n ≡ from + length (first_clause ws) + 1)
+close_at : (from : ℕ) (ws : Words) (n : ℕ) → Some n ≡ closed_at from ws → (closes ws ≡ true) × (n ≡ from + length (first_clause ws) + 1)
 unfolding closed_at
 close_at from ws n e = go (closes ws) e
   where
-    go : (b : Bool) → At n ≡ close_if b (from + length (first_clause ws) + 1) → (b ≡ true) × (n ≡ from + length (first_clause ws) + 1)
+    go : (b : Bool) → Some n ≡ close_if b (from + length (first_clause ws) + 1) → (b ≡ true) × (n ≡ from + length (first_clause ws) + 1)
     go true q = (refl, cc)
     go false q = let z : ◌≡◌ {A = ℕ} 0 1 = cc in absurd (omega arith)
 
-close_none : (from : ℕ) (ws : Words) → Missing ≡ closed_at from ws → closes ws ≡ false
+close_none : (from : ℕ) (ws : Words) → None ≡ closed_at from ws → closes ws ≡ false
 unfolding closed_at
 close_none from ws e = go (closes ws) e
   where
-    go : (b : Bool) → Missing ≡ close_if b (from + length (first_clause ws) + 1) → b ≡ false
+    go : (b : Bool) → None ≡ close_if b (from + length (first_clause ws) + 1) → b ≡ false
     go true q = let z : ◌≡◌ {A = ℕ} 0 1 = cc in absurd (omega arith)
     go false q = refl
 
 -- A closed clause begins within the words.
-pub close_within : (words : Words) (from n : ℕ) → At n ≡ closed_at from (drop from words) → from < length words
+pub close_within : (words : Words) (from n : ℕ) → Some n ≡ closed_at from (drop from words) → from < length words
 unfolding closes
 close_within words from n e = go (drop from words) (length-drop from words) (close_at from (drop from words) n e).0
   where
@@ -138,18 +135,18 @@ any_kind_lem LongDistance w k n e = go (same_word w (pos 3)) (same_word w (pos 4
 
 -- Where the statement begins, by the kinds that were read.
 module _ (steps : Words) (at : ℕ) where
-  abbrev pub Was : Family → KindRead → Type 0
+  abbrev pub Was : Family → Optional StepKind → Type 0
   Was f k = k ≡ kind_is f (get_or steps at (pos 0))
 
-  pub statement_resolves : (f : Family) → Was f Resolves → statement_of steps at ≡ at + 4
+  pub statement_resolves : (f : Family) → Was f (Some Resolution) → statement_of steps at ≡ at + 4
   unfolding statement_of
   statement_resolves f k = rw (any_kind_lem f (get_or steps at (pos 0)) resolves (λ e. let z : ◌≡◌ {A = ℕ} 0 1 = cc in omega arith) (kind_read_resolves (kind_of f (get_or steps at (pos 0))) k))
 
-  pub statement_reduces : (f : Family) → Was f Reduces → statement_of steps at ≡ at + 3
+  pub statement_reduces : (f : Family) → Was f (Some Reduction) → statement_of steps at ≡ at + 3
   unfolding statement_of
   statement_reduces f k = rw (any_kind_lem f (get_or steps at (pos 0)) reduces (λ e. let z : ◌≡◌ {A = ℕ} 0 1 = cc in omega arith) (kind_read_reduces (kind_of f (get_or steps at (pos 0))) k))
 
-  pub statement_other : Was Ordinary Other → Was LongDistance Other → statement_of steps at ≡ at
+  pub statement_other : Was Ordinary None → Was LongDistance None → statement_of steps at ≡ at
   unfolding statement_of
   statement_other k l = rw (kind_read_other (kind_of Ordinary (get_or steps at (pos 0))) k, kind_read_other (kind_of LongDistance (get_or steps at (pos 0))) l)
 
@@ -178,28 +175,28 @@ module _ (f : Family) (steps : Words) (at : ℕ) (within : at < length steps) wh
 
   -- The fields, by the kind and the closing.
   pub resolution_read :
-      (next : ℕ) → Was steps at f Resolves → At next ≡ closed_at (at + 4) (drop (at + 4) steps)
-      → Fields (record { kind = Resolution; family = f; first = get_or steps (at + 1) (pos 0); second = get_or steps (at + 2) (pos 0); pivot = get_or steps (at + 3) (pos 0); statement = at + 4; next = next }) ≡ reading_of at (read_step f (drop at steps))
+      (next : ℕ) → Was steps at f (Some Resolution) → Some next ≡ closed_at (at + 4) (drop (at + 4) steps)
+      → Some (record { kind = Resolution; family = f; first = get_or steps (at + 1) (pos 0); second = get_or steps (at + 2) (pos 0); pivot = get_or steps (at + 3) (pos 0); statement = at + 4; next = next }) ≡ reading_of at (read_step f (drop at steps))
   resolution_read next k e =
       let c = close_at (at + 4) (drop (at + 4) steps) next e in
       let n : next ≡ at + (5 + length (clause_at steps (at + 4))) = let q = c.1 in omega arith in
       rw (read_kind resolves (kind_read_resolves (kind_of f (get_or steps at (pos 0))) k), c.0, n)
 
   pub reduction_read :
-      (next : ℕ) → Was steps at f Reduces → At next ≡ closed_at (at + 3) (drop (at + 3) steps)
-      → Fields (record { kind = Reduction; family = f; first = get_or steps (at + 1) (pos 0); second = pos 0; pivot = get_or steps (at + 2) (pos 0); statement = at + 3; next = next }) ≡ reading_of at (read_step f (drop at steps))
+      (next : ℕ) → Was steps at f (Some Reduction) → Some next ≡ closed_at (at + 3) (drop (at + 3) steps)
+      → Some (record { kind = Reduction; family = f; first = get_or steps (at + 1) (pos 0); second = pos 0; pivot = get_or steps (at + 2) (pos 0); statement = at + 3; next = next }) ≡ reading_of at (read_step f (drop at steps))
   reduction_read next k e =
       let c = close_at (at + 3) (drop (at + 3) steps) next e in
       let n : next ≡ at + (4 + length (clause_at steps (at + 3))) = let q = c.1 in omega arith in
       rw (read_kind reduces (kind_read_reduces (kind_of f (get_or steps at (pos 0))) k), c.0, n)
 
-  pub resolution_broken : Was steps at f Resolves → Missing ≡ closed_at (at + 4) (drop (at + 4) steps) → Broken ≡ reading_of at (read_step f (drop at steps))
+  pub resolution_broken : Was steps at f (Some Resolution) → None ≡ closed_at (at + 4) (drop (at + 4) steps) → None ≡ reading_of at (read_step f (drop at steps))
   resolution_broken k e = rw (read_kind resolves (kind_read_resolves (kind_of f (get_or steps at (pos 0))) k), close_none (at + 4) (drop (at + 4) steps) e)
 
-  pub reduction_broken : Was steps at f Reduces → Missing ≡ closed_at (at + 3) (drop (at + 3) steps) → Broken ≡ reading_of at (read_step f (drop at steps))
+  pub reduction_broken : Was steps at f (Some Reduction) → None ≡ closed_at (at + 3) (drop (at + 3) steps) → None ≡ reading_of at (read_step f (drop at steps))
   reduction_broken k e = rw (read_kind reduces (kind_read_reduces (kind_of f (get_or steps at (pos 0))) k), close_none (at + 3) (drop (at + 3) steps) e)
 
-  pub kind_broken : Was steps at f Other → Broken ≡ reading_of at (read_step f (drop at steps))
+  pub kind_broken : Was steps at f None → None ≡ reading_of at (read_step f (drop at steps))
   kind_broken k = rw (read_kind other (kind_read_other (kind_of f (get_or steps at (pos 0))) k))
 
   -- Where a step that was read states its result.
@@ -221,15 +218,15 @@ module _ (f : Family) (steps : Words) (at : ℕ) (within : at < length steps) wh
       go other q e = let z : ◌≡◌ {A = ℕ} 0 1 = cc in absurd (omega arith)
 
 -- What was read says the step.
-pub reading_broken : (at : ℕ) (o : Option Step) → Broken ≡ reading_of at o → o ≡ none
+pub reading_broken : (at : ℕ) (o : Option Step) → None ≡ reading_of at o → o ≡ none
 reading_broken at none h = refl
 reading_broken at (some s) h = let z : ◌≡◌ {A = ℕ} 0 1 = cc in absurd (omega arith)
 
-pub reading_step : (at : ℕ) (o : Option Step) (r : StepRead) → Fields r ≡ reading_of at o → (s : Step) × (o ≡ some s) × (r ≡ fields_of at s)
+pub reading_step : (at : ℕ) (o : Option Step) (r : StepRead) → Some r ≡ reading_of at o → (s : Step) × (o ≡ some s) × (r ≡ fields_of at s)
 reading_step at none r h = let z : ◌≡◌ {A = ℕ} 0 1 = cc in absurd (omega arith)
 reading_step at (some s) r h = (s, refl, same r (fields_of at s) h)
   where
-    same : (r q : StepRead) → Fields r ≡ Fields q → r ≡ q
+    same : (r q : StepRead) → Some r ≡ Some q → r ≡ q
     same r q e = cc
 
 fields_step : (at : ℕ) (s : Step) → step_of (fields_of at s) (stated_by s) ≡ s
@@ -262,19 +259,18 @@ unfolding family_of
 family_first [] h = absurd (not-suc-le-zero h)
 family_first (w ∷ ws) h = refl
 
-pub family_read : (steps : Words) → 0 < length steps → (k : Kind) → kind_read k ≡ kind_is LongDistance (get_or steps 0 (pos 0)) → family_by k ≡ family_of steps
-family_read steps h k e = go k (kind_of LongDistance (get_or steps 0 (pos 0))) e ∙ sym (family_first steps h)
+-- The family that the kind of the first word tells, read as long-distance.
+abbrev pub family_told : Optional StepKind → Family
+family_told (Some k) = LongDistance
+family_told None = Ordinary
+
+pub family_read : (steps : Words) → 0 < length steps → (o : Optional StepKind) → o ≡ kind_is LongDistance (get_or steps 0 (pos 0)) → family_told o ≡ family_of steps
+family_read steps h o e = rw e (go (kind_of LongDistance (get_or steps 0 (pos 0))) ∙ sym (family_first steps h))
   where
-    go : (k l : Kind) → kind_read k ≡ kind_read l → family_by k ≡ family_by l
-    go resolves resolves e = refl
-    go resolves reduces e = refl
-    go resolves other e = let z : ◌≡◌ {A = ℕ} 0 1 = cc in absurd (omega arith)
-    go reduces resolves e = refl
-    go reduces reduces e = refl
-    go reduces other e = let z : ◌≡◌ {A = ℕ} 0 1 = cc in absurd (omega arith)
-    go other resolves e = let z : ◌≡◌ {A = ℕ} 0 1 = cc in absurd (omega arith)
-    go other reduces e = let z : ◌≡◌ {A = ℕ} 0 1 = cc in absurd (omega arith)
-    go other other e = refl
+    go : (k : Kind) → family_told (kind_read k) ≡ family_by k
+    go resolves = refl
+    go reduces = refl
+    go other = refl
 
 pub family_none : (steps : Words) → length steps ≤ 0 → Ordinary ≡ family_of steps
 unfolding family_of

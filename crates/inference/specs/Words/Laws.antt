@@ -9,7 +9,8 @@ use Rattle.qbf.specs.Connectives.{or_either, or_left, or_right}
 use Rattle.formula.specs.Decode.{first_clause}
 use Rattle.formula.specs.Decode.Laws.{first_clause_cons}
 use Rattle.formula.specs.Word.Laws.{zero_sound, zero_apart}
-use Rattle.inference.specs.Words.{Words, same_word, is_zero, holds, keep, without}
+use Rattle.std.specs.List.{list_any}
+use Rattle.inference.specs.Words.{Words, same_word, is_zero, holds, keep, without, TellsAny}
 
 -- A Bool that is not the one is the other.
 pub not_true_false : (b : Bool) → (b ≡ true → ⊥) → b ≡ false
@@ -112,3 +113,29 @@ literal_first w ws h = first_clause_cons w ws (zero_apart w h)
 -- Opposites of two words are the same only if these are.
 pub opposite_injective : (x y : ℤ) → neg_ℤ x ≡ neg_ℤ y → x ≡ y
 opposite_injective x y e = sym (neg_ℤ-neg_ℤ x) ∙ ap neg_ℤ e ∙ neg_ℤ-neg_ℤ y
+
+-- A test asked of one word of a clause after the other: what is left of the clause tells what the whole does.
+abbrev pub TellsOn : (ℤ → Bool → Type 0) → Words → Words → Type 0
+TellsOn Post C D =
+    ((x : ℤ) → Memᴰ x D → Memᴰ x C)
+    × ((P : ℤ → Bool) → ((x : ℤ) (b : Bool) → Memᴰ x C → Post x b → b ≡ P x) → list_any P C ≡ list_any P D)
+
+module _ (Post : ℤ → Bool → Type 0) (C D : Words) (h : TellsOn Post C D) where
+  pub tells_ends : D ≡ [] → TellsAny Post C false
+  tells_ends d P k = sym (h.1 P k ∙ ap (list_any P) d)
+
+  module _ (x : ℤ) (E : Words) (d : D ≡ x ∷ E) where
+    pub tells_here : Memᴰ x C
+    tells_here = h.0 x (rw d (Memᴰ.head refl))
+
+    pub tells_stops : Post x true → TellsAny Post C true
+    tells_stops p P k = sym (h.1 P k ∙ rw (d, ← k x true tells_here p))
+
+    pub tells_turns : Post x false → TellsOn Post C E
+    tells_turns p = (λ y m. h.0 y (rw d (Memᴰ.tail m)), λ P k. h.1 P k ∙ rw (d, ← k x false tells_here p))
+
+-- The tests of a clause as tests of its words.
+pub holds_any : (x : ℤ) (C : Words) → list_any (same_word x) C ≡ holds x C
+unfolding holds
+holds_any x [] = refl
+holds_any x (y ∷ C) = ap (λ (b : Bool). same_word x y || b) (holds_any x C)

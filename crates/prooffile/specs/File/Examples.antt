@@ -1,12 +1,12 @@
 -- Readings of 01's proof file, by computation: what is read, the refusals and their order, and 01's example. 2 asks for more than
 -- four million bytes, so it is not computed: layout_oversized of Layout/Laws.antt states it for every such file.
+use Rattle.std.specs.Prelude.{Ok}
 use Rattle.std.specs.Prelude.{ℕ, ◌≡◌, refl, List, [], ◌∷◌, ◌++◌, ℤ, pos, negsuc, length, drop}
 use Rattle.formula.specs.Refusal.{refusal}
 use Rattle.formula.specs.declared.refusal.Reason.{Reason}
 use Rattle.formula.specs.declared.refusal.Reason.TheVariants.{NoRoom, NoTrailer, OtherFormula}
 use Rattle.prooffile.specs.File.{number4, number_at, words_of, mark4, mark_at, has_trailer, proof_refusal, read, refused, proof_reading, proof_answer, step_table}
 use Rattle.prooffile.specs.File.Layout.{bytes4, word_bytes, trailer_bytes, file_of}
-use Rattle.prooffile.specs.declared.file.ProofAnswer.TheVariants.{Read}
 
 -- The words of four bytes: 1, −2, the highest and the lowest.
 pub words_signed : words_of (1 ∷ 0 ∷ 0 ∷ 0 ∷ 254 ∷ 255 ∷ 255 ∷ 255 ∷ 255 ∷ 255 ∷ 255 ∷ 127 ∷ 0 ∷ 0 ∷ 0 ∷ 128 ∷ []) ≡ pos 1 ∷ negsuc 1 ∷ pos 2147483647 ∷ negsuc 2147483647 ∷ []
@@ -26,7 +26,7 @@ unfolding proof_reading proof_refusal has_trailer mark_at mark4 number_at number
 noted_read = refl
 
 -- Its answer, and a table of four words.
-pub noted_answer : (proof_answer (proof_reading noted 7 4) ≡ Read 2) × (step_table (proof_reading noted 7 4) 4 ≡ pos 7 ∷ negsuc 1 ∷ pos 0 ∷ pos 0 ∷ [])
+pub noted_answer : (proof_answer (proof_reading noted 7 4) ≡ Ok 2) × (step_table (proof_reading noted 7 4) 4 ≡ pos 7 ∷ negsuc 1 ∷ pos 0 ∷ pos 0 ∷ [])
 unfolding proof_reading proof_refusal has_trailer mark_at mark4 number_at number4 words_of
 noted_answer = (refl, refl)
 

@@ -1,5 +1,6 @@
 -- Laws of the reading of a proof file: what a trailer says, what a file that is read says of its words, how words are read one
 -- by one, and what the table of steps holds at the end. Assumes nothing.
+use Rattle.std.specs.Prelude.{Ok, Err}
 use Rattle.std.specs.Prelude.{ℕ, zero, suc, ◌+◌, ◌-◌, ◌*◌, ◌/◌, ◌%◌, ◌≤◌, ◌<◌, ◌≡◌, refl, Bool, true, false, ◌&&◌, List, [], ◌∷◌, ◌++◌, leb, eqb, ℤ, pos, get_or, take, drop, set, replicate}
 use Rattle.std.proofs.Common.{ap, sym, ◌∙◌, append_assoc, append-nil, arith, add-one, length-take, length-drop, take-append-drop, drop_of_length-le, drop-cons, take-suc-set, take_at, get_or-drop, to_z, SFits}
 use Rattle.std.proofs.Math.Option.{Option, none, some}
@@ -18,7 +19,6 @@ use Rattle.formula.specs.declared.refusal.Refusal.{Refusal}
 use Rattle.formula.specs.Refusal.Laws.{require_none}
 use Rattle.prooffile.specs.File.{number4, word4, number_at, words_of, mark4, mark_at, trailer_start, distance, clause_count, has_trailer, step_bytes, step_count, proof_refusal, ProofReading, read, refused, unless_refused, proof_reading, proof_answer, length_answer, step_table, ProofRead}
 use Rattle.prooffile.specs.File.Passed.{Bytes, Trailer, Passed, Counted, ReadFile, StepsRead}
-use Rattle.prooffile.specs.declared.file.ProofAnswer.TheVariants.{Read, Refused}
 
 -- ---- the trailer
 
@@ -52,11 +52,11 @@ module _ (file : List ℕ) where
 
 -- ---- the refusals
 
-pub length_answer_read : (o : Option Refusal) (n m : ℕ) → length_answer o n ≡ Read m → (o ≡ none) × (n ≡ m)
+pub length_answer_read : (o : Option Refusal) (n m : ℕ) → length_answer o n ≡ Ok m → (o ≡ none) × (n ≡ m)
 length_answer_read none n m e = (refl, cc)
 length_answer_read (some r) n m e = let z : ◌≡◌ {A = ℕ} 0 1 = cc in absurd (omega arith)
 
-pub length_answer_refused : (o : Option Refusal) (n : ℕ) (r : Refusal) → length_answer o n ≡ Refused r → o ≡ some r
+pub length_answer_refused : (o : Option Refusal) (n : ℕ) (r : Refusal) → length_answer o n ≡ Err r → o ≡ some r
 length_answer_refused none n r e = let z : ◌≡◌ {A = ℕ} 0 1 = cc in absurd (omega arith)
 length_answer_refused (some s) n r e = ap some (cc)
 
@@ -159,7 +159,7 @@ table_end words before n e = rw (← e, clear_append (pos 0) words (drop (length
 pub step_words_length : (file : List ℕ) → Trailer file → length (words_of (step_bytes file)) ≡ step_count file
 step_words_length file t = words_length (step_bytes file) ∙ ap (λ n. n / 4) (step_bytes_length file t)
 
-pub counted_of : (file : List ℕ) (count room n : ℕ) → length_answer (proof_refusal file count room) (step_count file) ≡ Read n → Counted file count room n
+pub counted_of : (file : List ℕ) (count room n : ℕ) → length_answer (proof_refusal file count room) (step_count file) ≡ Ok n → Counted file count room n
 counted_of file count room n e =
     let h = length_answer_read (proof_refusal file count room) (step_count file) n e in
     record { unrefused = h.0; passed = passed_of file count room h.0; steps = h.1 }
@@ -178,17 +178,17 @@ module _ (file : List ℕ) (count room n : ℕ) (k : Counted file count room n) 
 
 module _ (file : List ℕ) (count : ℕ) (before after : List ℤ) where
   pub read_refused : (r : Refusal) → proof_refusal file count (length before) ≡ some r → after ≡ clear_from (pos 0) 0 before
-      → ProofRead file count before after (Refused r)
+      → ProofRead file count before after (Err r)
   unfolding proof_reading clear_from
   read_refused r e a = record { answer = rw e; steps = rw e (a) }
 
   pub read_whole : (n : ℕ) → Counted file count (length before) n → after ≡ clear_from (pos 0) n (words_of (step_bytes file) ++ drop n before)
-      → ProofRead file count before after (Read n)
+      → ProofRead file count before after (Ok n)
   unfolding proof_reading
   read_whole n k a =
       let l : length (words_of (step_bytes file)) ≡ n = step_words_length file k.passed.trailer ∙ k.steps in
       record
-      { answer = rw k.unrefused (ap Read (sym l)); steps = rw k.unrefused (a ∙ table_end (words_of (step_bytes file)) before n l) }
+      { answer = rw k.unrefused (ap Ok (sym l)); steps = rw k.unrefused (a ∙ table_end (words_of (step_bytes file)) before n l) }
 
 -- ---- what a caller may use
 
@@ -204,10 +204,10 @@ read_of file count room words e = go (proof_refusal file count room) refl e
     go (some r) p q = let z : ◌≡◌ {A = ℕ} 0 1 = cc in absurd (omega arith)
 
 -- The words read are as many as the answer says, and stand at the start of the table.
-pub steps_read_lem : (file : List ℕ) (count : ℕ) (before after : List ℤ) (n : ℕ) → ProofRead file count before after (Read n) → StepsRead file count before after n
+pub steps_read_lem : (file : List ℕ) (count : ℕ) (before after : List ℤ) (n : ℕ) → ProofRead file count before after (Ok n) → StepsRead file count before after n
 steps_read_lem file count before after n p = go (proof_reading file count (length before)) refl p.answer p.steps
   where
-    go : (o : ProofReading) → proof_reading file count (length before) ≡ o → Read n ≡ proof_answer o → after ≡ step_table o (length before) → StepsRead file count before after n
+    go : (o : ProofReading) → proof_reading file count (length before) ≡ o → Ok n ≡ proof_answer o → after ≡ step_table o (length before) → StepsRead file count before after n
     go (read words) e a t =
         let r = read_of file count (length before) words e in
         let m : length words ≡ n = cc in

@@ -1,5 +1,7 @@
 -- From the stages to the line of the two files; then the headline: where what is printed begins as an `accepted` line, the game
 -- of the formula that the text denotes is lost. Assumes nothing.
+use Rattle.std.specs.Prelude.{Err, Ok}
+use Rattle.checker.specs.Verdict.{Verdict, accept}
 use Rattle.std.specs.Prelude.{ℕ, zero, suc, ◌≤◌, ◌≡◌, Bool, true, false, length, take, replicate, get_or, leb, ℤ}
 use Rattle.std.proofs.Math.Path.{refl}
 use Rattle.std.proofs.Common.{ap, sym, ◌∙◌, subst, arith, leb-true}
@@ -14,8 +16,6 @@ use Rattle.prooffile.specs.File.{read as readSteps, refused as refusedFile}
 use Rattle.inference.specs.Rules.{plain_rules}
 use Rattle.checker.specs.Verdict.{verdict_of}
 use Rattle.checker.specs.Verdict.Accuracy.{accepted_lost}
-use Rattle.checker.specs.declared.verdict.Verdict.{Verdict}
-use Rattle.checker.specs.declared.verdict.Verdict.TheVariants.{Accepted, Refused}
 use Rattle.report.specs.Line.{accepted_text, refused_line, settled, held, held_for}
 use Rattle.report.specs.Check.{Room, verdict_line, settled_proof, steps_line, check_line, DenotesLost}
 
@@ -86,7 +86,7 @@ pub record MadeFrom (room : Room) (formula proof : List ℕ) : Type 0 where
   pub proof_fits : length proof ≤ room.file
   pub formula_read_lem : reading formula room.prefix room.clauses ≡ read prefix clauses count
   pub proof_read : proof_reading proof count room.steps ≡ readSteps words
-  pub accepted : verdict_of plain_rules prefix clauses words room.scratch room.offsets ≡ Accepted (record { 0 = empty }) steps
+  pub accepted : verdict_of plain_rules prefix clauses words room.scratch room.offsets ≡ accept (record { 0 = empty }) steps
 
 module _ (room : Room) (formula proof : List ℕ) (P : List ℕ → Type 0) (unlike : (r : Refusal) → P (refused_line r) → ⊥) where
   pub made_from : P (check_line room formula proof) → MadeFrom room formula proof
@@ -98,7 +98,7 @@ module _ (room : Room) (formula proof : List ℕ) (P : List ℕ → Type 0) (unl
           → settled_proof room.file proof count room.steps ≡ readSteps words
           → (v : Verdict) → verdict_of plain_rules prefix clauses words room.scratch room.offsets ≡ v
           → P (verdict_line (entry_count prefix) count v) → MadeFrom room formula proof
-      judged prefix clauses words count e f (Accepted empty m) q k =
+      judged prefix clauses words count e f (Ok a) q k =
           let text = settled_read room.file formula room.prefix room.clauses prefix clauses count e in
           let file = settled_proof_read room.file proof count room.steps words f in
           record {
@@ -106,15 +106,15 @@ module _ (room : Room) (formula proof : List ℕ) (P : List ℕ → Type 0) (unl
             clauses = clauses;
             count = count;
             words = words;
-            empty = empty.0;
-            steps = m;
+            empty = a.empty.0;
+            steps = a.steps;
             formula_fits = text.0;
             proof_fits = file.0;
             formula_read_lem = text.1;
             proof_read = file.1;
             accepted = q;
           }
-      judged prefix clauses words count e f (Refused r) q k = absurd (unlike r k)
+      judged prefix clauses words count e f (Err r) q k = absurd (unlike r k)
 
       proved :
           (prefix clauses : List ℤ) (count : ℕ) → settled room.file formula room.prefix room.clauses ≡ read prefix clauses count

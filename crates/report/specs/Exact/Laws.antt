@@ -1,5 +1,6 @@
 -- Wish 2 from bytes to bytes: within bounds and room the line is an `accepted` line exactly when the files refute, and its four
 -- numbers are theirs; then for the room of 01's programs, where nothing is supposed but that the files are bytes. Assumes nothing.
+use Rattle.checker.specs.Verdict.{Verdict, accept}
 use Prim.Native.Nat.{ℕ, suc, ◌+◌, ◌*◌, ◌-◌, ◌≤◌}
 use Rattle.std.specs.Prelude.{◌≡◌, refl, ◌↔◌, ◌⊎◌, List, length, take, get_or}
 use Rattle.std.proofs.Common.{ap, ◌∙◌, inl, inr, arith, le-leb}
@@ -16,7 +17,6 @@ use Rattle.prooffile.specs.File.{read as readSteps}
 use Rattle.prooffile.specs.File.Passed.{Bytes}
 use Rattle.prooffile.specs.File.Laws.{read_fits}
 use Rattle.prooffile.specs.File.Layout.Laws.{file_of_length, layout_read, read_layout}
-use Rattle.checker.specs.declared.verdict.Verdict.TheVariants.{Accepted}
 use Rattle.inference.specs.Lawful.{numbered_clauses}
 use Rattle.checker.specs.Refutation.{FirstEmpty}
 use Rattle.checker.specs.Refutation.Ending.{ends_some, unended_first, accepting_refutation}
@@ -73,7 +73,7 @@ module _ (room : Room) (formula proof : List ℕ) (within : FilesWithin room for
       rw r.laid_out (layout_read r.note r.words r.count fits.1.sized room.steps fits.0 r.signed) in
       let file : settled_proof room.file proof r.count room.steps ≡ readSteps r.words =
       rw (le-leb (length proof) room.file within.proof_fits, steps) in
-      let verdict : verdict_of plain_rules r.prefix r.clauses r.words room.scratch room.offsets ≡ Accepted (record { 0 = suc place }) (length r.refutation.steps) =
+      let verdict : verdict_of plain_rules r.prefix r.clauses r.words room.scratch room.offsets ≡ accept (record { 0 = suc place }) (length r.refutation.steps) =
       refutation_accepted plain_rules r.prefix r.clauses r.words room.scratch room.offsets (suc place) (length r.refutation.steps)
       (record {
         admitted = (read_admitted formula room.prefix room.clauses r.prefix r.clauses r.count r.reads).admitted;

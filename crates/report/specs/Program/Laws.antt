@@ -1,9 +1,11 @@
 -- Buffers of the right lengths are the programs' room; what is printed fits; and of a formula that is refused the line is the
 -- same whatever the proof. Assumes nothing.
+use Rattle.std.specs.Prelude.{is_ok, Ok, Err, Result}
+use Rattle.formula.specs.declared.refusal.Refusal.{Refusal}
+use Rattle.formula.specs.declared.read.Filled.{Filled}
 use Rattle.std.specs.Prelude.{ℕ, ◌≤◌, ◌≡◌, refl, true, false, List, length, leb, ℤ}
-use Rattle.std.proofs.Common.{ap, arith, le-leb}
+use Rattle.std.proofs.Common.{◌∙◌, ap, arith, le-leb}
 use Rattle.formula.specs.Text.{Reading, read, refused}
-use Rattle.formula.specs.declared.read.ReadAnswer.{ReadAnswer}
 use Rattle.report.specs.Line.{settled, used, held}
 use Rattle.report.specs.Check.{Room, proof_line, check_line, LineChecked}
 use Rattle.report.specs.Dependents.{dependency_text, LinesPrinted}
@@ -57,11 +59,14 @@ text_printed {room} {formula} f p c s printed =
 
 -- What `settle_formula` answered says whether the formula is read.
 pub settled_tells :
-    {formula : List ℕ} {prefixRoom clauseRoom : ℕ} {prefix clauses : List ℤ} {answer found : ReadAnswer} → prefixRoom ≡ program_room.prefix → clauseRoom ≡ program_room.clauses
-    → FormulaSettled program_room.file formula prefixRoom clauseRoom prefix clauses answer → answer ≡ found
-    → formula_read program_room formula ≡ is_read (tables_read found prefix clauses)
+    {formula : List ℕ} {prefixRoom clauseRoom : ℕ} {prefix clauses : List ℤ} {answer : Result Filled Refusal} → prefixRoom ≡ program_room.prefix → clauseRoom ≡ program_room.clauses
+    → FormulaSettled program_room.file formula prefixRoom clauseRoom prefix clauses answer → formula_read program_room formula ≡ is_ok answer
 unfolding formula_read
-settled_tells p c s e = rw (← p, ← c, ← e) (ap is_read s.settles)
+settled_tells {formula} {prefixRoom} {clauseRoom} {prefix} {clauses} {answer} p c s = rw (← p, ← c) (ap is_read s.settles ∙ told answer)
+  where
+    told : (a : Result Filled Refusal) → is_read (tables_read a prefix clauses) ≡ is_ok a
+    told (Ok f) = refl
+    told (Err r) = refl
 
 -- 01, "Programs": "the formula settled before the proof file is looked at".
 pub refused_whatever_proof : (room : Room) (formula proof other : List ℕ) → formula_read room formula ≡ false → check_line room formula proof ≡ check_line room formula other

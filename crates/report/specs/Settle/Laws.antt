@@ -1,4 +1,6 @@
 -- How a file is settled, by the test on its length: too long, or as it is read. Assumes nothing.
+use Rattle.std.specs.Prelude.{Some, None, Result, Ok, Err}
+use Rattle.formula.specs.declared.read.Filled.{Filled}
 use Rattle.std.specs.Prelude.{ℕ, ◌-◌, ◌≤◌, Bool, true, false, List, take, replicate, leb, ℤ, pos}
 use Rattle.std.proofs.Math.Path.{◌≡◌, refl}
 use Rattle.std.proofs.Common.{ap, ◌∙◌, arith, length-append}
@@ -8,26 +10,21 @@ use Rattle.formula.specs.Refusal.{refusal}
 use Rattle.formula.proofs.Theorems.Tables.Laws.{admitted_count}
 use Rattle.formula.specs.Text.{Reading, read, refused, reading, read_answer, prefix_read, clauses_read, padded, ReadPost}
 use Rattle.formula.proofs.Theorems.Text.Admits.{read_admitted}
-use Rattle.formula.specs.declared.read.ReadAnswer.{ReadAnswer}
-use Rattle.formula.specs.declared.read.ReadAnswer.TheVariants.{Read, Refused}
 use Rattle.formula.specs.declared.refusal.Refusal.{Refusal}
 use Rattle.formula.specs.declared.refusal.Reason.TheVariants.{Oversized}
 use Rattle.prooffile.specs.File.{ProofReading, proof_reading, proof_answer, step_table, ProofRead}
 use Rattle.prooffile.specs.File.{read as readSteps, refused as refusedFile}
-use Rattle.prooffile.specs.declared.file.ProofAnswer.{ProofAnswer}
-use Rattle.prooffile.specs.declared.file.ProofAnswer.TheVariants.{Read as ReadSteps, Refused as RefusedFile}
 use Rattle.report.specs.Line.{settled}
 use Rattle.report.specs.Settle.{file_fit, tables_read, FormulaSettled, steps_read, ProofSettled}
 use Rattle.report.specs.Check.{settled_proof}
 use Rattle.report.specs.declared.settle.FileLength.{FileLength}
-use Rattle.report.specs.declared.settle.FileFit.TheVariants.{Within as FileWithin, Oversized as FileOversized}
 
 -- What the test on a length answered.
-pub fit_within : (b : Bool) (n : ℕ) (l : FileLength) → file_fit b n ≡ FileWithin l → b ≡ true
+pub fit_within : (b : Bool) (n : ℕ) (l : FileLength) → file_fit b n ≡ Some l → b ≡ true
 fit_within true n l e = refl
 fit_within false n l e = let z : ◌≡◌ {A = ℕ} 0 1 = cc in absurd (omega arith)
 
-pub fit_oversized : (b : Bool) (n : ℕ) → file_fit b n ≡ FileOversized → b ≡ false
+pub fit_oversized : (b : Bool) (n : ℕ) → file_fit b n ≡ None → b ≡ false
 fit_oversized true n e = let z : ◌≡◌ {A = ℕ} 0 1 = cc in absurd (omega arith)
 fit_oversized false n e = refl
 
@@ -38,18 +35,21 @@ padded_used room words = take-append_seam words (replicate (room - length words)
 pub padded_within : (room : ℕ) (words : List ℤ) → length words ≤ length (padded room words)
 padded_within room words = simp length-append (omega arith)
 
+filled_same : (f g : Filled) → ◌≡◌ {A = Result Filled Refusal} (Ok f) (Ok g) → f ≡ g
+filled_same f g h = cc
+
 -- The file is too long for `bound`, or is read.
 module _ (bound : ℕ) (file : List ℕ) where
-  pub formula_oversized : (prefixRoom clauseRoom : ℕ) (prefix clauses : List ℤ) → leb (length file) bound ≡ false → FormulaSettled bound file prefixRoom clauseRoom prefix clauses (Refused (refusal Oversized 0))
+  pub formula_oversized : (prefixRoom clauseRoom : ℕ) (prefix clauses : List ℤ) → leb (length file) bound ≡ false → FormulaSettled bound file prefixRoom clauseRoom prefix clauses (Err (refusal Oversized 0))
   unfolding settled
   formula_oversized prefixRoom clauseRoom prefix clauses e =
       record {
         settles = rw e;
-        within = λ p c count f. let z : ◌≡◌ {A = ℕ} 0 1 = cc in absurd (omega arith);
+        within = λ f h. let z : ◌≡◌ {A = ℕ} 0 1 = cc in absurd (omega arith);
       }
 
   pub formula_read_lem :
-      (before-prefix before-clauses prefix clauses : List ℤ) (answer : ReadAnswer)
+      (before-prefix before-clauses prefix clauses : List ℤ) (answer : Result Filled Refusal)
       → leb (length file) bound ≡ true → ReadPost file before-prefix before-clauses prefix clauses answer
       → FormulaSettled bound file (length before-prefix) (length before-clauses) prefix clauses answer
   unfolding settled
@@ -62,21 +62,19 @@ module _ (bound : ℕ) (file : List ℕ) where
           rw (a, f, g)
           (record {
             settles = rw (e, q, padded_used (length p₀) ps, padded_used (length c₀) cs);
-            within = λ p c count h.
+            within = λ f h.
                 let l = read_admitted file (length p₀) (length c₀) ps cs n q in
-                let x : p ≡ length ps = cc in
-                let y : c ≡ length cs = cc in
-                let z : count ≡ n = cc in
-                (rw x (padded_within (length p₀) ps), rw y (padded_within (length c₀) cs), omega (arith, z, l.counted, admitted_count ps cs l.admitted));
+                rw (← filled_same (record { prefix_used = length ps; clauses_used = length cs; clauses = n }) f h)
+                (padded_within (length p₀) ps, padded_within (length c₀) cs, omega (arith, l.counted, admitted_count ps cs l.admitted));
           })
       go (refused r) q a f g =
           rw a
           (record {
             settles = rw (e, q);
-            within = λ p c count h. let z : ◌≡◌ {A = ℕ} 0 1 = cc in absurd (omega arith);
+            within = λ f h. let z : ◌≡◌ {A = ℕ} 0 1 = cc in absurd (omega arith);
           })
 
-  pub proof_oversized : (count room : ℕ) (steps : List ℤ) → leb (length file) bound ≡ false → ProofSettled bound file count room steps (RefusedFile (refusal Oversized 0))
+  pub proof_oversized : (count room : ℕ) (steps : List ℤ) → leb (length file) bound ≡ false → ProofSettled bound file count room steps (Err (refusal Oversized 0))
   unfolding settled_proof
   proof_oversized count room steps e =
       record {
@@ -85,7 +83,7 @@ module _ (bound : ℕ) (file : List ℕ) where
       }
 
   pub proof_read :
-      (count : ℕ) (before steps : List ℤ) (answer : ProofAnswer)
+      (count : ℕ) (before steps : List ℤ) (answer : Result ℕ Refusal)
       → leb (length file) bound ≡ true → ProofRead file count before steps answer → ProofSettled bound file count (length before) steps answer
   unfolding settled_proof
   proof_read count before steps answer e post = go (proof_reading file count (length before)) refl post.answer post.steps
@@ -105,16 +103,16 @@ module _ (bound : ℕ) (file : List ℕ) where
           })
 
 -- Read off one answer.
-module _ {bound : ℕ} {file : List ℕ} {prefixRoom clauseRoom : ℕ} {prefix clauses : List ℤ} {answer : ReadAnswer} (s : FormulaSettled bound file prefixRoom clauseRoom prefix clauses answer) where
-  pub formula_settled_read : {p c count : ℕ} → answer ≡ Read p c count → settled bound file prefixRoom clauseRoom ≡ read (take p prefix) (take c clauses) count
+module _ {bound : ℕ} {file : List ℕ} {prefixRoom clauseRoom : ℕ} {prefix clauses : List ℤ} {answer : Result Filled Refusal} (s : FormulaSettled bound file prefixRoom clauseRoom prefix clauses answer) where
+  pub formula_settled_read : {f : Filled} → answer ≡ Ok f → settled bound file prefixRoom clauseRoom ≡ read (take f.prefix_used prefix) (take f.clauses_used clauses) f.clauses
   formula_settled_read e = s.settles ∙ ap (λ a. tables_read a prefix clauses) e
 
-  pub formula_settled_refused : {r : Refusal} → answer ≡ Refused r → settled bound file prefixRoom clauseRoom ≡ refused r
+  pub formula_settled_refused : {r : Refusal} → answer ≡ Err r → settled bound file prefixRoom clauseRoom ≡ refused r
   formula_settled_refused e = s.settles ∙ ap (λ a. tables_read a prefix clauses) e
 
-module _ {bound : ℕ} {file : List ℕ} {count room : ℕ} {steps : List ℤ} {answer : ProofAnswer} (s : ProofSettled bound file count room steps answer) where
-  pub proof_settled_read : {n : ℕ} → answer ≡ ReadSteps n → settled_proof bound file count room ≡ readSteps (take n steps)
+module _ {bound : ℕ} {file : List ℕ} {count room : ℕ} {steps : List ℤ} {answer : Result ℕ Refusal} (s : ProofSettled bound file count room steps answer) where
+  pub proof_settled_read : {n : ℕ} → answer ≡ Ok n → settled_proof bound file count room ≡ readSteps (take n steps)
   proof_settled_read e = s.settles ∙ ap (λ a. steps_read a steps) e
 
-  pub proof_settled_refused : {r : Refusal} → answer ≡ RefusedFile r → settled_proof bound file count room ≡ refusedFile r
+  pub proof_settled_refused : {r : Refusal} → answer ≡ Err r → settled_proof bound file count room ≡ refusedFile r
   proof_settled_refused e = s.settles ∙ ap (λ a. steps_read a steps) e

@@ -1,29 +1,21 @@
--- Words filled up with dots: where one ends, and that its row of the list is the word of the table. Definitions: Word. Assumes nothing.
-use Rattle.std.specs.Prelude.{ℕ, zero, suc, ◌+◌, ◌-◌, ◌≤◌, ◌<◌, ◌≡◌, refl, Bool, true, false, ◌&&◌, List, [], ◌∷◌, eqb, length, get_or, take, drop}
-use Rattle.std.proofs.Common.{ap, ◌∙◌, le_of_suc-le-suc, not-suc-le-zero, arith, drop-cons, drop-drop}
+-- Words filled up with dots: the bytes of the word stand first, and a row of the list is the word of the table. Definitions: Word. Assumes nothing.
+use Rattle.std.specs.Prelude.{◌+◌}
+use Rattle.std.specs.Prelude.{drop}
+use Rattle.std.proofs.Common.{drop-cons}
+use Rattle.std.proofs.Common.{drop-drop}
+use borrow.Author.Tests.{ne_eqb}
+use Rattle.std.proofs.Math.Seq.{drop-nil}
+use Rattle.std.proofs.Math.Seq.{drop-length}
+use Rattle.std.specs.Prelude.{ℕ, zero, suc, ◌-◌, ◌≤◌, ◌<◌, ◌≡◌, refl, Bool, true, false, ◌&&◌, List, [], ◌∷◌, eqb, length, get_or, take}
+use Rattle.std.proofs.Common.{ap, ◌∙◌, le_of_suc-le-suc, not-suc-le-zero, arith}
 use Rattle.std.proofs.lemmas.Bool.{false≢true}
-use borrow.Author.Tests.{eqb-true, ne_eqb}
-use Rattle.std.proofs.Math.Seq.{drop-nil, drop-length}
+use borrow.Author.Tests.{eqb-true}
 use Rattle.qbf.specs.Connectives.{and_both}
 use Rattle.formula.specs.Refusal.{number, Named, named, table, row_at, word, TaggedNumber}
 use Rattle.formula.specs.declared.refusal.Reason.{Reason}
 use Rattle.formula.specs.declared.refusal.Reason.TheVariants.{Headless}
 use Rattle.scanner.specs.Token.{same}
 use Rattle.report.specs.Word.{word_in, before_dot, filled}
-
--- A word filled up with dots, from a place on: at a dot it ends, any other byte is one of it.
-module _ (bs : List ℕ) (i : ℕ) (within : i < length bs) where
-  pub word_dot : get_or bs i 0 ≡ 46 → length (word_in (drop i bs)) ≡ 0
-  unfolding word_in
-  word_dot e = rw (drop-cons bs i 0 within, e)
-
-  pub word_byte : (get_or bs i 0 ≡ 46 → ⊥) → length (word_in (drop i bs)) ≡ suc (length (word_in (drop (suc i) bs)))
-  unfolding word_in
-  word_byte n = rw (drop-cons bs i 0 within, ne_eqb (get_or bs i 0) 46 n)
-
-pub word_end : (bs : List ℕ) (i : ℕ) → length bs ≤ i → length (word_in (drop i bs)) ≡ 0
-unfolding word_in
-word_end bs i h = let e : i ≡ length bs + (i - length bs) = omega arith in rw (e, ← drop-drop (i - length bs) (length bs) bs, drop-length bs, drop-nil (i - length bs))
 
 -- The bytes of the word stand first.
 pub word_first : (bs : List ℕ) → take (length (word_in bs)) bs ≡ word_in bs
@@ -81,3 +73,16 @@ module _ (ws : List (List ℕ)) (f : filled ws table ≡ true) (n : ℕ) (t : Ta
 
   pub row_word : (r : Reason) → n ≡ number r → word_in (get_or ws (n - 1) []) ≡ word r
   row_word r e = (filled_at ws table f (n - 1) (omega (arith, t.1, t.2))).1 ∙ ap (λ (m : ℕ). (row_at m).bytes) e
+
+module _ (bs : List ℕ) (i : ℕ) (within : i < length bs) where
+  pub word_dot : get_or bs i 0 ≡ 46 → length (word_in (drop i bs)) ≡ 0
+  unfolding word_in
+  word_dot e = rw (drop-cons bs i 0 within, e)
+
+  pub word_byte : (get_or bs i 0 ≡ 46 → ⊥) → length (word_in (drop i bs)) ≡ suc (length (word_in (drop (suc i) bs)))
+  unfolding word_in
+  word_byte n = rw (drop-cons bs i 0 within, ne_eqb (get_or bs i 0) 46 n)
+
+pub word_end : (bs : List ℕ) (i : ℕ) → length bs ≤ i → length (word_in (drop i bs)) ≡ 0
+unfolding word_in
+word_end bs i h = let e : i ≡ length bs + (i - length bs) = omega arith in rw (e, ← drop-drop (i - length bs) (length bs) bs, drop-length bs, drop-nil (i - length bs))

@@ -1,5 +1,5 @@
 -- Tokens as the code finds and shows them: a number is kept below a bound, a run of bytes is read digit by digit, a token has its position.
-use Rattle.std.specs.Prelude.{ℕ, suc, ◌+◌, ◌*◌, ◌-◌, min, ◌<◌, ◌≡◌, Bool, true, false, ◌||◌, ◌&&◌, cond, List, [], ◌∷◌, drop, take, length, get_or, ltb}
+use Rattle.std.specs.Prelude.{ℕ, suc, ◌+◌, ◌*◌, ◌-◌, min, ◌<◌, ◌≡◌, Bool, true, false, ◌||◌, ◌&&◌, cond, if◌then◌else◌, List, [], ◌∷◌, drop, take, length, get_or, ltb, Option, Some, None}
 use Rattle.scanner.specs.Position.{position_at}
 use Rattle.scanner.specs.Position.Cursor.{PositionIn}
 use Rattle.scanner.specs.Token.{is_digit, is_blank, Token, tokens_at, Number, natural, negative, no_number, all_digits, value_from, number_of}
@@ -45,18 +45,22 @@ no_leading_zero (b ∷ c ∷ bs) = ltb 48 b
 abbrev pub is_plain : List ℕ → Bool
 is_plain bytes = all_digits bytes && no_leading_zero bytes
 
--- What was read of a run with one more byte.
+-- The value of a run, if it is plain.
+abbrev pub read_value : List ℕ → Option ℕ
+read_value bytes = if is_plain bytes then Some (min (value_from 0 bytes) too_large) else None
+
+-- What was read of a run with one more byte: a value where that byte is a digit, the first of the run or behind a value that is not 0.
+abbrev pub more_value : Option ℕ → Bool → ℕ → Option ℕ
+more_value None first b = None
+more_value (Some n) first b = if is_digit b && (first || ltb 0 n) then Some (numeral n b) else None
+
 abbrev pub more_digits : Digits → Bool → ℕ → Digits
-more_digits r first b =
-    cond ((r.plain && is_digit b) && (first || ltb 0 r.value))
-    (record { plain = true; value = numeral r.value b; end = r.end + 1 })
-    (record { plain = false; value = r.value; end = r.end + 1 })
+more_digits r first b = record { value = more_value r.value first b; end = r.end + 1 }
 
 -- What `read_digits` answers of the run at a place.
 pub record DigitsRead (text : List ℕ) (from : ℕ) (r : Digits) : Type 0 where
   pub ends : r.end ≡ from + solid (drop from text)
-  pub is_plain_lem : r.plain ≡ is_plain (run_at text from)
-  pub is_value : r.plain ≡ true → r.value ≡ min (value_from 0 (run_at text from)) too_large
+  pub is_value : r.value ≡ read_value (run_at text from)
 
 -- The contract of `skip_blanks`: from `r` on the tokens are the same, and no blank stands at `r`.
 pub record SkipPost (text : List ℕ) (at : ℕ) (r : Position) : Type 0 where

@@ -1,17 +1,16 @@
 -- `qdr_evaluate` tells the value of the game, or the refusal. Assumes nothing.
+use Rattle.std.specs.Prelude.{◌≡◌, refl, Bool, true, false}
+use mir.Val.{bool_byte}
+use Rattle.bits.specs.Flags.{flag}
 use Rattle.capi.proofs.tables.qdr_evaluate.Goals as goal
 
-pub returns-in-True : goal.returns-in-True
-returns-in-True c =
-    let made = c in
-    record { answer = made.evaluate.result; promised = made.evaluate.ensures; told = rw c.in-True.is c.accept.ensures }
+-- a test as a number
+number : (b : Bool) → bool_byte b ≡ flag b
+number true = refl
+number false = refl
 
-pub returns-in-False : goal.returns-in-False
-returns-in-False c =
-    let made = c in
-    record { answer = made.evaluate.result; promised = made.evaluate.ensures; told = rw c.in-False.is c.accept-in-False.ensures }
+pub returns-in-Ok : goal.returns-in-Ok
+returns-in-Ok c = record { answer = c.evaluate.result; promised = c.evaluate.ensures; told = rw (c.in-Ok.is, ← number c.in-Ok.value) c.accept.ensures }
 
-pub returns-in-Refused : goal.returns-in-Refused
-returns-in-Refused c =
-    let made = c in
-    record { answer = made.evaluate.result; promised = made.evaluate.ensures; told = rw c.in-Refused.is c.refuse.ensures }
+pub returns-in-Err : goal.returns-in-Err
+returns-in-Err c = record { answer = c.evaluate.result; promised = c.evaluate.ensures; told = rw c.in-Err.is c.refuse.ensures }

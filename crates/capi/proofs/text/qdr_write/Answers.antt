@@ -1,12 +1,12 @@
 -- `qdr_write` tells the bytes used, or the refusal. Assumes nothing.
 use Rattle.capi.proofs.text.qdr_write.Goals as goal
 
-pub returns-in-Written : goal.returns-in-Written
-returns-in-Written c =
+pub returns-in-Ok : goal.returns-in-Ok
+returns-in-Ok c =
     let made = c in
-    record { answer = made.write_formula.result; promised = made.write_formula.ensures; told = rw c.in-Written.is c.accept.ensures }
+    record { answer = made.write_formula.result; promised = made.write_formula.ensures; told = rw c.in-Ok.is c.accept.ensures }
 
-pub returns-in-Refused : goal.returns-in-Refused
-returns-in-Refused c =
+pub returns-in-Err : goal.returns-in-Err
+returns-in-Err c =
     let made = c in
-    record { answer = made.write_formula.result; promised = made.write_formula.ensures; told = rw c.in-Refused.is c.refuse.ensures }
+    record { answer = made.write_formula.result; promised = made.write_formula.ensures; told = rw c.in-Err.is c.refuse.ensures }

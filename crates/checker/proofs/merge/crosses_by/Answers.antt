@@ -1,31 +1,30 @@
--- `crosses_by` lends the marks and the flags. Assumes nothing.
-use mathlib.Core.Path.{◌≡◌, sym}
-use native.Mathlib.Omega.{arith}
+-- `crosses_by` asks each word by the marks and the flags. Assumes nothing.
+use mathlib.Core.Path.{◌≡◌, ◌∙◌}
 use borrow.Author.Rules.{rules}
-use borrow.Rule.Slice.PartMut.{mid_len}
-use lib.ListN.{length, take}
-use lib.Seq.{length-take-le}
-use mir.Syntax.{w32}
-use mir.Val.{to_z, of_z}
-use Rattle.checker.proofs.merge.crosses_by.Tie as tie
-use Rattle.checker.proofs.merge.crosses_by.Lts as lts
-use Rattle.checker.proofs.merge.crosses_by.Reads as reads
+use lib.ListN.{take, drop}
+use lib.IntN.{ℤ}
+use Rattle.inference.specs.Clause.{words_of}
+use Rattle.inference.specs.Words.{without, InRange}
+use Rattle.inference.specs.Marks.{alone, marks_in}
+use Rattle.bits.specs.Flags.{flags}
+use Rattle.checker.specs.Step.{marks_of}
+use Rattle.checker.specs.Merge.{universals_in, flagged, crosses_by}
+use Rattle.checker.specs.Merge.Laws.{crosses_any}
 use Rattle.checker.proofs.merge.crosses_by.Goals as goal
 
--- the marks' length
-marks_length : (start : lts.Start tie.the-claims reads.Pre reads.Post tie.handed_clauses) → length (take 256 start.args.scratch.now) ≡ 256
-marks_length start = length-take-le 256 start.args.scratch.now (let e = start.requires.fact_1 in omega arith)
-
-pub crosses_clause-requires : goal.crosses_clause-requires
-crosses_clause-requires c =
-    let start = c.before.before.before in
-    record { fact_1 = marks_length start; fact_2 = mid_len 512 640 start.args.scratch.now (let e = start.requires.fact_1 in omega arith); fact_3 = start.requires.fact_2 }
+pub any_word-requires : goal.any_word-requires
+any_word-requires c x m =
+    let word : InRange x = c.args.clause.in_range x m in
+    search rules
 
 pub returns : goal.returns
 returns c =
-    let except = c.args.except in
-    let e : to_z w32 (of_z w32 except) ≡ except = search rules in
-    rw e at c.crosses_clause.ensures
-
-pub slice_bounds-crosses_clause-end : goal.slice_bounds-crosses_clause-end
-slice_bounds-crosses_clause-end c = sym (marks_length c.before.before)
+    let s = c.args.scratch.now in
+    let told = crosses_by (marks_of s) (universals_in s) in
+    let marks : c.unwrap-marks.result.now ≡ take 256 s = search rules in
+    let mergeable : c.unwrap-mergeable.result.now ≡ take 128 (drop 512 s) = search rules in
+    c.any_word.ensures (λ (x : ℤ). told (without c.args.except (alone x)))
+    (λ x b m h.
+    let k : b ≡ crosses_by (marks_in c.unwrap-marks.result.now) (flags c.unwrap-mergeable.result.now) (without c.args.except (alone x)) = search rules in
+    rw (marks, mergeable) at k)
+    ∙ crosses_any (flagged (universals_in s)) (marks_of s) c.args.except (words_of c.args.clause)

@@ -8,4 +8,4 @@ returns c =
     let numbers = c in
     let bytes = numbers.before.before.before.before in
     let start = bytes.before.before.before.before in
-    (bytes.clear_bytes.ensures ∙ cleared_whole start.args.scratch.now, numbers.clear_numbers.ensures ∙ cleared_whole start.args.offsets.now)
+    (bytes.clear_tail.ensures ∙ cleared_whole start.args.scratch.now, numbers.clear_tail-2.ensures ∙ cleared_whole start.args.offsets.now)

@@ -1,9 +1,7 @@
 -- `row_for`: a kept row of the variable is its row; making one leaves 0 on both sides of it, and the existentials are filled in behind it.
 -- Assumes nothing.
 use mathlib.Core.Path.{◌≡◌, ap, ◌∙◌}
-use native.Mathlib.Omega.{arith}
 use lib.ListN.{length, take}
-use borrow.Rule.Slice.PartMut.{same_len_mid}
 use Rattle.qbf.specs.Formula.{universal}
 use Rattle.formula.proofs.Theorems.Tables.Laws.{admitted_entries}
 use Rattle.inference.specs.Existentials.Laws.{listed_ranged}
@@ -15,31 +13,21 @@ use Rattle.checker.proofs.reduce.row_for.Goals as goal
 
 -- the scratch keeps its length
 made_size : (c : lts.After-make_row tie.the-claims reads.Pre reads.Post tie.handed_clauses) → length c.make_row.new.work ≡ 640
-made_size c = c.make_row.auto.work ∙ c.requires.fact_1.ready.size
-
-pub make_row-requires : goal.make_row-requires
-make_row-requires c = let p = c.requires in record { admitted = p.fact_2; variable_value = p.fact_3; work_len = p.fact_1.ready.size }
+made_size c = c.make_row.auto.work ∙ c.requires.kept_ready.ready.size
 
 pub fill_quantified-requires : goal.fill_quantified-requires
 fill_quantified-requires c =
     let made = c.before.before.before in
     let start = made.before.before.before.before.before in
-    record { fact_1 = admitted_entries start.args.prefix.now start.args.clauses.now start.requires.fact_2; fact_2 = ap (take 128) made.make_row.ensures.rest }
-
-pub shape_of-scratch : goal.shape_of-scratch
-shape_of-scratch c =
-    let filled = c.before.before.before in
-    let made = filled.before.before.before.before in
-    same_len_mid 384 128 made.make_row.new.work filled.fill_quantified.new.bytes filled.fill_quantified.auto.bytes
-    ∙ made.make_row.auto.work
+    record { entries = admitted_entries start.args.prefix.now start.args.clauses.now start.requires.admitted; cleared = ap (take 128) made.make_row.ensures.rest }
 
 pub returns-then-kept-variable : goal.returns-then-kept-variable
 returns-then-kept-variable c =
     let start = c.before.before.before.before in
     let prefix = start.args.prefix.now in
     let clauses = start.args.clauses.now in
-    let ranged = listed_ranged prefix (admitted_entries prefix clauses start.requires.fact_2) universal start.args.variable.0 start.requires.fact_3 in
-    kept_row prefix clauses start.args.scratch.now start.requires.fact_1 c.if-kept-variable.true ranged.0
+    let ranged = listed_ranged prefix (admitted_entries prefix clauses start.requires.admitted) universal start.args.variable.0 start.requires.variable_universal in
+    kept_row prefix clauses start.args.scratch.now start.requires.kept_ready c.if-kept-variable.true ranged.0
 
 pub returns : goal.returns
 returns c =
@@ -53,6 +41,3 @@ returns c =
       row = filled_row start.args.prefix.now scratch bytes (made_size made) part ∙ made.make_row.ensures.row;
       ready = filled_ready start.args.prefix.now scratch bytes (made_size made) part made.make_row.ensures.front filled.fill_quantified.ensures;
     }
-
-pub slice_bounds-fill_quantified-end : goal.slice_bounds-fill_quantified-end
-slice_bounds-fill_quantified-end c = let e = made_size c.before.before.before in omega arith

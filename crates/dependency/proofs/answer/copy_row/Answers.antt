@@ -13,24 +13,16 @@ use Rattle.dependency.proofs.answer.copy_row.Goals as goal
 
 pub loop-i-init : goal.loop-i-init
 unfolding asked_bytes
-loop-i-init c = (refl, search rules, refl)
-
-pub bounds-row-i : goal.bounds-row-i
-bounds-row-i c = omega (arith, c.loop-i.invariant.2, c.requires.in_bounds)
+loop-i-init c = (refl, refl)
 
 pub loop-i-preserved : goal.loop-i-preserved
 loop-i-preserved c =
     let l = c.loop-i in
-    let start = c in
-    let R = row_in start.args.scratch.now in
-    let h : l.i < length start.args.row.now = omega (arith, start.requires.in_bounds) in (
-      rw (add-one, c.asked_byte.ensures) (ap (λ (r : List _). set r l.i (asked_byte R l.i)) l.invariant.0 ∙ asked_step R start.args.row.now l.i h),
-      search rules,
-      simp length-set l.invariant.2,
+    let R = row_in c.args.made.now in
+    let h : l.i < length c.args.row.now = omega (arith, c.requires) in (
+      rw (add-one, c.from.ensures, c.depends_in.ensures) (ap (λ (r : List _). set r l.i (asked_byte R l.i)) l.invariant.0 ∙ asked_step R c.args.row.now l.i h),
+      simp length-set l.invariant.1,
     )
-
-pub shape_of-row : goal.shape_of-row
-shape_of-row c = c.loop-i.invariant.2
 
 pub returns : goal.returns
 returns c =

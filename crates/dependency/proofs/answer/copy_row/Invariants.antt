@@ -1,5 +1,4 @@
 -- `copy_row`: the bytes written so far stand before what the row's buffer still holds. Assumes nothing.
-use Prim.Native.Nat.{◌-◌, ◌≤◌}
 use mathlib.Core.Path.{◌≡◌}
 use mathlib.Core.List.{◌++◌}
 use lib.ListN.{length, drop}
@@ -8,7 +7,4 @@ use Rattle.dependency.specs.Answer.{asked_bytes}
 use Rattle.dependency.proofs.answer.copy_row.Given as goal
 
 abbrev pub invariant-loop-i : goal.invariant-loop-i
-invariant-loop-i l = (l.row ≡ asked_bytes (row_in l.scratch) l.i ++ drop l.i l.initial.row) × (l.i ≤ 1025) × (length l.row ≡ length l.initial.row)
-
-abbrev pub decreases-loop-i : goal.decreases-loop-i
-decreases-loop-i l = 1025 - l.i
+invariant-loop-i l = (l.row ≡ asked_bytes (row_in l.made) l.i ++ drop l.i l.initial.row) × (length l.row ≡ length l.initial.row)

@@ -1,42 +1,40 @@
--- `is_universal` runs down the prefix: a universal of the prefix is one of the entries left. Assumes nothing.
-use Prim.Native.Nat.{◌≤◌, ◌<◌}
-use mathlib.Core.Path.{refl, sym, ◌∙◌}
-use native.Mathlib.Numerals.{add-one}
+-- `is_universal` asks each place of the prefix: a universal of the prefix is one of its entries. Assumes nothing.
+use Prim.Native.Nat.{ℕ, zero, suc, ◌+◌, ◌≤◌, ◌<◌}
+use mathlib.Core.Path.{◌≡◌, ap, ◌∙◌}
+use mathlib.Core.Bool.{Bool, ◌&&◌, ◌||◌}
+use mathlib.Core.List.{List}
 use native.Mathlib.Omega.{arith}
-use lib.ListN.{drop_of_length-le}
-use Rattle.formula.specs.Prefix.{prefix_of, entry_count, quantifies}
+use lib.Dec.{eqb}
+use lib.IntN.{ℤ}
+use lib.ListN.{drop, drop_of_length-le}
+use Rattle.std.proofs.Common.{rules, tests}
+use Rattle.std.proofs.lemmas.Iterator.{YieldsList-from_range}
+use Rattle.std.proofs.lemmas.Iterator.Search.{any_from_yields_List}
+use Rattle.std.specs.List.{list_any, range_with_len}
+use Rattle.qbf.specs.Formula.{universal}
+use Rattle.formula.specs.Prefix.{prefix_of, entry_at, entry_count, is_quantifier, quantifies}
 use Rattle.formula.specs.Prefix.Laws.{entries_drop}
-use Rattle.dependency.proofs.answer.is_universal.Tie as tie
-use Rattle.dependency.proofs.answer.is_universal.Lts as lts
-use Rattle.dependency.proofs.answer.is_universal.Reads as reads
 use Rattle.dependency.proofs.answer.is_universal.Goals as goal
 
-within : (c : lts.In-loop tie.the-claims reads.Pre reads.Post goal.the-invariant-loop-i goal.the-decreases-loop-i tie.handed_clauses) → c.loop-i.i < entry_count c.args.prefix.now
-within c = omega (arith, c.entry_count-count.ensures, c.loop-i-test.true)
+-- the test at a place, and what it comes to over the places from i on
+abbrev universal_at : List ℤ → ℕ → ℕ → Bool
+universal_at ws v i = is_quantifier universal (entry_at ws i).quantifier && eqb (entry_at ws i).variable v
 
-pub is_universal_at-requires : goal.is_universal_at-requires
-is_universal_at-requires c = record { entries = c.requires; place_bound = within c }
-
-pub returns-then-is_universal_at : goal.returns-then-is_universal_at
+asked_from : (ws : List ℤ) (v n i : ℕ) → i + n ≡ entry_count ws → list_any (universal_at ws v) (range_with_len i n) ≡ quantifies universal (drop i (prefix_of ws)) v
 unfolding quantifies
-returns-then-is_universal_at c =
-    let loop = c.before.before in
-    let e = rw (entries_drop _ _ (within loop)) at loop.loop-i.invariant in
-    rw (sym c.is_universal_at.ensures ∙ c.if-is_universal_at.true) at e
-
-pub loop-i-preserved : goal.loop-i-preserved
-unfolding quantifies
-loop-i-preserved c =
-    let loop = c.before.before in
-    let e = rw (entries_drop _ _ (within loop)) at loop.loop-i.invariant in
-    rw add-one (rw (sym c.is_universal_at.ensures ∙ c.if-is_universal_at.false) at e)
+asked_from ws v zero i e =
+    let past : entry_count ws ≤ i = omega arith in
+    rw (drop_of_length-le (prefix_of ws) past)
+asked_from ws v (suc n) i e =
+    let within : i < entry_count ws = omega arith in
+    let next : i + 1 ≡ suc i = omega arith in
+    rw (entries_drop ws i within)
+    (ap (λ (b : Bool). universal_at ws v i || b) (asked_from ws v n (i + 1) (omega arith) ∙ ap (λ (j : ℕ). quantifies universal (drop j (prefix_of ws)) v) next))
 
 pub returns : goal.returns
-unfolding quantifies
 returns c =
-    let l = c.loop-i in
-    let h : entry_count c.args.prefix.now ≤ l.i = omega (arith, c.entry_count-count.ensures, c.loop-i-test.false) in
-    rw (drop_of_length-le (prefix_of c.args.prefix.now) h) at l.invariant
-
-pub loop-i-init : goal.loop-i-init
-loop-i-init c = refl
+    let ws = c.args.prefix.now in
+    let v = c.args.variable.0 in
+    let n = c.entry_count.result in
+    any_from_yields_List (universal_at ws v) _ _ c.any.result c.any.ensures.ran (YieldsList-from_range 0 n n (cc) (omega arith)) (λ x b q k. search (rules, tests))
+    ∙ asked_from ws v n 0 (omega arith)

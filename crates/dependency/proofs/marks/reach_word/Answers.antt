@@ -17,31 +17,26 @@ use Rattle.dependency.proofs.marks.reach_word.Reads as reads
 use Rattle.dependency.proofs.marks.reach_word.Goals as goal
 
 -- the place, and that it is among the marks
-slot_told : (c : lts.After-opposite_slot tie.the-claims reads.Pre reads.Post tie.handed_clauses) → c.opposite_slot-at.result ≡ slot_of (opposite (word_of c.args.word))
+slot_told : (c : lts.After-opposite_slot tie.the-claims reads.Pre reads.Post) → c.opposite_slot-at.result ≡ slot_of (opposite (word_of c.args.word))
 slot_told c =
     let w = c.args.word in
     let e : to_z w32 (of_z w32 w) ≡ w = search rules in
     rw e at c.opposite_slot-at.ensures
 
-within : (c : lts.After-opposite_slot tie.the-claims reads.Pre reads.Post tie.handed_clauses) → c.opposite_slot-at.result < 2050
+within : (c : lts.After-opposite_slot tie.the-claims reads.Pre reads.Post) → c.opposite_slot-at.result < 2050
 within c = rw (slot_told c) (opposite_slot_bound c.args.word)
 
 pub returns-then-at-lt2 : goal.returns-then-at-lt2
 returns-then-at-lt2 c s =
     let a = c.args in
-    reach_nothing a.word (marks_in s a.marks.now) (seen_by s a.positive a.negative) (rw (slot_told c.before.before) at c.if-at-lt2.true)
+    reach_nothing a.word (marks_in s a.marks.now) (seen_by s a.seen) (rw (slot_told c.before) at c.if-at-lt2.true)
 
-pub reach_at-requires : goal.reach_at-requires
-reach_at-requires c = record { fact_1 = c.requires; fact_2 = c.if-at-lt2.false; fact_3 = within c.before.before }
-
-pub reach_at-requires-2 : goal.reach_at-requires-2
-reach_at-requires-2 c =
-    let one = c.before.before.before in
-    record { fact_1 = one.reach_at.auto.marks ∙ one.requires; fact_2 = one.if-at-lt2.false; fact_3 = within one.before.before.before }
+pub invariant_of-slot : goal.invariant_of-slot
+invariant_of-slot c = record { among_marks = (c.if-at-lt2.false, within c.before.before) }
 
 -- for either search, from the marks m
 reached :
-    (c : lts.Else1 tie.the-claims reads.Pre reads.Post tie.handed_clauses) (m : List ℕ) (n : ℕ) → reach_at n (c.opposite_slot-at.result / 2) c.opposite_slot-at.result m ≡ reach_word n (word_of c.args.word) m
+    (c : lts.Else1 tie.the-claims reads.Pre reads.Post) (m : List ℕ) (n : ℕ) → reach_at n (c.opposite_slot-at.result / 2) c.opposite_slot-at.result m ≡ reach_word n (word_of c.args.word) m
 reached c m n =
     let at = slot_told c.before in
     ap (λ (p : ℕ). reach_at n (p / 2) p m) at
@@ -49,18 +44,12 @@ reached c m n =
 
 pub returns : goal.returns
 returns c true =
-    let two = c.before.before.before in
-    let one = two.before.before.before.before in
-    let test = one.before.before in
-    let a = test.args in
-    two.reach_at-2.ensures.other true (λ e. false≢true (sym e))
-    ∙ one.reach_at.ensures.own
-    ∙ reached test (marks_in true a.marks.now) a.positive
+    let a = c.args in
+    c.reach_at-2.ensures.other true (λ e. false≢true (sym e))
+    ∙ c.reach_at.ensures.own
+    ∙ reached c.before.before.before.before.before (marks_in true a.marks.now) a.seen.positive
 returns c false =
-    let two = c.before.before.before in
-    let one = two.before.before.before.before in
-    let test = one.before.before in
-    let a = test.args in
-    two.reach_at-2.ensures.own
-    ∙ ap (λ (m : List ℕ). reach_at a.negative (test.opposite_slot-at.result / 2) test.opposite_slot-at.result m) (one.reach_at.ensures.other false false≢true)
-    ∙ reached test (marks_in false a.marks.now) a.negative
+    let a = c.args in
+    c.reach_at-2.ensures.own
+    ∙ ap (λ (m : List ℕ). reach_at a.seen.negative (c.opposite_slot-at.result / 2) c.opposite_slot-at.result m) (c.reach_at.ensures.other false false≢true)
+    ∙ reached c.before.before.before.before.before (marks_in false a.marks.now) a.seen.negative

@@ -1,8 +1,6 @@
 -- `clause_entry` runs down the clause: what is left of it gives the same answers, and the same words come after it. Assumes nothing.
-use Prim.Native.Nat.{◌≤◌, ◌-◌}
 use mathlib.Core.Path.{◌≡◌}
 use mathlib.Core.Bool.{Bool}
-use lib.ListN.{length}
 use Rattle.formula.specs.Decode.{clause_at, words_after}
 use Rattle.dependency.specs.Marks.{clause_entry}
 use Rattle.dependency.specs.Bits.{marks_in, seen_by}
@@ -10,9 +8,5 @@ use Rattle.dependency.proofs.pass.clause_entry.Given as goal
 
 abbrev pub invariant-loop-i : goal.invariant-loop-i
 invariant-loop-i l =
-    ((s : Bool) → clause_entry (marks_in s l.marks) (seen_by s l.positive l.negative) (clause_at l.clauses l.i) ≡ clause_entry (marks_in s l.marks) 0 (clause_at l.clauses l.from))
+    ((s : Bool) → clause_entry (marks_in s l.marks) (seen_by s l.seen) (clause_at l.clauses l.i) ≡ clause_entry (marks_in s l.marks) 0 (clause_at l.clauses l.from))
     × (words_after l.clauses l.i ≡ words_after l.clauses l.from)
-    × (l.from ≤ l.i)
-
-abbrev pub decreases-loop-i : goal.decreases-loop-i
-decreases-loop-i l = length l.clauses - l.i

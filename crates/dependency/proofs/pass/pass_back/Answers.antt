@@ -19,41 +19,25 @@ loop-end-init c =
     let ws = c.args.clauses.now in
     let same : length ws ≤ length ws = omega arith in
     let none : drop (length ws) ws ≡ [] = drop_of_length-le ws same in
-    (λ s. rw none refl, refl, same, boundary_end ws)
-
-pub clause_start-from-requires : goal.clause_start-from-requires
-clause_start-from-requires c = record { fact_1 = c.loop-end-test.true; fact_2 = c.loop-end.invariant.2; fact_3 = c.loop-end.invariant.3 }
-
-pub pass_clause-requires : goal.pass_clause-requires
-pass_clause-requires c = c.loop-end.invariant.1 ∙ c.requires
-
-pub loop-end-smaller : goal.loop-end-smaller
-loop-end-smaller c = c.clause_start-from.ensures.before
+    (λ s. rw none refl, same, boundary_end ws)
 
 pub loop-end-preserved : goal.loop-end-preserved
 loop-end-preserved c =
     let started = c in
     let l = started.loop-end in
-    let begin = started.before.before.before.before in
+    let begin = started in
     let ws = begin.args.clauses.now in
     let m₀ = begin.args.marks.now in
     let from = started.clause_start-from.result in
     let r = started.clause_start-from.ensures in
     let C = clause_at ws from in
-    let within : from < length ws = omega (arith, r.before, l.invariant.2) in
+    let within : from < length ws = omega (arith, r.before, l.invariant.1) in
     let whole : clauses_of (drop from ws) ≡ C ∷ clauses_of (drop l.end ws) = clauses_at ws from within ∙ ap (λ (us : List ℤ). C ∷ clauses_of us) r.ends in (
       λ s.
           c.pass_clause.ensures.marks s
           ∙ ap (λ (k : List ℕ). reach_clause (clause_entry k 0 C) C k) (l.invariant.0 s)
           ∙ sym (pass_reverse C (clauses_of (drop l.end ws)) (marks_in s m₀))
           ∙ ap (λ (Ds : List (List ℤ)). pass (reverse Ds) (marks_in s m₀)) (sym whole),
-      c.pass_clause.auto.marks ∙ l.invariant.1,
       omega (arith, within),
       r.boundary,
     )
-
-pub returns : goal.returns
-returns c s =
-    let l = c.loop-end in
-    let none : l.end ≡ 0 = omega (arith, c.loop-end-test.false) in
-    rw none at (l.invariant.0 s)

@@ -11,7 +11,7 @@ use Rattle.dependency.proofs.pass.pass_back.Given as goal
 
 abbrev pub invariant-loop-end : goal.invariant-loop-end
 invariant-loop-end l =
-    ((s : Bool) → marks_in s l.marks ≡ pass (reverse (clauses_of (drop l.end l.clauses))) (marks_in s l.initial.marks)) × (length l.marks ≡ length l.initial.marks) × (l.end ≤ length l.clauses) × (Boundary l.clauses l.end)
+    ((s : Bool) → marks_in s l.marks ≡ pass (reverse (clauses_of (drop l.end l.clauses))) (marks_in s l.initial.marks)) × (l.end ≤ length l.clauses) × (Boundary l.clauses l.end)
 
 abbrev pub decreases-loop-end : goal.decreases-loop-end
 decreases-loop-end l = l.end

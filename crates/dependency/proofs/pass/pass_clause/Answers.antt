@@ -15,7 +15,7 @@ returns-then-entries c =
     let a = found.args in
     let e = found.clause_entry-entries.ensures in
     let r = found.clause_entry-entries.result in
-    let none = seen_both r.positive r.negative 0 c.if-entries.true in
+    let none = seen_both r.seen 0 c.if-entries.true in
     record {
       marks = λ s.
           sym
@@ -23,20 +23,4 @@ returns-then-entries c =
           ∙ reach_clause_none (clause_at a.clauses.now a.from) (marks_in s a.marks.now));
       later = e.later (none true);
       further = e.further;
-    }
-
-pub reach_clause-requires : goal.reach_clause-requires
-reach_clause-requires c = c.requires
-
-pub returns : goal.returns
-returns c =
-    let done = c.reach_clause.ensures in
-    let found = c in
-    let a = found.args in
-    record {
-      marks = λ s.
-          done.marks s
-          ∙ ap (λ (n : ℕ). reach_clause n (clause_at a.clauses.now a.from) (marks_in s a.marks.now)) (found.clause_entry-entries.ensures.seen s);
-      later = done.later;
-      further = done.further;
     }

@@ -10,7 +10,7 @@ use Rattle.dependency.proofs.pass.pass_forth.Given as goal
 
 abbrev pub invariant-loop-at : goal.invariant-loop-at
 invariant-loop-at l =
-    ((s : Bool) → pass (clauses_of (drop l.at l.clauses)) (marks_in s l.marks) ≡ pass (clauses_of l.clauses) (marks_in s l.initial.marks)) × (length l.marks ≡ length l.initial.marks)
+    ((s : Bool) → pass (clauses_of (drop l.at l.clauses)) (marks_in s l.marks) ≡ pass (clauses_of l.clauses) (marks_in s l.initial.marks))
 
 abbrev pub decreases-loop-at : goal.decreases-loop-at
 decreases-loop-at l = length l.clauses - l.at

@@ -1,21 +1,19 @@
 -- `reach_clause` runs down the clause: what is left of it gives the same marks. Assumes nothing.
 use Prim.Native.Nat.{ℕ}
-use mathlib.Core.Path.{◌≡◌, refl, sym, ◌∙◌}
+use mathlib.Core.Path.{◌≡◌, sym, ◌∙◌}
 use mathlib.Core.List.{List}
 use lib.IntN.{ℤ, pos}
 use mir.Syntax.{w32}
 use mir.Val.{to_z, of_z}
 use borrow.Author.Rules.{rules}
 use lib.ListN.{get_or}
-use Rattle.formula.specs.Decode.Places.{clause_literal, clause_zero, clause_past, after_literal, after_zero, after_past}
+use Rattle.formula.specs.Decode.Places.{clause_literal, clause_zero, clause_past, after_literal, after_zero}
 use Rattle.dependency.specs.Marks.{reach_clause}
+use Rattle.dependency.specs.Marks.Places.{after_end}
 use Rattle.dependency.proofs.pass.reach_clause.Goals as goal
 
 abbrev word_at_lem : List ℤ → ℕ → ℤ
 word_at_lem ws i = get_or ws i (pos 0)
-
-pub loop-i-init : goal.loop-i-init
-loop-i-init c = (λ s. refl, refl, search rules, refl)
 
 pub returns-then-is_zero : goal.returns-then-is_zero
 unfolding reach_clause
@@ -30,9 +28,6 @@ returns-then-is_zero c =
       further = λ h. search rules;
     }
 
-pub reach_word-requires : goal.reach_word-requires
-reach_word-requires c = c.loop-i.invariant.3 ∙ c.requires
-
 pub loop-i-preserved : goal.loop-i-preserved
 unfolding reach_clause
 loop-i-preserved c =
@@ -42,8 +37,6 @@ loop-i-preserved c =
     let k = sym (rw e at c.is_zero.ensures) ∙ c.if-is_zero.false in (
       λ s. rw ((rw e at c.reach_word.ensures) s) (rw (clause_literal ws l.i (search rules) k) at (l.invariant.0 s)),
       sym (after_literal ws l.i (search rules) k) ∙ l.invariant.1,
-      search rules,
-      c.reach_word.auto.marks ∙ l.invariant.3,
     )
 
 pub returns : goal.returns
@@ -53,6 +46,6 @@ returns c =
     let ws = c.args.clauses.now in
     record {
       marks = λ s. rw (clause_past ws l.i (search rules)) at (l.invariant.0 s);
-      later = sym (after_past ws l.i (search rules)) ∙ l.invariant.1;
+      later = after_end ws l.i (search rules) ∙ l.invariant.1;
       further = λ h. search rules;
     }

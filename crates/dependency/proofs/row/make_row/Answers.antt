@@ -1,39 +1,40 @@
--- `make_row` searches, stores the row and clears all else. Assumes nothing.
-use Prim.Native.Nat.{◌≤◌}
-use mathlib.Core.Path.{◌≡◌, sym, ◌∙◌}
+-- `make_row` searches, stores the row and clears all else; nothing stands behind the bytes that it takes. Assumes nothing.
+use Prim.Native.Nat.{ℕ, ◌≤◌}
+use mathlib.Core.Path.{◌≡◌}
+use mathlib.Core.List.{List, ◌++◌}
 use native.Mathlib.Omega.{arith}
-use lib.ListN.{length, take}
+use lib.ListN.{length, take, drop, drop_of_length-le}
 use lib.Seq.{length-take-le}
+use Rattle.std.proofs.Common.{append-nil}
 use Rattle.dependency.specs.Row.Laws.{universal_range}
 use Rattle.dependency.specs.Scratch.{row_in}
 use Rattle.dependency.specs.Scratch.Laws.{row_alone}
 use Rattle.dependency.specs.Bits.Row.{row_stored}
-use Rattle.dependency.proofs.row.make_row.Tie as tie
-use Rattle.dependency.proofs.row.make_row.Lts as lts
-use Rattle.dependency.proofs.row.make_row.Reads as reads
 use Rattle.dependency.proofs.row.make_row.Goals as goal
 
-range : (c : lts.Start tie.the-claims reads.Pre reads.Post tie.handed_clauses) → (1 ≤ c.args.variable.0) × (c.args.variable.0 ≤ 1024)
-range c = universal_range c.args.prefix.now c.args.clauses.now c.requires.admitted c.args.variable.0 c.requires.variable_value
-
 pub search-requires : goal.search-requires
-search-requires c = let s = c.before.before in record { admitted = s.requires.admitted; le_variable = range s; marks_len = s.requires.work_len }
+search-requires c =
+    let a = c.args in
+    let r = c.requires in
+    record { admitted = r.admitted; le_variable = universal_range a.prefix.now a.clauses.now r.admitted a.variable.0 r.variable_value }
 
-filled_length : (c : lts.After-fill_row tie.the-claims reads.Pre reads.Post tie.handed_clauses) → length c.fill_row.new.work ≡ 640
-filled_length c = c.fill_row.auto.work ∙ c.search.auto.marks ∙ c.requires.work_len
+-- the bytes before the row, and those behind the array
+front_length : (work : List ℕ) → length work ≡ 640 → length (take 256 work) ≡ 256
+front_length work size = length-take-le 256 work (omega (arith, size))
 
-part_length : (c : lts.After-fill_row tie.the-claims reads.Pre reads.Post tie.handed_clauses) → length (take 256 c.fill_row.new.work) ≡ 256
-part_length c = length-take-le 256 c.fill_row.new.work (omega (arith, filled_length c))
+none_behind : (work made : List ℕ) → length work ≡ 640 → made ++ drop 640 work ≡ made
+none_behind work made size =
+    let all : length work ≤ 640 = omega arith in
+    rw (drop_of_length-le work all) (append-nil made)
 
 pub returns : goal.returns
 unfolding row_in
 returns c =
-    let filled = c.before.before.before.before.before.before.before.before.before.before.before in
-    let found = filled.before.before.before.before in
-    let s = found.before.before.before in
-    let front = c.before.before.before.before.before.before.before in
-    row_alone _ _ filled.fill_row.new.work front.clear_bytes.new.buffer _ (filled_length filled) (part_length filled) front.clear_bytes.ensures c.clear_bytes-2.ensures
-    (row_stored s.args.prefix.now s.args.clauses.now s.requires.admitted s.args.variable.0 (range s) found.search.new.marks found.search.ensures filled.fill_row.new.work (filled_length filled) filled.fill_row.ensures)
-
-pub slice_bounds-clear_bytes-end-2 : goal.slice_bounds-clear_bytes-end-2
-slice_bounds-clear_bytes-end-2 c = sym (part_length c.before.before.before)
+    let a = c.args in
+    let r = c.requires in
+    let filled = c.fill_row.new.work in
+    let size = c.fill_row.array_long in
+    let range = universal_range a.prefix.now a.clauses.now r.admitted a.variable.0 r.variable_value in
+    rw (none_behind a.work.now c.clear_tail-2.new.buffer r.work_len)
+    (row_alone _ _ filled c.clear_tail.new.buffer _ size (front_length filled size) c.clear_tail.ensures c.clear_tail-2.ensures
+    (row_stored a.prefix.now a.clauses.now r.admitted a.variable.0 range c.search.new.marks c.search.ensures filled size c.fill_row.ensures))

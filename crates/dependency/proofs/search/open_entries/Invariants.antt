@@ -1,8 +1,7 @@
 -- `open_entries` runs down the prefix: what is left of it gives the same marks. Assumes nothing.
-use Prim.Native.Nat.{◌-◌}
 use mathlib.Core.Path.{◌≡◌}
 use mathlib.Core.Bool.{Bool}
-use lib.ListN.{length, drop}
+use lib.ListN.{drop}
 use Rattle.formula.specs.Prefix.{prefix_of}
 use Rattle.dependency.specs.Search.{open_entries}
 use Rattle.dependency.specs.Bits.{marks_in, NoEntries}
@@ -10,7 +9,4 @@ use Rattle.dependency.proofs.search.open_entries.Given as goal
 
 abbrev pub invariant-loop-i : goal.invariant-loop-i
 invariant-loop-i l =
-    ((s : Bool) → open_entries (drop l.i (prefix_of l.prefix)) (marks_in s l.marks) ≡ open_entries (drop l.from (prefix_of l.prefix)) (marks_in s l.initial.marks)) × (length l.marks ≡ length l.initial.marks) × NoEntries l.marks
-
-abbrev pub decreases-loop-i : goal.decreases-loop-i
-decreases-loop-i l = l.count - l.i
+    ((s : Bool) → open_entries (drop l.i (prefix_of l.prefix)) (marks_in s l.marks) ≡ open_entries (drop l.from (prefix_of l.prefix)) (marks_in s l.initial.marks)) × NoEntries l.marks

@@ -36,18 +36,14 @@ module _
     same_ones t = rw (e t) (ap ones (begun t) ∙ ones_kept (opened prefix u) (slot u t) (closed t))
 
 pub open_right-requires : goal.open_right-requires
-open_right-requires c = record { fact_1 = admitted_entries c.args.prefix.now c.args.clauses.now c.requires.admitted; fact_2 = c.requires.marks_len }
-
-pub count_open-unreached-requires : goal.count_open-unreached-requires
-count_open-unreached-requires c = record { fact_1 = c.open_right.auto.marks ∙ c.requires.marks_len; fact_2 = c.open_right.ensures.none }
+open_right-requires c = admitted_entries c.args.prefix.now c.args.clauses.now c.requires.admitted
 
 pub start-requires : goal.start-requires
 start-requires c =
+    let a = c.args in
     record {
-      marks_len_1 = c.open_right.auto.marks ∙ c.requires.marks_len;
-      marks_len_2 = c.requires.le_variable.0;
-      marks_len_3 = c.requires.le_variable.1;
-      s_value = λ t. rw (c.open_right.ensures.marks t) (source_open c.args.prefix.now c.args.clauses.now c.requires.admitted c.args.variable.0 c.requires.le_variable t);
+      le_variable = c.requires.le_variable;
+      s_value = λ t. rw (c.open_right.ensures.marks t) (source_open a.prefix.now a.clauses.now c.requires.admitted a.variable.0 c.requires.le_variable t);
     }
 
 pub settle-requires : goal.settle-requires
@@ -66,7 +62,7 @@ settle-requires c =
     c.open_right.ensures.marks
     c.start.ensures
     in
-    record { fact_1 = c.start.auto.marks ∙ c.open_right.auto.marks ∙ r.marks_len; fact_2 = omega (arith, k true, k false, c.count_open-unreached.ensures) }
+    omega (arith, k true, k false, c.count_open-unreached.ensures)
 
 pub returns : goal.returns
 returns c t =

@@ -55,21 +55,9 @@ none_left : (m : Bool → List ℕ) → 0 ≡ ones (m true) + ones (m false) →
 none_left m e true = omega arith
 none_left m e false = omega arith
 
-pub count_entries-reached-requires : goal.count_entries-reached-requires
-count_entries-reached-requires c = c.requires.fact_1
-
 pub loop-left-init : goal.loop-left-init
 unfolding passes odd
-loop-left-init c = (0, λ s. refl, c.requires.fact_2, c.count_entries-reached.ensures, refl, refl)
-
-pub pass-requires : goal.pass-requires
-pass-requires c = c.loop-left.invariant.4 ∙ c.requires.fact_1
-
-pub count_entries-more-requires : goal.count_entries-more-requires
-count_entries-more-requires c = c.pass.auto.marks ∙ c.loop-left.invariant.4 ∙ c.requires.fact_1
-
-pub shape_of-marks-then-more-reached : goal.shape_of-marks-then-more-reached
-shape_of-marks-then-more-reached c = c.pass.auto.marks ∙ c.loop-left.invariant.4
+loop-left-init c = (0, λ s. refl, c.requires, c.count_entries-reached.ensures, refl)
 
 pub returns-then-more-reached : goal.returns-then-more-reached
 returns-then-more-reached c s =
@@ -81,7 +69,7 @@ returns-then-more-reached c s =
     let p = c.pass.ensures in
     record {
       count = suc v.0;
-      passed = next Cs l.back m m' p v.0 (λ (t : Bool). marks_in t c.args.marks.now) v.1 v.5 s;
+      passed = next Cs l.back m m' p v.0 (λ (t : Bool). marks_in t c.args.marks.now) v.1 v.4 s;
       back = l.back;
       still = still Cs l.back m m' p l.reached c.count_entries-more.result v.3 c.count_entries-more.ensures c.if-more-reached.true s;
     }
@@ -118,15 +106,11 @@ loop-left-preserved c =
     let p = c.pass.ensures in
     let h = left_after Cs l.back m m' p l.reached c.count_entries-more.result v.3 c.count_entries-more.ensures l.left v.2 in (
       suc v.0,
-      next Cs l.back m m' p v.0 (λ (t : Bool). marks_in t c.args.marks.now) v.1 v.5,
+      next Cs l.back m m' p v.0 (λ (t : Bool). marks_in t c.args.marks.now) v.1 v.4,
       omega (arith, h.0, h.1),
       c.count_entries-more.ensures,
-      c.pass.auto.marks ∙ v.4,
-      ap not v.5,
+      ap not v.4,
     )
-
-pub shape_of-marks : goal.shape_of-marks
-shape_of-marks c = c.loop-left.invariant.4
 
 pub returns : goal.returns
 returns c s =

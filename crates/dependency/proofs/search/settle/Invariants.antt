@@ -3,7 +3,6 @@
 use Prim.Native.Nat.{ℕ, ◌+◌}
 use mathlib.Core.Path.{◌≡◌}
 use mathlib.Core.Bool.{Bool, true, false}
-use lib.ListN.{length}
 use Rattle.formula.specs.Decode.{clauses_of}
 use Rattle.dependency.specs.Search.{ones, entries, odd, passes}
 use Rattle.dependency.specs.Bits.{marks_in}
@@ -15,7 +14,6 @@ invariant-loop-left l =
     × ((s : Bool) → marks_in s l.marks ≡ passes n (clauses_of l.clauses) (marks_in s l.initial.marks))
     × (l.left ≡ ones (marks_in true l.marks) + ones (marks_in false l.marks))
     × (l.reached ≡ entries (marks_in true l.marks) + entries (marks_in false l.marks))
-    × (length l.marks ≡ length l.initial.marks)
     × (l.back ≡ odd n)
 
 abbrev pub decreases-loop-left : goal.decreases-loop-left

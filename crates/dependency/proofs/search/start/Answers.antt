@@ -4,6 +4,7 @@ use mathlib.Core.Path.{◌≡◌, ap, sym, ◌∙◌}
 use mathlib.Core.Bool.{Bool, true, false, false≢true}
 use mathlib.Core.List.{List}
 use native.Mathlib.Omega.{arith}
+use borrow.Author.Rules.{rules}
 use lib.ListN.{length, get_or, set}
 use Rattle.bits.specs.Flags.{flags}
 use Rattle.formula.specs.Word.{slot}
@@ -44,19 +45,6 @@ module _
         source_set false one (slot v false) (low v l false) (high v h false) size_one two second (rw kept (none false))
         ∙ ap (λ (m : List ℕ). set m (slot v false) 3) kept
 
-pub put-requires : goal.put-requires
-put-requires c =
-    let r = c.requires in
-    let h = flag_within c.args.variable.0 r.marks_len_2 r.marks_len_3 true in
-    omega (arith, r.marks_len_1, c.entry_flag.ensures, h)
-
-pub put-requires-2 : goal.put-requires-2
-put-requires-2 c =
-    let r = c.requires in
-    let h = flag_within c.args.variable.0 r.marks_len_2 r.marks_len_3 false in
-    let z = c.put.auto.bytes ∙ r.marks_len_1 in
-    omega (arith, c.entry_flag-2.ensures, z, h)
-
 pub returns : goal.returns
 returns c =
     let r = c.requires in
@@ -65,13 +53,13 @@ returns c =
     let one = c.put.new.bytes in
     both
     v
-    r.marks_len_2
-    r.marks_len_3
+    r.le_variable.0
+    r.le_variable.1
     marks
     one
     c.put-2.new.bytes
-    r.marks_len_1
-    (c.put.auto.bytes ∙ r.marks_len_1)
+    (search rules)
+    (search rules)
     (c.put.ensures ∙ ap (λ (i : ℕ). set (flags marks) i 1) c.entry_flag.ensures)
     (c.put-2.ensures ∙ ap (λ (i : ℕ). set (flags one) i 1) c.entry_flag-2.ensures)
     r.s_value

@@ -1,7 +1,7 @@
 -- `clause_satisfied` stops at the clause's first true literal or at its 0: from every place before that, the clause has a
 -- true literal or has none. Assumes nothing.
 use Prim.Native.Nat.{◌+◌}
-use mathlib.Core.Path.{◌≡◌, refl, ap, sym, ◌∙◌}
+use mathlib.Core.Path.{◌≡◌, ap, sym, ◌∙◌}
 use mathlib.Core.Bool.{Bool, true, false, ◌||◌}
 use borrow.Author.Rules.{rules}
 use lib.IntN.{ℤ, pos}
@@ -58,6 +58,3 @@ pub returns : goal.returns
 returns c =
     let s = c.before.before.before.before in
     sym (satisfied_at_end (values_of s.args.values.now) s.args.clauses.now c.loop-i.i (search rules)) ∙ c.loop-i.invariant
-
-pub loop-i-init : goal.loop-i-init
-loop-i-init c = refl

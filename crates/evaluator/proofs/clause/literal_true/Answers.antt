@@ -39,12 +39,12 @@ pub returns-then-word-lt0 : goal.returns-then-word-lt0
 returns-then-word-lt0 c =
     let s = c in
     let e : to_z w32 (of_z w32 s.args.word) ≡ s.args.word = to_z-of_z s.ranges.word in
-    rw (c.value-b.ensures, c.magnitude.ensures, e)
+    rw (c.value-b.ensures, c.unsigned_abs.ensures.value, e)
     (negative_true s.args.values.now s.args.word (rw e at c.if-word-lt0.true))
 
 pub returns-else-word-lt0 : goal.returns-else-word-lt0
 returns-else-word-lt0 c =
     let s = c in
     let e : to_z w32 (of_z w32 s.args.word) ≡ s.args.word = to_z-of_z s.ranges.word in
-    rw (c.value-b.ensures, c.magnitude.ensures, e)
+    rw (c.value-b.ensures, c.unsigned_abs.ensures.value, e)
     (positive_true s.args.values.now s.args.word (rw e at c.if-word-lt0.false))

@@ -1,5 +1,6 @@
 -- `evaluate` hands on the tables' refusal, and plays what they let pass. Assumes nothing.
-use mathlib.Core.Path.{sym, ◌∙◌}
+use Rattle.std.proofs.Common.{sym, ◌∙◌}
+use Rattle.std.proofs.lemmas.Result.{err_from_is_err_and}
 use Rattle.formula.proofs.Theorems.Tables.Laws.{answer_admitted, answer_refused}
 use Rattle.evaluator.specs.Evaluation.{evaluation_of}
 use Rattle.evaluator.proofs.evaluation.evaluate.Goals as goal
@@ -7,10 +8,11 @@ use Rattle.evaluator.proofs.evaluation.evaluate.Goals as goal
 pub play-requires : goal.play-requires
 play-requires c =
     let a = c.args in
-    (answer_admitted a.prefix.now a.clauses.now _ _ (sym c.check_tables.ensures ∙ c.in-Admitted.is)).0
+    (answer_admitted a.prefix.now a.clauses.now _ _ (sym c.check_tables.ensures ∙ c.in_ok-check_tables.was)).0
 
-pub returns-in-Refused : goal.returns-in-Refused
+pub returns-in_err-check_tables : goal.returns-in_err-check_tables
 unfolding evaluation_of
-returns-in-Refused c =
+returns-in_err-check_tables c =
     let a = c.args in
-    rw (answer_refused a.prefix.now a.clauses.now _ (sym c.check_tables.ensures ∙ c.in-Refused.is))
+    let x = err_from_is_err_and c.from_residual.result c.from_residual.ensures.1 in
+    rw (x.1, x.2, answer_refused a.prefix.now a.clauses.now _ (sym c.check_tables.ensures ∙ c.in_err-check_tables.was))

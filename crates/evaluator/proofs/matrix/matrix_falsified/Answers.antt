@@ -1,8 +1,7 @@
 -- `matrix_falsified` goes from clause to clause: the matrix has a clause without a true literal exactly when the clauses
 -- from here on have one. Assumes nothing.
-use mathlib.Core.Path.{◌≡◌, refl, ap, sym, ◌∙◌}
+use mathlib.Core.Path.{◌≡◌, ap, sym, ◌∙◌}
 use mathlib.Core.Bool.{Bool, true, false, not, ◌||◌}
-use native.Mathlib.Omega.{arith}
 use borrow.Author.Rules.{rules}
 use Rattle.qbf.specs.Play.{falsified}
 use Rattle.formula.specs.Decode.{words_after, matrix_of}
@@ -31,9 +30,6 @@ tested c b t =
     ∙ sym (falsified_at τ ws l.i (search rules))
     ∙ l.invariant
 
-pub loop-i-smaller : goal.loop-i-smaller
-loop-i-smaller c = let h = c.next_clause-i.ensures.lower_bound in omega arith
-
 pub loop-i-preserved : goal.loop-i-preserved
 loop-i-preserved c = rw c.next_clause-i.ensures.clauses_value (tested c.before.before.before true c.if-clause_satisfied.true)
 
@@ -44,6 +40,3 @@ pub returns : goal.returns
 returns c =
     let s = c.before.before.before.before in
     sym (falsified_at_end (values_of s.args.values.now) s.args.clauses.now c.loop-i.i (search rules)) ∙ c.loop-i.invariant
-
-pub loop-i-init : goal.loop-i-init
-loop-i-init c = refl

@@ -1,12 +1,7 @@
 -- `next_clause` finds the first 0: what comes after the clause is the same from every place of it. Assumes nothing.
-use Prim.Native.Nat.{◌-◌, ◌≤◌}
 use mathlib.Core.Path.{◌≡◌}
-use lib.ListN.{length}
 use Rattle.formula.specs.Decode.{words_after}
 use Rattle.evaluator.proofs.matrix.next_clause.Given as goal
 
 abbrev pub invariant-loop-i : goal.invariant-loop-i
-invariant-loop-i l = (words_after l.clauses l.i ≡ words_after l.clauses l.from) × (l.from ≤ l.i)
-
-abbrev pub decreases-loop-i : goal.decreases-loop-i
-decreases-loop-i l = length l.clauses - l.i
+invariant-loop-i l = words_after l.clauses l.i ≡ words_after l.clauses l.from

@@ -32,9 +32,6 @@ shown c = entry_at c.args.prefix.now 0
 some_left : (c : lts.Then1 tie.the-claims reads.Pre reads.Post tie.handed_clauses) → 0 < entry_count c.args.prefix.now
 some_left c = omega (arith, c.entry_count.ensures, c.if-entry_count-gt0.true)
 
-pub entry_at-requires : goal.entry_at-requires
-entry_at-requires c = record { entries = c.requires; place_bound = some_left c }
-
 pub returns-in-Existential : goal.returns-in-Existential
 returns-in-Existential c =
     let start = c.before.before.before.before in

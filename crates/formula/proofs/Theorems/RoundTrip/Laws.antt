@@ -1,4 +1,6 @@
 -- The round trip: `written_read`, of the definitions, and `round_trip`, of the two entries' contracts. Assumes nothing.
+use Rattle.std.specs.Prelude.{Result, Ok}
+use Rattle.formula.specs.declared.read.Filled.{Filled}
 use Rattle.std.specs.Prelude.{ℕ, ◌-◌, ◌≤◌, max, ◌≡◌, refl, ◌⊎◌, Bool, true, false, length, take, replicate, leb, ℤ}
 use Rattle.std.proofs.Math.Path.{ap}
 use Rattle.std.proofs.Common.{sym, ◌∙◌, inl, inr, le-leb, le-ltb, take_at}
@@ -34,8 +36,6 @@ use Rattle.formula.specs.RoundTrip.Scan.{Takes, takes_append}
 use Rattle.formula.proofs.Theorems.RoundTrip.Prefix.{Lists, header_takes, prefix_taken}
 use Rattle.formula.proofs.Theorems.RoundTrip.Clauses.{all_known, Passes, AllRead, among_sets, clauses_reads}
 use Rattle.formula.specs.declared.refusal.Refusal.{Refusal}
-use Rattle.formula.specs.declared.read.ReadAnswer.{ReadAnswer}
-use Rattle.formula.specs.declared.write.WriteAnswer.TheVariants.{Written}
 
 -- No variable of the prefix is above V.
 member_largest : (P : Prefix) (x : Entry) → Memᴰ x P → x.variable ≤ largest P
@@ -134,13 +134,13 @@ record WasWritten (p c : List ℤ) (used : ℕ) (text : List ℕ) : Type 0 where
   admitted : Admitted p c
   part : take used text ≡ written p c
 
-was_written : (p c : List ℤ) (room used : ℕ) (text : List ℕ) → Writes p c room (Written used) text → WasWritten p c used text
+was_written : (p c : List ℤ) (room used : ℕ) (text : List ℕ) → Writes p c room (Ok used) text → WasWritten p c used text
 unfolding writing_refusal
 was_written p c room used text w = go (tables_refusal p c) refl (leb (length (written p c)) room) w.answers w.leaves
   where
     go :
         (o : Option Refusal) → tables_refusal p c ≡ o → (b : Bool)
-        → Written used ≡ answer_writing (first_refusal o (if_room b)) (length (written p c))
+        → Ok used ≡ answer_writing (first_refusal o (if_room b)) (length (written p c))
         → text ≡ text_after (first_refusal o (if_room b)) (written p c) room
         → WasWritten p c used text
     go none q true e f =
@@ -150,8 +150,8 @@ was_written p c room used text w = go (tables_refusal p c) refl (leb (length (wr
     go (some r) q b e f = let z : ◌≡◌ {A = ℕ} 0 1 = cc in absurd (omega arith)
 
 pub round_trip :
-    (p c : List ℤ) (room used : ℕ) (text : List ℕ) (prefix clauses prefix' clauses' : List ℤ) (answer : ReadAnswer)
-    → Writes p c room (Written used) text
+    (p c : List ℤ) (room used : ℕ) (text : List ℕ) (prefix clauses prefix' clauses' : List ℤ) (answer : Result Filled Refusal)
+    → Writes p c room (Ok used) text
     → length p ≤ length prefix
     → length c ≤ length clauses
     → ReadPost (take used text) prefix clauses prefix' clauses' answer

@@ -1,17 +1,17 @@
 -- Readings of 01's and 02's (P6) order of refusals on tables, by computation: each word is judged from the left by its own rules in order.
+use Rattle.std.specs.Prelude.{Err}
 use Rattle.std.specs.Prelude.{ℕ, ◌≡◌, refl, List, [], ◌∷◌, ℤ, pos, negsuc}
 use Rattle.formula.specs.Word.{word_of, ordinal}
 use Rattle.formula.specs.Refusal.{refusal}
 use Rattle.formula.specs.Prefix.{prefix_of}
 use Rattle.formula.specs.Prefix.Examples.{e, a}
-use Rattle.formula.specs.Tables.{is_in, zeros, prefix_refusal, clauses_refusal, words_refusal, tables_refusal, tables_answer}
+use Rattle.formula.specs.Tables.{is_in, zeros, prefix_refusal, clauses_refusal, words_refusal, tables_refusal, tables_answer, admits}
 use Rattle.formula.specs.declared.refusal.Reason.{Reason}
 use Rattle.formula.specs.declared.refusal.Reason.TheVariants.{OutOfRange, BoundTwice, Unbound, Clash, Unfinished}
-use Rattle.formula.specs.declared.tables.TablesAnswer.TheVariants.{Admitted as Admits, Refused}
 
 -- The tables are refused, for a reason, at a place.
 abbrev pub RefusedAt : List ℤ → List ℤ → Reason → ℕ → Type 0
-RefusedAt prefix clauses reason place = tables_answer prefix clauses ≡ Refused (refusal reason place)
+RefusedAt prefix clauses reason place = tables_answer prefix clauses ≡ Err (refusal reason place)
 
 -- Existential 1, then 1 again, then 0: the second entry is judged before the third.
 pub bound_twice_before_range : RefusedAt (e 1 1 (e 1 1 (e 0 1 []))) [] BoundTwice 3
@@ -95,10 +95,10 @@ unfolding tables_refusal words_refusal prefix_refusal prefix_of clauses_refusal 
 unfinished_at_the_length = refl
 
 -- One variable may stand in every clause; nothing at all passes, with no variables and no clauses.
-pub clauses_apart : tables_answer (a 1 1 []) (pos 1 ∷ pos 0 ∷ negsuc 0 ∷ pos 0 ∷ pos 0 ∷ []) ≡ Admits 1 3
+pub clauses_apart : tables_answer (a 1 1 []) (pos 1 ∷ pos 0 ∷ negsuc 0 ∷ pos 0 ∷ pos 0 ∷ []) ≡ admits 1 3
 unfolding tables_refusal words_refusal prefix_refusal prefix_of clauses_refusal is_in zeros word_of ordinal
 clauses_apart = refl
 
-pub nothing_passes : tables_answer [] [] ≡ Admits 0 0
+pub nothing_passes : tables_answer [] [] ≡ admits 0 0
 unfolding tables_refusal words_refusal prefix_refusal prefix_of clauses_refusal is_in zeros word_of ordinal
 nothing_passes = refl

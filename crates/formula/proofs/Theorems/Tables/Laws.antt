@@ -1,5 +1,7 @@
 -- The check of tables against ProperTables, both ways, and what the layers above use of tables that pass: sizes, ranges of
 -- words, distinct and bound variables, closed clauses, and that the decoded formula is proper. Assumes nothing.
+use Rattle.std.specs.Prelude.{Ok, Err, Result}
+use Rattle.formula.specs.declared.tables.Counts.{Counts}
 use Prim.Native.Nat.{ℕ, zero, suc, ◌+◌, ◌-◌, ◌*◌, ◌/◌, ◌%◌, ◌≤◌, ◌<◌}
 use Rattle.std.specs.Prelude.{◌≡◌, ◌⊎◌, Bool, true, false, not, cond, ◌&&◌, ◌||◌, length, get_or, leb, ltb, eqb, ℤ, negsuc}
 use Rattle.std.proofs.Math.Path.{refl, ap}
@@ -21,10 +23,9 @@ use Rattle.formula.specs.Decode.{literal_of, put_first, clauses_of, first_clause
 use Rattle.formula.specs.Prefix.{quantifier_number, quantifier_as, prefix_of, next_block, words_from, IsTable, entry_count, entry_words, AllRanged, Entries}
 use Rattle.formula.specs.Prefix.Laws.{entry_count_lem, words_length, block_bound}
 use Rattle.formula.specs.Decode.Laws.{magnitude_positive, positive_magnitude, literal_variable, clause_variables, clauses_put_first, first_clause_cons, later_words_cons, clauses_first, clauses_no_zero, clause_word_lem}
-use Rattle.formula.specs.Tables.{is_in, zeros, variable_word, quantifier_word, block_word, prefix_refusal, literal_word, clause_word, clauses_refusal, listed_in, sized, first_refusal, words_refusal, tables_refusal, answer_tables, tables_answer, Admitted}
+use Rattle.formula.specs.Tables.{is_in, zeros, variable_word, quantifier_word, block_word, prefix_refusal, literal_word, clause_word, clauses_refusal, listed_in, sized, first_refusal, words_refusal, tables_refusal, answer_tables, tables_answer, Admitted, admits}
 use Rattle.formula.specs.Tables.Proper.{ProperTables}
 use Rattle.formula.specs.declared.refusal.Refusal.{Refusal}
-use Rattle.formula.specs.declared.tables.TablesAnswer.TheVariants.{Admitted as Admits, Refused as Turned}
 use Rattle.formula.specs.declared.refusal.Reason.TheVariants.{OutOfRange}
 
 -- A refusal is not its absence.
@@ -532,22 +533,27 @@ tables_admitted p c t =
     }) in
     record { passes = rw (sizes, threes, P, C) }
 
+counts_same : (a b : Counts) → ◌≡◌ {A = Result Counts Refusal} (Ok a) (Ok b) → a ≡ b
+counts_same a b e = cc
+
 -- What an answer of `check_tables` says of the tables.
-pub answer_admitted : (p c : List ℤ) (v n : ℕ) → tables_answer p c ≡ Admits v n → Admitted p c × (v ≡ entry_count p) × (n ≡ zeros c)
+pub answer_admitted : (p c : List ℤ) (v n : ℕ) → tables_answer p c ≡ admits v n → Admitted p c × (v ≡ entry_count p) × (n ≡ zeros c)
 answer_admitted p c v n h = go (tables_refusal p c) refl h
   where
-    go : (a : Option Refusal) → tables_refusal p c ≡ a → answer_tables a (entry_count p) (zeros c) ≡ Admits v n → Admitted p c × (v ≡ entry_count p) × (n ≡ zeros c)
-    go none e k = (record { passes = e }, (cc), (cc))
+    go : (a : Option Refusal) → tables_refusal p c ≡ a → answer_tables a (entry_count p) (zeros c) ≡ admits v n → Admitted p c × (v ≡ entry_count p) × (n ≡ zeros c)
+    go none e k =
+        let same = counts_same (record { variables = entry_count p; clauses = zeros c }) (record { variables = v; clauses = n }) k in
+        (record { passes = e }, sym (ap (λ (x : Counts). x.variables) same), sym (ap (λ (x : Counts). x.clauses) same))
     go (some r) e k = let z : ◌≡◌ {A = ℕ} 0 1 = cc in absurd (omega arith)
 
-pub answer_refused : (p c : List ℤ) (r : Refusal) → tables_answer p c ≡ Turned r → tables_refusal p c ≡ some r
+pub answer_refused : (p c : List ℤ) (r : Refusal) → tables_answer p c ≡ Err r → tables_refusal p c ≡ some r
 answer_refused p c r h = go (tables_refusal p c) h
   where
-    go : (a : Option Refusal) → answer_tables a (entry_count p) (zeros c) ≡ Turned r → a ≡ some r
+    go : (a : Option Refusal) → answer_tables a (entry_count p) (zeros c) ≡ Err r → a ≡ some r
     go none k = let z : ◌≡◌ {A = ℕ} 0 1 = cc in absurd (omega arith)
     go (some s) k = cc
 
-pub admitted_answer : (p c : List ℤ) → Admitted p c → tables_answer p c ≡ Admits (entry_count p) (zeros c)
+pub admitted_answer : (p c : List ℤ) → Admitted p c → tables_answer p c ≡ admits (entry_count p) (zeros c)
 admitted_answer p c a = rw a.passes
 
 -- A word read by its place stands in the table.

@@ -14,18 +14,18 @@ pub returns-then-variables-n : goal.returns-then-variables-n
 unfolding literal_reason
 returns-then-variables-n c = simp (lt-leb _ _ c.if-variables-n.true, and-false)
 
-pub returns-then-used-ge-MAX : goal.returns-then-used-ge-MAX
+pub returns-then-used-ge-MATRIX_WORDS : goal.returns-then-used-ge-MATRIX_WORDS
 unfolding literal_reason
-returns-then-used-ge-MAX c = simp (lt-ltb 0 _ c.if-n-lt1.false, le-leb _ _ c.if-variables-n.false, le-ltb _ _ c.if-used-ge-MAX.true)
+returns-then-used-ge-MATRIX_WORDS c = simp (lt-ltb 0 _ c.if-n-lt1.false, le-leb _ _ c.if-variables-n.false, le-ltb _ _ c.if-used-ge-MATRIX_WORDS.true)
 
 pub returns-then-clash : goal.returns-then-clash
 unfolding literal_reason
-returns-then-clash c = simp (lt-ltb 0 _ c.if-n-lt1.false, le-leb _ _ c.if-variables-n.false, lt-ltb _ _ c.if-used-ge-MAX.false, c.if-clash.true)
+returns-then-clash c = simp (lt-ltb 0 _ c.if-n-lt1.false, le-leb _ _ c.if-variables-n.false, lt-ltb _ _ c.if-used-ge-MATRIX_WORDS.false, c.if-clash.true)
 
 pub returns-then-room-used : goal.returns-then-room-used
 unfolding literal_reason
-returns-then-room-used c = simp (lt-ltb 0 _ c.if-n-lt1.false, le-leb _ _ c.if-variables-n.false, lt-ltb _ _ c.if-used-ge-MAX.false, c.if-clash.false, le-ltb _ _ c.if-room-used.true)
+returns-then-room-used c = simp (lt-ltb 0 _ c.if-n-lt1.false, le-leb _ _ c.if-variables-n.false, lt-ltb _ _ c.if-used-ge-MATRIX_WORDS.false, c.if-clash.false, le-ltb _ _ c.if-room-used.true)
 
 pub returns : goal.returns
 unfolding literal_reason
-returns c = simp (lt-ltb 0 _ c.if-n-lt1.false, le-leb _ _ c.if-variables-n.false, lt-ltb _ _ c.if-used-ge-MAX.false, c.if-clash.false, lt-ltb _ _ c.if-room-used.false)
+returns c = simp (lt-ltb 0 _ c.if-n-lt1.false, le-leb _ _ c.if-variables-n.false, lt-ltb _ _ c.if-used-ge-MATRIX_WORDS.false, c.if-clash.false, lt-ltb _ _ c.if-room-used.false)

@@ -14,7 +14,7 @@ use Rattle.formula.proofs.clauses.read_clauses.Goals as goal
 pub loop-end-init : goal.loop-end-init
 loop-end-init c =
     let args = c.args in
-    (clauses_begin args.text.now args.from.place args.variables args.count args.clauses.now args.marks.now c.requires.variables_le_variable_bound.2, c.requires.position_in.0)
+    (clauses_begin args.text.now args.from.place args.variables args.count args.clauses.now args.marks.now (search rules), c.requires.position_in.0)
 
 -- the token that was found
 found : (c : lts.Past-After-known_told2 tie.the-claims reads.Pre reads.Post goal.the-invariant-loop-end goal.the-decreases-loop-end tie.handed_clauses) → let l = c.before.before in Finds l.args.text.now l.loop-end.at.place c.in-Found.token c.in-Found.place c.in-Found.next
@@ -29,20 +29,20 @@ returns-in-End c =
 pub returns-then-count-closed : goal.returns-then-count-closed
 returns-then-count-closed c = rw c.in_text.ensures (clauses_over c.loop-end.invariant.0 (found c.before.before.before) c.if-count-closed.true [] [])
 
-pub returns-in-Refused : goal.returns-in-Refused
-returns-in-Refused c =
+pub returns-in-Err : goal.returns-in-Err
+returns-in-Err c =
     let t = c.before.before.before.before in
     let f = found t.before.before.before.before in
-    rw c.in_text-in-Refused.ensures (clauses_refuse t.loop-end.invariant.0 f t.if-count-closed.false (rw c.in-Refused.is at (t.clause_token.ensures (number_of f.bytes) (sym f.shows_it))))
+    rw c.in_text-in-Err.ensures (clauses_refuse t.loop-end.invariant.0 f t.if-count-closed.false (rw c.in-Err.is at (t.clause_token.ensures (number_of f.bytes) (sym f.shows_it))))
 
-pub loop-end-smaller-in-Literal : goal.loop-end-smaller-in-Literal
-loop-end-smaller-in-Literal c = let f = found c.before.before.before.before.before.before.before in omega (arith, f.after, f.next_in.inside)
+pub loop-end-smaller-in-Ok-Literal : goal.loop-end-smaller-in-Ok-Literal
+loop-end-smaller-in-Ok-Literal c = let f = found c.before.before.before.before.before.before.before in omega (arith, f.after, f.next_in.inside)
 
-pub loop-end-preserved-in-Literal : goal.loop-end-preserved-in-Literal
-loop-end-preserved-in-Literal c =
+pub loop-end-preserved-in-Ok-Literal : goal.loop-end-preserved-in-Ok-Literal
+loop-end-preserved-in-Ok-Literal c =
     let t = c.before.before.before in
     let f = found t.before.before.before.before in
-    (clauses_literal t.loop-end.invariant.0 f t.if-count-closed.false (search rules) (rw c.in-Literal.is at (t.clause_token.ensures (number_of f.bytes) (sym f.shows_it))), f.next_in)
+    (clauses_literal t.loop-end.invariant.0 f t.if-count-closed.false (search rules) (rw (c.in-Ok-Literal.is, c.in-Ok-Literal.field-0-is) at (t.clause_token.ensures (number_of f.bytes) (sym f.shows_it))), f.next_in)
 
 pub loop-end-smaller : goal.loop-end-smaller
 loop-end-smaller c = let f = found c.before.before.before.before.before.before.before in omega (arith, f.after, f.next_in.inside)
@@ -51,10 +51,4 @@ pub loop-end-preserved : goal.loop-end-preserved
 loop-end-preserved c =
     let t = c.before.before.before in
     let f = found t.before.before.before.before in
-    (clauses_closed t.loop-end.invariant.0 f t.if-count-closed.false (search rules) (rw c.in-Closed.is at (t.clause_token.ensures (number_of f.bytes) (sym f.shows_it))), f.next_in)
-
-pub next_token-requires : goal.next_token-requires
-next_token-requires c = (c.loop-end.invariant.1, c.requires.position_in.1)
-
-pub clause_token-requires : goal.clause_token-requires
-clause_token-requires c = let I = c.loop-end.invariant.0 in (search rules, search rules, I.size, I.room)
+    (clauses_closed t.loop-end.invariant.0 f t.if-count-closed.false (search rules) (rw (c.in-Ok-Closed.is, c.in-Ok-Closed.field-0-is) at (t.clause_token.ensures (number_of f.bytes) (sym f.shows_it))), f.next_in)

@@ -59,7 +59,6 @@ put_free-requires c =
     let k = counted c.before.before.before.before.before.before in
     let s = k.before in (
       s.requires.entries_in_bounds.1,
-      s.requires.entries_in_bounds.2,
       rw (← k.count_free-added.ensures)
           (omega (arith, words_rise k.count_free-added.result (k.count_free-added.result + s.args.entries) (omega arith), room c.before.before.before.before.before.before, c.prefix-1.given)),
     )

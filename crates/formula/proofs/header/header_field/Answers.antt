@@ -19,20 +19,17 @@ returns-in-End c =
     let none = no_token k.args.text.now k.args.at.place (sym c.next_token.ensures ∙ c.in-End.is) in
     rw (c.in_text.ensures, none.0, none.1)
 
-pub returns-in-Value : goal.returns-in-Value
-returns-in-Value c =
+pub returns-in-Some : goal.returns-in-Some
+returns-in-Some c =
     let v = c.before.before in
     let f = found v.before in
-    rw (f.slice, sym v.field_value.ensures ∙ c.in-Value.is) at (field_found_lem f v.args.wanted)
+    rw (f.slice, sym v.field_value.ensures ∙ c.in-Some.is) at (field_found_lem f v.args.wanted)
 
-pub returns-in-Other : goal.returns-in-Other
-returns-in-Other c =
+pub returns-in-None : goal.returns-in-None
+returns-in-None c =
     let v = c.before.before.before in
     let f = found v.before in
-    rw c.in_text-in-Other.ensures (rw (f.slice, sym v.field_value.ensures ∙ c.in-Other.is) at (field_found_lem f v.args.wanted))
-
-pub next_token-requires : goal.next_token-requires
-next_token-requires c = c.requires
+    rw c.in_text-in-None.ensures (rw (f.slice, sym v.field_value.ensures ∙ c.in-None.is) at (field_found_lem f v.args.wanted))
 
 pub field_value-requires : goal.field_value-requires
 field_value-requires c = ((found c.before).from_place, (found c.before).next_in.inside)

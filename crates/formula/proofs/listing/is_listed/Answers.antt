@@ -4,12 +4,6 @@ use native.Mathlib.Omega.{arith}
 use Rattle.formula.specs.Tables.Scan.{marked}
 use Rattle.formula.proofs.listing.is_listed.Goals as goal
 
-pub is_set-requires : goal.is_set-requires
-is_set-requires c =
-    let s = c in
-    let all = s.requires.listing.size (omega arith) in
-    omega arith
-
 pub returns : goal.returns
 unfolding marked
 returns c =

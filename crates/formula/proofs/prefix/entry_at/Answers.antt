@@ -34,17 +34,17 @@ second c = get_or c.args.prefix.now (3 * c.args.place + 1) (pos 0)
 told : (c : lts.After-ordinal tie.the-claims reads.Pre reads.Post tie.handed_clauses) → c.ordinal.result ≡ ordinal (first c.before.before)
 told c = let e : to_z w32 (of_z w32 (first c.before.before)) ≡ first c.before.before = search rules in rw e at c.ordinal.ensures
 
-told_2 : (c : lts.After-ordinal2 tie.the-claims reads.Pre reads.Post tie.handed_clauses) → c.ordinal-in-Within.result ≡ ordinal (second c.before.before.before.before.before.before)
+told_2 : (c : lts.After-ordinal2 tie.the-claims reads.Pre reads.Post tie.handed_clauses) → c.ordinal-in-Some.result ≡ ordinal (second c.before.before.before.before.before.before)
 told_2 c =
     let s = c.before.before.before.before.before.before in
     let e : to_z w32 (of_z w32 (second s)) ≡ second s = search rules in
-    rw e at c.ordinal-in-Within.ensures
+    rw e at c.ordinal-in-Some.ensures
 
 -- the variable made
-made : (c : lts.Past-After-known_told tie.the-claims reads.Pre reads.Post tie.handed_clauses) → ordinal (first c.before.before.before.before) ≡ c.in-Within.v.0
+made : (c : lts.Past-After-known_told tie.the-claims reads.Pre reads.Post tie.handed_clauses) → ordinal (first c.before.before.before.before) ≡ c.in-Some.v.0
 made c =
     let n = c.ordinal.result in
-    let m = variable_made (in_range n variable_bound) n c.in-Within.v (sym c.new.ensures ∙ c.in-Within.is) in
+    let m = variable_made (in_range n variable_bound) n c.in-Some.v (sym c.new.ensures ∙ c.in-Some.is) in
     sym (told c.before.before) ∙ m.1
 
 pub overflow_mul-at : goal.overflow_mul-at
@@ -59,11 +59,11 @@ bounds-prefix-at c = omega (arith, below c)
 pub overflow_add-at : goal.overflow_add-at
 overflow_add-at c = let h = below c.before.before.before.before in search rules
 
-pub offset_bounds-prefix-at-in-Within : goal.offset_bounds-prefix-at-in-Within
-offset_bounds-prefix-at-in-Within c = let h = below c.before.before.before.before in search rules
+pub offset_bounds-prefix-at-in-Some : goal.offset_bounds-prefix-at-in-Some
+offset_bounds-prefix-at-in-Some c = let h = below c.before.before.before.before in search rules
 
-pub bounds-prefix-at-in-Within : goal.bounds-prefix-at-in-Within
-bounds-prefix-at-in-Within c = omega (arith, below c.before.before.before.before)
+pub bounds-prefix-at-in-Some : goal.bounds-prefix-at-in-Some
+bounds-prefix-at-in-Some c = omega (arith, below c.before.before.before.before)
 
 pub returns-then-ordinal-eq2 : goal.returns-then-ordinal-eq2
 returns-then-ordinal-eq2 c =
@@ -71,11 +71,11 @@ returns-then-ordinal-eq2 c =
     let q : ordinal (second s) ≡ 2 = sym (told_2 c.before) ∙ c.if-ordinal-eq2.true in
     rw (entry_word_lem s.args.prefix.now s.args.place s.requires.place_bound, made c.before.before.before, q)
 
-pub returns-in-Outside : goal.returns-in-Outside
-returns-in-Outside c =
+pub returns-in-None : goal.returns-in-None
+returns-in-None c =
     let s = c.before.before.before.before.before in
     let n = c.ordinal.result in
-    let outside = variable_refused (in_range n variable_bound) n (sym c.new.ensures ∙ c.in-Outside.is) in
+    let outside = variable_refused (in_range n variable_bound) n (sym c.new.ensures ∙ c.in-None.is) in
     let w : (entry_at s.args.prefix.now s.args.place).variable ≡ ordinal (first s) = ap (λ (x : Entry). x.variable) (entry_word_lem s.args.prefix.now s.args.place s.requires.place_bound) in
     let least : 1 ≤ n = rw (told c.before.before.before, ← w) (entry_at_ranged s.args.prefix.now s.requires.entries s.args.place s.requires.place_bound).0 in
     absurd (omega (arith, above_range n variable_bound least outside, told c.before.before.before, ordinal_bounded (first s)))

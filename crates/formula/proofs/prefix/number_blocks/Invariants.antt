@@ -1,11 +1,6 @@
 -- `number_blocks` has put the records of the first entries. Assumes nothing.
-use Prim.Native.Nat.{◌-◌}
-use Rattle.formula.specs.Prefix.{entry_count}
 use Rattle.formula.specs.Prefix.Laws.{NumberedSoFar}
 use Rattle.formula.proofs.prefix.number_blocks.Given as goal
 
 abbrev pub invariant-loop-i : goal.invariant-loop-i
 invariant-loop-i l = NumberedSoFar l.initial.prefix l.prefix l.i l.last l.block
-
-abbrev pub decreases-loop-i : goal.decreases-loop-i
-decreases-loop-i l = entry_count l.initial.prefix - l.i

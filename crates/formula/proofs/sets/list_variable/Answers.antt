@@ -23,32 +23,27 @@ pub returns-then-marks-n-gt0 : goal.returns-then-marks-n-gt0
 unfolding variable_reason
 returns-then-marks-n-gt0 c = record { answers = simp (le-leb _ _ c.if-variables-n.false, lt-ltb _ _ c.if-marks-n-gt0.true); stores = tt }
 
-pub put_entry-requires : goal.put_entry-requires
-put_entry-requires c =
-    let made = variable_made (in_range c.args.n variable_bound) c.args.n c.in-Within.variable (sym c.new.ensures ∙ c.in-Within.is) in
-    record { entries_value = sym c.entry_fits.ensures ∙ c.if-entry_fits.true; variable_le_variable_bound = (omega (arith, made.1), omega arith) }
-
 pub returns-then-entry_fits : goal.returns-then-entry_fits
 unfolding variable_reason
 returns-then-entry_fits c =
-    let made = variable_made (in_range c.args.n variable_bound) c.args.n c.in-Within.variable (sym c.new.ensures ∙ c.in-Within.is) in
+    let made = variable_made (in_range c.args.n variable_bound) c.args.n c.in-Some.variable (sym c.new.ensures ∙ c.in-Some.is) in
     let fits = sym c.entry_fits.ensures ∙ c.if-entry_fits.true in
     record {
       answers = simp (le-leb _ _ c.if-variables-n.false, le-ltb _ _ c.if-marks-n-gt0.false, fits);
       stores = (rw made.1 c.put_entry.ensures, refl);
     }
 
-pub returns-in-Outside : goal.returns-in-Outside
+pub returns-in_default : goal.returns-in_default
 unfolding variable_reason
-returns-in-Outside c =
+returns-in_default c =
     let args = c.args in
-    let outside = variable_refused (in_range args.n variable_bound) args.n (sym c.new.ensures ∙ c.in-Outside.is) in
+    let outside = variable_refused (in_range args.n variable_bound) args.n (sym c.new.ensures ∙ c.in_default.is) in
     let above : args.variables < args.n = omega (arith, above_range args.n variable_bound c.requires.0 outside) in
     record { answers = simp (lt-leb _ _ above); stores = tt }
 
-pub returns-else-entry_fits : goal.returns-else-entry_fits
+pub returns : goal.returns
 unfolding variable_reason
-returns-else-entry_fits c =
+returns c =
     let full = sym c.entry_fits.ensures ∙ c.if-entry_fits.false in
     record { answers = simp (le-leb _ _ c.if-variables-n.false, le-ltb _ _ c.if-marks-n-gt0.false, full); stores = tt }
 

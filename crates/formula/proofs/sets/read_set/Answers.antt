@@ -4,18 +4,12 @@ use mathlib.Core.List.{[]}
 use native.Mathlib.Omega.{arith}
 use Rattle.scanner.specs.Token.{number_of}
 use Rattle.scanner.proofs.Theorems.Token.Laws.{Finds, no_token, token_found}
-use Rattle.formula.proofs.Theorems.Text.Sets.Laws.{set_begins, set_ends, set_closes, set_refuses, set_lists}
+use Rattle.formula.proofs.Theorems.Text.Sets.Laws.{set_ends, set_closes, set_refuses, set_lists}
 use borrow.Author.Rules.{rules}
-use Rattle.formula.specs.Prefix.{quantifier_of}
 use Rattle.formula.proofs.sets.read_set.Tie as tie
 use Rattle.formula.proofs.sets.read_set.Lts as lts
 use Rattle.formula.proofs.sets.read_set.Reads as reads
 use Rattle.formula.proofs.sets.read_set.Goals as goal
-
-pub loop-end-init : goal.loop-end-init
-loop-end-init c =
-    let args = c.args in
-    (set_begins args.text.now args.from.place args.variables (quantifier_of args.existential) args.entries args.prefix.now args.marks.now c.requires.variables_le_variable_bound.1 c.requires.variables_le_variable_bound.2, c.requires.position_in.0)
 
 -- the token that was found
 found : (c : lts.Past-After-known_told2 tie.the-claims reads.Pre reads.Post goal.the-invariant-loop-end goal.the-decreases-loop-end tie.handed_clauses) → let l = c.before.before in Finds l.args.text.now l.loop-end.at.place c.in-Found.token c.in-Found.place c.in-Found.next
@@ -27,17 +21,17 @@ returns-in-End c =
     let none = no_token l.args.text.now l.loop-end.at.place (sym c.next_token.ensures ∙ c.in-End.is) in
     rw (c.in_text.ensures, none.1) (set_ends l.loop-end.invariant.0 none.0 [] [])
 
-pub returns-in-Refused : goal.returns-in-Refused
-returns-in-Refused c =
+pub returns-in-Err : goal.returns-in-Err
+returns-in-Err c =
     let t = c.before.before.before.before in
     let f = found t.before.before.before in
-    rw c.in_text-in-Refused.ensures (set_refuses t.loop-end.invariant.0 f (rw c.in-Refused.is at (t.set_token.ensures (number_of f.bytes) (sym f.shows_it))))
+    rw c.in_text-in-Err.ensures (set_refuses t.loop-end.invariant.0 f (rw c.in-Err.is at (t.set_token.ensures (number_of f.bytes) (sym f.shows_it))))
 
-pub returns-in-Closed : goal.returns-in-Closed
-returns-in-Closed c =
+pub returns-in-Ok-Closed : goal.returns-in-Ok-Closed
+returns-in-Ok-Closed c =
     let t = c.before.before.before in
     let f = found t.before.before.before in
-    set_closes t.loop-end.invariant.0 f (rw c.in-Closed.is at (t.set_token.ensures (number_of f.bytes) (sym f.shows_it)))
+    set_closes t.loop-end.invariant.0 f (rw (c.in-Ok-Closed.is, c.in-Ok-Closed.field-0-is) at (t.set_token.ensures (number_of f.bytes) (sym f.shows_it)))
 
 pub loop-end-smaller : goal.loop-end-smaller
 loop-end-smaller c = let f = found c.before.before.before.before.before.before in omega (arith, f.after, f.next_in.inside)
@@ -46,10 +40,5 @@ pub loop-end-preserved : goal.loop-end-preserved
 loop-end-preserved c =
     let t = c.before.before.before in
     let f = found t.before.before.before in
-    (set_lists t.loop-end.invariant.0 f (search rules) (rw c.in-Listed.is at (t.set_token.ensures (number_of f.bytes) (sym f.shows_it))), f.next_in)
-
-pub next_token-requires : goal.next_token-requires
-next_token-requires c = (c.loop-end.invariant.1, c.requires.position_in.1)
-
-pub set_token-requires : goal.set_token-requires
-set_token-requires c = let I = c.loop-end.invariant.0 in (search rules, I.room, I.listed)
+    rw c.in-Ok-Listed.field-0-is
+    (set_lists t.loop-end.invariant.0 f (search rules) (rw (c.in-Ok-Listed.is, c.in-Ok-Listed.field-0-is) at (t.set_token.ensures (number_of f.bytes) (sym f.shows_it))), f.next_in)

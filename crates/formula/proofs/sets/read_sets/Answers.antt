@@ -5,6 +5,7 @@ use borrow.Author.Rules.{rules}
 use Rattle.scanner.specs.Token.{same, a_text, e_text}
 use Rattle.scanner.proofs.Theorems.Token.Laws.{no_token, token_found}
 use Rattle.formula.proofs.Theorems.Text.Sets.Laws.{sets_begin, sets_end, sets_over, sets_refuse, sets_on}
+use Rattle.std.proofs.lemmas.Result.{err_from_is_err_and}
 use Rattle.formula.proofs.sets.read_sets.Goals as goal
 
 pub loop-place-init : goal.loop-place-init
@@ -35,19 +36,20 @@ read_set-requires-clause-position_in c =
     let f = token_found c.args.text.now l.at.place l.invariant.1.inside (sym c.next_token.ensures ∙ c.in-Found.is) in
     (f.next_in, c.requires.position_in.1)
 
-pub returns-in-Refused : goal.returns-in-Refused
-returns-in-Refused c =
+pub returns-in_err-set-in-Found : goal.returns-in_err-set-in-Found
+returns-in_err-set-in-Found c =
     let l = c.loop-place in
     let f = token_found c.args.text.now l.at.place l.invariant.1.inside (sym c.next_token.ensures ∙ c.in-Found.is) in
     let e : c.is_word-e.result ≡ same f.bytes e_text = rw f.slice c.is_word-e.ensures in
     let a : c.is_word-a.result ≡ same f.bytes a_text = rw f.slice c.is_word-a.ensures in
-    sets_refuse l.invariant.1 l.invariant.0 f (rw (e, a) at c.if-e-a.true) (rw (c.in-Refused.is, e) at c.read_set.ensures) [] []
+    let x = err_from_is_err_and c.from_residual.result c.from_residual.ensures.1 in
+    rw (x.1, x.2) (sets_refuse l.invariant.1 l.invariant.0 f (rw (e, a) at c.if-e-a.true) (rw (c.in_err-set-in-Found.was, e) at c.read_set.ensures) [] [])
 
 pub loop-place-smaller : goal.loop-place-smaller
 loop-place-smaller c =
     let l = c.loop-place in
     let f = token_found c.args.text.now l.at.place l.invariant.1.inside (sym c.next_token.ensures ∙ c.in-Found.is) in
-    let post = rw c.in-Sets.is at c.read_set.ensures in
+    let post = rw c.in_ok-set-in-Found.was at c.read_set.ensures in
     omega (arith, f.after, f.next_in.inside, post.3, post.4.inside)
 
 pub loop-place-preserved : goal.loop-place-preserved
@@ -56,7 +58,7 @@ loop-place-preserved c =
     let f = token_found c.args.text.now l.at.place l.invariant.1.inside (sym c.next_token.ensures ∙ c.in-Found.is) in
     let e : c.is_word-e.result ≡ same f.bytes e_text = rw f.slice c.is_word-e.ensures in
     let a : c.is_word-a.result ≡ same f.bytes a_text = rw f.slice c.is_word-a.ensures in
-    let post = rw (c.in-Sets.is, e) at c.read_set.ensures in
+    let post = rw (c.in_ok-set-in-Found.was, e) at c.read_set.ensures in
     (sets_on l.invariant.1 l.invariant.0 f (rw (e, a) at c.if-e-a.true) _ _ _ _ (search rules) post, post.4)
 
 pub returns-else-e-a : goal.returns-else-e-a

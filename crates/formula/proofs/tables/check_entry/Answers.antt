@@ -38,7 +38,7 @@ returns-then-v-lt1 c seen m =
     let ws = a.prefix.now in
     let v : c.ordinal-v.result ≡ number ws a.at = read _ _ _ c.ordinal-v.ensures (search rules) in
     let none : number ws a.at ≡ 0 = omega (arith, v, c.if-v-lt1.true) in
-    record_judged ws a.at c.requires.at_in_bounds.0 seen a.last a.block ∙ rw (none, c.new.ensures)
+    record_judged ws a.at c.requires.at_in_bounds.0 seen a.last.quantifier a.last.block ∙ rw (none, c.new.ensures)
 
 pub is_listed-requires-clause-le_variable : goal.is_listed-requires-clause-le_variable
 is_listed-requires-clause-le_variable c =
@@ -63,7 +63,7 @@ returns-then-is_listed c seen m =
     let v : c.ordinal-v.result ≡ number ws a.at = read _ _ _ c.ordinal-v.ensures (search rules) in
     let positive : 0 < number ws a.at = omega (arith, v, c.if-v-lt1.false) in
     let again : is_in (number ws a.at) seen ≡ true = looked_for ws a.at _ _ seen v c.is_listed.ensures m ∙ c.if-is_listed.true in
-    record_judged ws a.at c.requires.at_in_bounds.0 seen a.last a.block ∙ rw (lt-ltb 0 (number ws a.at) positive, again, c.new-then-is_listed.ensures)
+    record_judged ws a.at c.requires.at_in_bounds.0 seen a.last.quantifier a.last.block ∙ rw (lt-ltb 0 (number ws a.at) positive, again, c.new-then-is_listed.ensures)
 
 pub returns-then-ordinal-due : goal.returns-then-ordinal-due
 returns-then-ordinal-due c =
@@ -75,12 +75,12 @@ returns-then-ordinal-due c =
     let r : c.ordinal.result ≡ number ws (at + 2) = read _ _ _ c.ordinal.ensures (search rules) in
     let due = rw q at c.next_block-due.ensures in
     let known = rw q at c.if-quantifier.true in
-    let b : number ws (at + 2) ≡ next_block a.last a.block (number ws (at + 1)) = sym r ∙ c.if-ordinal-due.true ∙ due in (
+    let b : number ws (at + 2) ≡ next_block a.last.quantifier a.last.block (number ws (at + 1)) = sym r ∙ c.if-ordinal-due.true ∙ due in (
       λ seen m.
           let positive : 0 < number ws at = omega (arith, v, c.if-v-lt1.false) in
           let new : is_in (number ws at) seen ≡ false = looked_for ws at _ _ seen v c.is_listed.ensures m ∙ c.if-is_listed.false in
-          record_judged ws at c.requires.at_in_bounds.0 seen a.last a.block
-          ∙ rw (lt-ltb 0 (number ws at) positive, new, known, b, eq-eqb (next_block a.last a.block (number ws (at + 1))) _ refl)
+          record_judged ws at c.requires.at_in_bounds.0 seen a.last.quantifier a.last.block
+          ∙ rw (lt-ltb 0 (number ws at) positive, new, known, b, eq-eqb (next_block a.last.quantifier a.last.block (number ws (at + 1))) _ refl)
           (λ i. prefix_refusal (at + 3) (number ws at ∷ seen) (sym q i) (sym due i) (drop (at + 3) ws)),
       listing_add
           c.ordinal-v.result
@@ -90,7 +90,7 @@ returns-then-ordinal-due c =
           c.mark.auto.marks
           c.mark.ensures
           (λ u. listed_before ws at c.requires.at_in_bounds.1 c.requires.at_in_bounds.0 u ∙ ap (λ (n : ℕ). listed_in (take at ws) u || eqb u n) (sym v)),
-      rw c.next_block-due.ensures (block_bound a.last a.block c.ordinal-quantifier.result),
+      rw c.next_block-due.ensures (block_bound a.last.quantifier a.last.block c.ordinal-quantifier.result),
     )
 
 pub returns-then-quantifier : goal.returns-then-quantifier
@@ -105,9 +105,9 @@ returns-then-quantifier c seen m =
     let known = rw q at c.if-quantifier.true in
     let positive : 0 < number ws at = omega (arith, v, c.if-v-lt1.false) in
     let new : is_in (number ws at) seen ≡ false = looked_for ws at _ _ seen v c.is_listed.ensures m ∙ c.if-is_listed.false in
-    let b : number ws (at + 2) ≡ next_block a.last a.block (number ws (at + 1)) → ⊥ = λ e. c.if-ordinal-due.false (r ∙ e ∙ sym due) in
-    record_judged ws at c.requires.at_in_bounds.0 seen a.last a.block
-    ∙ rw (lt-ltb 0 (number ws at) positive, new, known, ne_eqb (number ws (at + 2)) (next_block a.last a.block (number ws (at + 1))) b, c.new-then-quantifier.ensures)
+    let b : number ws (at + 2) ≡ next_block a.last.quantifier a.last.block (number ws (at + 1)) → ⊥ = λ e. c.if-ordinal-due.false (r ∙ e ∙ sym due) in
+    record_judged ws at c.requires.at_in_bounds.0 seen a.last.quantifier a.last.block
+    ∙ rw (lt-ltb 0 (number ws at) positive, new, known, ne_eqb (number ws (at + 2)) (next_block a.last.quantifier a.last.block (number ws (at + 1))) b, c.new-then-quantifier.ensures)
 
 pub returns : goal.returns
 returns c seen m =
@@ -119,5 +119,5 @@ returns c seen m =
     let positive : 0 < number ws at = omega (arith, v, c.if-v-lt1.false) in
     let new : is_in (number ws at) seen ≡ false = looked_for ws at _ _ seen v c.is_listed.ensures m ∙ c.if-is_listed.false in
     let unknown = rw q at c.if-quantifier.false in
-    record_judged ws at c.requires.at_in_bounds.0 seen a.last a.block
+    record_judged ws at c.requires.at_in_bounds.0 seen a.last.quantifier a.last.block
     ∙ rw (lt-ltb 0 (number ws at) positive, new, unknown, c.new-2.ensures)

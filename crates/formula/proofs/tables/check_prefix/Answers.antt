@@ -1,51 +1,33 @@
 -- `check_prefix` goes on at each record. Assumes nothing.
-use Prim.Native.Nat.{ℕ}
-use mathlib.Core.Path.{◌≡◌, refl, ap, sym, ◌∙◌}
-use native.Mathlib.Omega.{arith}
-use borrow.Author.Rules.{rules}
-use Rattle.formula.specs.Tables.Scan.{check_of}
-use Rattle.formula.specs.declared.refusal.Refusal.{Refusal}
-use Rattle.formula.specs.declared.tables.Check.{Check}
-use Rattle.formula.proofs.Record.{prefix_begins, prefix_refuses, prefix_goes_on, prefix_ends}
+use Rattle.std.proofs.Common.{◌≡◌, ◌+◌, ◌*◌, ◌<◌, length, ap, sym, arith, rules, ℕ, List, ℤ}
+use Rattle.formula.specs.Prefix.{entry_count}
+use Rattle.formula.specs.Prefix.Laws.{entry_count_lem}
+use Rattle.formula.specs.Refusal.{passes}
+use Rattle.formula.proofs.Record.{prefix_begins, prefix_goes_on, prefix_ends}
 use Rattle.formula.proofs.tables.check_prefix.Goals as goal
 
-pub loop-at-init : goal.loop-at-init
-loop-at-init c = (prefix_begins c.args.prefix.now c.args.marks.now c.requires, refl)
+pub loop-i-init : goal.loop-i-init
+loop-i-init c = prefix_begins c.args.prefix.now c.args.marks.now c.requires
 
-pub overflow_add-at : goal.overflow_add-at
-overflow_add-at c = let h = c.loop-at.invariant.0.within in search rules
+-- the whole entries of the prefix end within it
+whole : (ws : List ℤ) (i n : ℕ) → n ≡ entry_count ws → i < n → 3 * i + 2 < length ws
+whole ws i n e h = omega (arith, entry_count_lem ws)
 
-pub check_entry-requires : goal.check_entry-requires
-check_entry-requires c =
-    let l = c.loop-at in
-    let h = l.invariant.0.within in
-    let k = l.invariant.0.low in
-    record { at_in_bounds = (c.loop-at-test.true, l.invariant.0.threes, search rules); listing = l.invariant.0.listing }
+pub check_entry-requires-clause-at_in_bounds : goal.check_entry-requires-clause-at_in_bounds
+check_entry-requires-clause-at_in_bounds c =
+    let I = c.loop-i.invariant in
+    let h = I.within in
+    let k = I.low in
+    (whole c.args.prefix.now c.loop-i.i _ c.entry_count-i-end.ensures c.loop-i-test.true, I.threes, search rules)
 
-refused : {r : Refusal} {A : Type 0} → Check.Refused r ≡ Check.Passed → A
-refused e = let z : ◌≡◌ {A = ℕ} 0 1 = cc in absurd (omega arith)
-
-pub returns-in-Refused : goal.returns-in-Refused
-returns-in-Refused c =
-    let l = c.loop-at in
-    let k = c.check_entry in
-    let step = rw c.in-Refused.is at k.ensures in
-    record { value = ap check_of (sym (prefix_refuses l.invariant.0 step)); listing = λ e. refused e }
-
-pub overflow_add-at-in-Passed : goal.overflow_add-at-in-Passed
-overflow_add-at-in-Passed c = let h = c.loop-at.invariant.0.within in search rules
-
-pub loop-at-smaller : goal.loop-at-smaller
-loop-at-smaller c = let h = c.loop-at-test.true in omega arith
-
-pub loop-at-preserved : goal.loop-at-preserved
-loop-at-preserved c =
-    let l = c.loop-at in
-    let k = c.check_entry in
-    let step = rw c.in-Passed.is at k.ensures in
-    (prefix_goes_on l.invariant.0 c.loop-at-test.true _ _ _ step, k.auto.marks ∙ l.invariant.1)
+pub loop-i-preserved : goal.loop-i-preserved
+loop-i-preserved c =
+    let i = c.loop-i.i in
+    let next : 3 * (i + 1) ≡ 3 * i + 3 = omega arith in
+    let step = rw c.in_ok-last.was at c.check_entry.ensures in
+    rw next (prefix_goes_on c.loop-i.invariant (whole c.args.prefix.now i _ c.entry_count-i-end.ensures c.loop-i-test.true) _ _ step)
 
 pub returns : goal.returns
 returns c =
-    let e = prefix_ends c.loop-at.invariant.0 c.loop-at-test.false in
-    record { value = ap check_of (sym e.0); listing = λ p. e.1 }
+    let e = prefix_ends c.loop-i.invariant (omega (arith, entry_count_lem c.args.prefix.now)) in
+    record { value = ap passes (sym e.0); listing = e.1 }

@@ -1,21 +1,14 @@
 -- `check_words`: the prefix is not in threes, or refuses, or the clauses answer with the marks of the prefix. Assumes nothing.
-use Prim.Native.Nat.{◌%◌}
-use mathlib.Core.Path.{◌≡◌, sym, ◌∙◌}
-use mathlib.Core.Bool.{true}
-use mathlib.Core.List.{[]}
-use borrow.Author.Tests.{eq-eqb, ne_eqb}
-use lib.ListN.{length}
-use lib.Dec.{eqb}
+use Rattle.std.specs.Prelude.{◌≡◌, ◌%◌, [], length, eqb, true}
+use Rattle.std.proofs.Common.{sym, ◌∙◌, eq-eqb, ne_eqb}
+use Rattle.std.proofs.lemmas.Result.{err_from_is_err_and}
 use Rattle.formula.specs.Clear.Laws.{clear_all}
 use Rattle.formula.specs.Tables.{prefix_refusal, clauses_refusal, listed_in, words_refusal}
 use Rattle.formula.proofs.Scan.{listing_none, first_refuses, first_passes}
 use Rattle.formula.proofs.tables.check_words.Goals as goal
 
 pub check_prefix-requires : goal.check_prefix-requires
-check_prefix-requires c = rw (c.clear_bytes.ensures, clear_all) (listing_none (length c.args.marks.now) c.requires)
-
-pub check_clauses-requires : goal.check_clauses-requires
-check_clauses-requires c = c.check_prefix.ensures.listing c.in-Passed.is
+check_prefix-requires c = rw (c.clear_tail.ensures, clear_all) (listing_none (length c.args.marks.now) c.requires)
 
 pub returns-then-prefix-ne0 : goal.returns-then-prefix-ne0
 unfolding words_refusal
@@ -23,22 +16,23 @@ returns-then-prefix-ne0 c =
     let a = c.args in
     rw (ne_eqb (length a.prefix.now % 3) 0 c.if-prefix-ne0.true, c.new.ensures)
 
-pub returns-in-Refused : goal.returns-in-Refused
+pub returns-in_err-check_prefix : goal.returns-in_err-check_prefix
 unfolding words_refusal
-returns-in-Refused c =
+returns-in_err-check_prefix c =
     let a = c.args in
     let threes : eqb (length a.prefix.now % 3) 0 ≡ true = eq-eqb _ 0 c.if-prefix-ne0.false in
-    rw threes
+    let x = err_from_is_err_and c.from_residual.result c.from_residual.ensures.1 in
+    rw (x.1, x.2, threes)
     (sym
     (first_refuses
     (prefix_refusal 0 [] 0 0 a.prefix.now)
     (clauses_refusal (listed_in a.prefix.now) 0 [] a.clauses.now)
-    c.in-Refused.r
-    (sym c.check_prefix.ensures.value ∙ c.in-Refused.is)))
+    _
+    (sym c.check_prefix.ensures.value ∙ c.in_err-check_prefix.was)))
 
-pub returns-in-Passed : goal.returns-in-Passed
+pub returns : goal.returns
 unfolding words_refusal
-returns-in-Passed c =
+returns c =
     let a = c.args in
     let threes : eqb (length a.prefix.now % 3) 0 ≡ true = eq-eqb _ 0 c.if-prefix-ne0.false in
     rw threes
@@ -47,4 +41,4 @@ returns-in-Passed c =
     (first_passes
     (prefix_refusal 0 [] 0 0 a.prefix.now)
     (clauses_refusal (listed_in a.prefix.now) 0 [] a.clauses.now)
-    (sym c.check_prefix.ensures.value ∙ c.in-Passed.is)))
+    (sym c.check_prefix.ensures.value ∙ c.in_ok-check_prefix.was)))

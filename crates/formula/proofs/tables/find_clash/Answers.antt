@@ -10,7 +10,8 @@ use native.Mathlib.Omega.{arith}
 use borrow.Author.Rules.{rules}
 use borrow.Author.Tests.{leb-true}
 use lib.Dec.{leb}
-use lib.ListN.{length, get_or, drop, drop_of_length-le}
+use lib.ListN.{length, get_or, take, drop, drop_of_length-le, length-take}
+use lib.Seq.{get_or-take}
 use lib.IntN.{ℤ, pos, neg_ℤ, nat_abs}
 use mir.Syntax.{w32}
 use mir.Val.{to_z, of_z}
@@ -24,10 +25,11 @@ use Rattle.formula.specs.Tables.Scan.{variables_before, clash_free}
 use Rattle.formula.proofs.Signed.{negated_fits}
 use Rattle.formula.proofs.Scan.{clash_at_seen, clash_at_fresh, same_clashes, opposed_clashes, neither_clashes, before_fresh, before_found}
 use Rattle.formula.proofs.tables.find_clash.Goals as goal
+use Rattle.formula.proofs.tables.find_clash.Goals.{then-earlier-literal-via-then-earlier-literal, then-earlier-literal-via-else-earlier-literal+then-earlier-opposite}
 
 pub search-init : goal.search-init
 unfolding variables_before
-search-init c = (sym (zero-add _), omega arith)
+search-init c = (sym (zero-add _), refl)
 
 -- every word of the clause is in range
 range_at : (ws : List ℤ) (i : ℕ) → ((w : ℤ) → Memᴰ w ws → in_range (nat_abs w) variable_bound ≡ true) → i < length ws → in_range (nat_abs (get_or ws i (pos 0))) variable_bound ≡ true
@@ -44,14 +46,6 @@ returns-in_default c =
     let e = literal_refused (in_range (nat_abs w) variable_bound) w (rw p at (sym c.new.ensures) ∙ c.in_default.is) in
     absurd (false≢true (sym e ∙ range_at ws c.search.i c.requires c.search-test.true))
 
-pub negated-opposite-requires : goal.negated-opposite-requires
-negated-opposite-requires c =
-    let ws = c.args.clause.now in
-    let w = get_or ws c.search.i (pos 0) in
-    let p : to_z w32 (of_z w32 w) ≡ w = search rules in
-    let literal : c.in-Within.literal.0 ≡ w = sym (literal_made (in_range (nat_abs w) variable_bound) w _ (rw p at (sym c.new.ensures) ∙ c.in-Within.is)).1 in
-    rw literal (small_at w (range_at ws c.search.i c.requires c.search-test.true))
-
 -- an earlier word of the same variable: the outer place is the answer
 found :
     (ws : List ℤ) (i j : ℕ) → i < length ws → clash_free [] ws ≡ i + clash_free (variables_before ws i) (drop i ws) → j < i
@@ -60,66 +54,67 @@ found ws i j l s h e =
     let z = clash_at_seen ws i l (variables_before ws i) (before_found (nat_abs (get_or ws i (pos 0))) ws j i h e) in
     omega (arith, z, s)
 
-pub loop-j-init : goal.loop-j-init
+pub loop-earlier-init : goal.loop-earlier-init
 unfolding variables_before is_in
-loop-j-init c = (refl, omega arith)
+loop-earlier-init c = (refl, c.search.invariant.1)
 
-pub loop-j-preserved : goal.loop-j-preserved
-loop-j-preserved c =
+-- an earlier word of the clause
+earlier_is : (ws : List ℤ) (i j : ℕ) → j < length (take i ws) → get_or (take i ws) j (pos 0) ≡ get_or ws j (pos 0)
+earlier_is ws i j h = get_or-take i ws j (pos 0) (omega (arith, length-take i ws))
+
+pub loop-earlier-preserved : goal.loop-earlier-preserved
+loop-earlier-preserved c =
     let ws = c.args.clause.now in
-    let j = c.loop-j.j in
-    let w = get_or ws c.search.i (pos 0) in
+    let i = c.search.i in
+    let j = c.loop-earlier.earlier-index in
+    let w = get_or ws i (pos 0) in
     let v = get_or ws j (pos 0) in
     let p : to_z w32 (of_z w32 w) ≡ w = search rules in
-    let literal : c.in-Within.literal.0 ≡ w = sym (literal_made (in_range (nat_abs w) variable_bound) w _ (rw p at (sym c.new.ensures) ∙ c.in-Within.is)).1 in
+    let literal : c.in-Some.literal.0 ≡ w = sym (literal_made (in_range (nat_abs w) variable_bound) w _ (rw p at (sym c.new.ensures) ∙ c.in-Some.is)).1 in
     let opposite : c.negated-opposite.result.0 ≡ neg_ℤ w = rw literal at c.negated-opposite.ensures in
+    let earlier = earlier_is ws i j c.loop-earlier-test.true in
     let differ : nat_abs w ≡ nat_abs v → ⊥ =
     neither_clashes v w
-    (λ e. c.if-clause-j.false (rw literal (ap (of_z w32) e)))
-    (λ e. c.if-clause-j-2.false (rw opposite (ap (of_z w32) e))) in
-    rw add-one (before_fresh (nat_abs w) ws j differ c.loop-j.invariant.0, c.loop-j-test.true)
+    (λ e. c.if-earlier-literal.false (rw (earlier, literal) (ap (of_z w32) e)))
+    (λ e. c.if-earlier-opposite.false (rw (earlier, opposite) (ap (of_z w32) e))) in
+    rw add-one (before_fresh (nat_abs w) ws j differ c.loop-earlier.invariant.0, c.loop-earlier.invariant.1)
 
 pub search-preserved : goal.search-preserved
 unfolding variables_before
 search-preserved c =
     let ws = c.args.clause.now in
     let l = c.search in
-    let e : c.loop-j.j ≡ l.i = omega (arith, c.loop-j-test.false, c.loop-j.invariant.1) in
-    let fresh : is_in (nat_abs (get_or ws l.i (pos 0))) (variables_before ws l.i) ≡ false = rw e at c.loop-j.invariant.0 in
+    let e : c.loop-earlier.earlier-index ≡ l.i = omega (arith, length-take l.i ws) in
+    let fresh : is_in (nat_abs (get_or ws l.i (pos 0))) (variables_before ws l.i) ≡ false = rw e at c.loop-earlier.invariant.0 in
     let step = clash_at_fresh ws l.i c.search-test.true (variables_before ws l.i) fresh in
-    rw add-one (omega (arith, step, l.invariant.0), c.search-test.true)
+    rw add-one (omega (arith, step, l.invariant.0), c.loop-earlier.invariant.1)
 
 pub returns-after-search : goal.returns-after-search
 unfolding clash_free
 returns-after-search c =
     let l = c.search in
     let ws = c.args.clause.now in
-    let h : length ws ≤ l.i = search rules in
+    let h : length ws ≤ l.i = omega arith in
     let e : clash_free (variables_before ws l.i) (drop l.i ws) ≡ 0 = ap (clash_free (variables_before ws l.i)) (drop_of_length-le ws h) in
     omega (arith, e, l.invariant.0)
 
-pub returns-then-clause-j : goal.returns-then-clause-j
-returns-then-clause-j c =
+pub returns-then-earlier-literal : goal.returns-then-earlier-literal
+returns-then-earlier-literal c =
     let ws = c.args.clause.now in
     let i = c.search.i in
-    let j = c.loop-j.j in
+    let j = c.loop-earlier.earlier-index in
     let w = get_or ws i (pos 0) in
     let v = get_or ws j (pos 0) in
     let p : to_z w32 (of_z w32 w) ≡ w = search rules in
-    let q : to_z w32 (of_z w32 v) ≡ v = search rules in
-    let literal : c.in-Within.literal.0 ≡ w = sym (literal_made (in_range (nat_abs w) variable_bound) w _ (rw p at (sym c.new.ensures) ∙ c.in-Within.is)).1 in
-    found ws i j c.search-test.true c.search.invariant.0 c.loop-j-test.true (same_clashes v w (sym q ∙ ap (to_z w32) (rw literal at c.if-clause-j.true) ∙ p))
-
-pub returns-then-clause-j-2 : goal.returns-then-clause-j-2
-returns-then-clause-j-2 c =
-    let ws = c.args.clause.now in
-    let i = c.search.i in
-    let j = c.loop-j.j in
-    let w = get_or ws i (pos 0) in
-    let v = get_or ws j (pos 0) in
-    let p : to_z w32 (of_z w32 w) ≡ w = search rules in
-    let q : to_z w32 (of_z w32 v) ≡ v = search rules in
-    let literal : c.in-Within.literal.0 ≡ w = sym (literal_made (in_range (nat_abs w) variable_bound) w _ (rw p at (sym c.new.ensures) ∙ c.in-Within.is)).1 in
+    let literal : c.in-Some.literal.0 ≡ w = sym (literal_made (in_range (nat_abs w) variable_bound) w _ (rw p at (sym c.new.ensures) ∙ c.in-Some.is)).1 in
     let opposite : c.negated-opposite.result.0 ≡ neg_ℤ w = rw literal at c.negated-opposite.ensures in
     let back : to_z w32 (of_z w32 (neg_ℤ w)) ≡ neg_ℤ w = to_z-of_z (negated_fits w (small_at w (range_at ws i c.requires c.search-test.true))) in
-    found ws i j c.search-test.true c.search.invariant.0 c.loop-j-test.true (opposed_clashes v w (sym q ∙ ap (to_z w32) (rw opposite at c.if-clause-j-2.true) ∙ back))
+    let earlier = earlier_is ws i j c.loop-earlier-test.true in
+    let read : to_z w32 (of_z w32 (get_or (take i ws) j (pos 0))) ≡ get_or (take i ws) j (pos 0) = search rules in
+    let q = rw earlier at read in
+    let before : j < i = omega (arith, length-take i ws) in
+    found ws i j c.search-test.true c.search.invariant.0 before
+    (elim c.then-earlier-literal.branch [
+      | then-earlier-literal-via-then-earlier-literal b ↦ same_clashes v w (sym q ∙ ap (to_z w32) (rw (earlier, literal) at b.if-earlier-literal.true) ∙ p)
+      | then-earlier-literal-via-else-earlier-literal+then-earlier-opposite b ↦ opposed_clashes v w (sym q ∙ ap (to_z w32) (rw (earlier, opposite) at b.if-earlier-opposite.true) ∙ back)
+    ])

@@ -1,6 +1,6 @@
 -- `literals_end` goes on while words are literals of listed variables: the end found from here is the same. Assumes nothing.
 use Prim.Native.Nat.{ℕ, ◌≤◌}
-use mathlib.Core.Path.{◌≡◌, refl, ap, sym, ◌∙◌}
+use mathlib.Core.Path.{◌≡◌, ap, sym, ◌∙◌}
 use native.Mathlib.Numerals.{add-one}
 use native.Mathlib.Omega.{arith}
 use borrow.Author.Rules.{rules}
@@ -13,9 +13,6 @@ use Rattle.formula.specs.Tables.{listed_in}
 use Rattle.formula.specs.Tables.Scan.{plain_run}
 use Rattle.formula.proofs.Scan.{plain_at_zero, plain_at_large, plain_at_unknown, plain_at_known}
 use Rattle.formula.proofs.tables.literals_end.Goals as goal
-
-pub loop-i-init : goal.loop-i-init
-loop-i-init c = (refl, search rules)
 
 -- a word read back from its bits
 read : (w v : ℤ) (n : ℕ) → n ≡ variable_of (word_of v) → v ≡ w → n ≡ variable_of (word_of w)
@@ -32,7 +29,7 @@ returns-then-v-lt1 c =
     let w = get_or a.clauses.now l.i (pos 0) in
     let v : c.variable-v.result ≡ variable_of (word_of w) = read _ _ _ c.variable-v.ensures (search rules) in
     let e = plain_at_zero (listed_in a.prefix.now) a.clauses.now l.i (search rules) (variable_zero w (rw v at c.if-v-lt1.true)) in
-    omega (arith, e, l.invariant.0)
+    omega (arith, e, l.invariant)
 
 pub returns-then-v-gt-MAX : goal.returns-then-v-gt-MAX
 returns-then-v-gt-MAX c =
@@ -41,7 +38,7 @@ returns-then-v-gt-MAX c =
     let w = get_or a.clauses.now l.i (pos 0) in
     let v : c.variable-v.result ≡ variable_of (word_of w) = read _ _ _ c.variable-v.ensures (search rules) in
     let e = plain_at_large (listed_in a.prefix.now) a.clauses.now l.i (search rules) (variable_above w (rw v at c.if-v-gt-MAX.true)) in
-    omega (arith, e, l.invariant.0)
+    omega (arith, e, l.invariant)
 
 pub loop-i-preserved : goal.loop-i-preserved
 loop-i-preserved c =
@@ -50,25 +47,25 @@ loop-i-preserved c =
     let w = get_or a.clauses.now l.i (pos 0) in
     let v : c.variable-v.result ≡ nat_abs w = magnitude w _ (read _ _ _ c.variable-v.ensures (search rules)) c.if-v-gt-MAX.false in
     let listed = rw v at c.is_listed.ensures in
-    let e = plain_at_known (listed_in a.prefix.now) a.clauses.now l.i (search rules) (rw v at c.if-v-lt1.false) (rw v at c.if-v-gt-MAX.false) (sym listed ∙ c.if-is_listed.true) in
-    rw add-one (omega (arith, e, l.invariant.0), search rules)
+    let e = plain_at_known (listed_in a.prefix.now) a.clauses.now l.i (search rules) (rw v at c.if-v-lt1.false) (rw v at c.if-v-gt-MAX.false) (sym listed ∙ c.if-not-is_listed.false) in
+    rw add-one (omega (arith, e, l.invariant))
 
-pub returns-else-is_listed : goal.returns-else-is_listed
-returns-else-is_listed c =
+pub returns-then-not-is_listed : goal.returns-then-not-is_listed
+returns-then-not-is_listed c =
     let l = c.loop-i in
     let a = c.args in
     let w = get_or a.clauses.now l.i (pos 0) in
     let v : c.variable-v.result ≡ nat_abs w = magnitude w _ (read _ _ _ c.variable-v.ensures (search rules)) c.if-v-gt-MAX.false in
     let listed = rw v at c.is_listed.ensures in
-    let e = plain_at_unknown (listed_in a.prefix.now) a.clauses.now l.i (search rules) (sym listed ∙ c.if-is_listed.false) in
-    omega (arith, e, l.invariant.0)
+    let e = plain_at_unknown (listed_in a.prefix.now) a.clauses.now l.i (search rules) (sym listed ∙ c.if-not-is_listed.true) in
+    omega (arith, e, l.invariant)
 
 pub returns : goal.returns
 unfolding plain_run
 returns c =
     let l = c.loop-i in
     let a = c.args in
-    let h : length a.clauses.now ≤ l.i = search rules in
+    let h : length a.clauses.now ≤ l.i = omega arith in
     let e : plain_run (listed_in a.prefix.now) (drop l.i a.clauses.now) ≡ 0 =
     ap (plain_run (listed_in a.prefix.now)) (drop_of_length-le a.clauses.now h) in
-    omega (arith, e, l.invariant.0)
+    omega (arith, e, l.invariant)

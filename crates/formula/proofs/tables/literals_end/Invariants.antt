@@ -1,13 +1,8 @@
 -- `literals_end` goes on while words are literals of listed variables: the end found from here is the same. Assumes nothing.
-use Prim.Native.Nat.{◌+◌, ◌-◌, ◌≤◌}
-use mathlib.Core.Path.{◌≡◌}
-use lib.ListN.{length, drop}
+use Rattle.std.proofs.Common.{◌≡◌, ◌+◌, drop}
 use Rattle.formula.specs.Tables.{listed_in}
 use Rattle.formula.specs.Tables.Scan.{plain_run}
 use Rattle.formula.proofs.tables.literals_end.Given as goal
 
 abbrev pub invariant-loop-i : goal.invariant-loop-i
-invariant-loop-i l = (l.from + plain_run (listed_in l.prefix) (drop l.from l.clauses) ≡ l.i + plain_run (listed_in l.prefix) (drop l.i l.clauses)) × (l.i ≤ length l.clauses)
-
-abbrev pub decreases-loop-i : goal.decreases-loop-i
-decreases-loop-i l = length l.clauses - l.i
+invariant-loop-i l = l.from + plain_run (listed_in l.prefix) (drop l.from l.clauses) ≡ l.i + plain_run (listed_in l.prefix) (drop l.i l.clauses)

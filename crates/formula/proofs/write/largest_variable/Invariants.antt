@@ -1,14 +1,9 @@
 -- `largest_variable` takes the larger of what it has and each entry's variable: with what is left, it is the largest of all.
 -- Assumes nothing.
-use Prim.Native.Nat.{◌-◌, ◌≤◌, max}
-use mathlib.Core.Path.{◌≡◌}
-use lib.ListN.{drop}
-use Rattle.formula.specs.Prefix.{prefix_of, entry_count}
+use Rattle.std.proofs.Common.{◌≡◌, max, drop}
+use Rattle.formula.specs.Prefix.{prefix_of}
 use Rattle.formula.specs.Write.{largest}
 use Rattle.formula.proofs.write.largest_variable.Given as goal
 
 abbrev pub invariant-loop-i : goal.invariant-loop-i
-invariant-loop-i l = (max l.top (largest (drop l.i (prefix_of l.prefix))) ≡ largest (prefix_of l.prefix)) × (l.i ≤ l.count) × (l.count ≡ entry_count l.prefix)
-
-abbrev pub decreases-loop-i : goal.decreases-loop-i
-decreases-loop-i l = l.count - l.i
+invariant-loop-i l = max l.top (largest (drop l.i (prefix_of l.prefix))) ≡ largest (prefix_of l.prefix)

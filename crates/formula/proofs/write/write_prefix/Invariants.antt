@@ -1,9 +1,7 @@
 -- `write_prefix` stores the entries one by one, then ends the open line: what is left to store is the text of the entries
 -- that the loop has not passed, after the letter of the last one. Assumes nothing.
-use Prim.Native.Nat.{◌-◌, ◌≤◌}
-use mathlib.Core.Path.{◌≡◌}
-use lib.ListN.{drop}
-use Rattle.formula.specs.Prefix.{prefix_of, entry_count}
+use Rattle.std.proofs.Common.{drop}
+use Rattle.formula.specs.Prefix.{prefix_of}
 use Rattle.formula.specs.Store.{Remains}
 use Rattle.formula.specs.Write.Stream.{prefix_text}
 use Rattle.formula.proofs.write.write_prefix.Given as goal
@@ -11,8 +9,3 @@ use Rattle.formula.proofs.write.write_prefix.Given as goal
 abbrev pub invariant-loop-i : goal.invariant-loop-i
 invariant-loop-i l =
     Remains l.initial.text l.at (prefix_text 0 (prefix_of l.prefix)) l.text l.next (prefix_text l.last (drop l.i (prefix_of l.prefix)))
-    × (l.i ≤ l.count)
-    × (l.count ≡ entry_count l.prefix)
-
-abbrev pub decreases-loop-i : goal.decreases-loop-i
-decreases-loop-i l = l.count - l.i

@@ -1,5 +1,8 @@
 -- Laws of reading the header: what is read from each of its four tokens on. Assumes nothing.
-use Rattle.std.specs.Prelude.{ℕ, ◌<◌, ◌≤◌, min, ◌≡◌, Bool, true, false, List, [], ◌∷◌, length, leb}
+use Rattle.formula.specs.declared.refusal.Refusal.{Refusal}
+use Rattle.formula.specs.declared.header.Field.{Field}
+use Rattle.formula.specs.declared.header.Header.{Header}
+use Rattle.std.specs.Prelude.{ℕ, ◌<◌, ◌≤◌, min, ◌≡◌, Bool, true, false, List, [], ◌∷◌, length, leb, Option, Some, None, Result, Ok, Err}
 use Rattle.std.proofs.Math.Path.{refl}
 use Rattle.std.proofs.Common.{ap, ◌∙◌, arith, leb-true, leb-false}
 use Rattle.std.proofs.lemmas.Bool.{lt-leb}
@@ -17,12 +20,6 @@ use Rattle.formula.specs.declared.refusal.Reason.TheVariants.{Headless, Oversize
 use Rattle.scanner.specs.declared.token.Token.{Token as Shown}
 use Rattle.formula.specs.declared.header.Wanted.{Wanted}
 use Rattle.formula.specs.declared.header.Wanted.TheVariants.{P, Cnf, Number as WantsNumber}
-use Rattle.formula.specs.declared.header.FieldValue.{FieldValue}
-use Rattle.formula.specs.declared.header.FieldValue.TheVariants.{Value, Other}
-use Rattle.formula.specs.declared.header.FieldAnswer.{FieldAnswer}
-use Rattle.formula.specs.declared.header.FieldAnswer.TheVariants.{Field, Refused as NoField}
-use Rattle.formula.specs.declared.header.HeaderAnswer.{HeaderAnswer}
-use Rattle.formula.specs.declared.header.HeaderAnswer.TheVariants.{Header, Refused as NoHeader}
 
 -- What is found by the token that was found.
 pub field_found_lem :
@@ -32,9 +29,9 @@ unfolding field_found
 field_found_lem {text} {at} {shows} {p} {n} f wanted = rw (f.first, ← f.ends, ← f.place_in.stands, ← f.next_in.stands, ← f.shows_it)
 
 -- The state after a token at the place `at`, by its value.
-abbrev valued : FieldValue → ℕ → (ℕ → State) → State
-valued Other at next = stopped at Headless
-valued (Value n) at next = next n
+abbrev valued : Option ℕ → ℕ → (ℕ → State) → State
+valued None at next = stopped at Headless
+valued (Some n) at next = next n
 
 -- A word of the header and a number of it, by their value. Above every bound the value is one that is above it too.
 word_valued : (word : List ℕ) (at : ℕ) (bytes : List ℕ) (next : State) → header_word word at bytes next ≡ valued (word_value (same bytes word)) at (λ n. next)
@@ -62,18 +59,18 @@ module _ (prefixRoom clauseRoom : ℕ) (text : List ℕ) where
     steps : (t : Token) → step prefixRoom clauseRoom s t ≡ valued (value_of wanted t.bytes (shown (number_of t.bytes))) t.place (next t.place)
     ends : ending prefixRoom text s ≡ refused (at_end text Headless)
 
-  abbrev pub FieldReads : State → ((at n : ℕ) → State) → ℕ → FieldAnswer → Type 0
-  FieldReads s next at (Field n k) = ((p : ℕ) × (reading_from prefixRoom clauseRoom text s at ≡ reading_from prefixRoom clauseRoom text (next p n) k.place)) × PositionIn text k
-  FieldReads s next at (NoField r) = reading_from prefixRoom clauseRoom text s at ≡ refused r
+  abbrev pub FieldReads : State → ((at n : ℕ) → State) → ℕ → Result Field Refusal → Type 0
+  FieldReads s next at (Ok f) = ((p : ℕ) × (reading_from prefixRoom clauseRoom text s at ≡ reading_from prefixRoom clauseRoom text (next p f.value) f.next.place)) × PositionIn text f.next
+  FieldReads s next at (Err r) = reading_from prefixRoom clauseRoom text s at ≡ refused r
 
   field_read : (s : State) (wanted : Wanted) (next : (at n : ℕ) → State) (at : ℕ) → at ≤ length text → Wants s wanted next → FieldReads s next at (field_found text wanted (tokens_at text at))
   unfolding field_found
   field_read s wanted next at h W = go (tokens_at text at) refl
     where
-      test : {shows : Shown} {p n : Position} (f : Finds text at shows p n) (o : FieldValue) → value_of wanted f.bytes (shown (number_of f.bytes)) ≡ o → FieldReads s next at (field_or o p n)
-      test {shows} {p} {n} f Other e =
+      test : {shows : Shown} {p n : Position} (f : Finds text at shows p n) (o : Option ℕ) → value_of wanted f.bytes (shown (number_of f.bytes)) ≡ o → FieldReads s next at (field_or o p n)
+      test {shows} {p} {n} f None e =
           from_token prefixRoom clauseRoom text s f ∙ rw (W.steps (record { bytes = f.bytes; place = p.place }), e) (from_refused prefixRoom clauseRoom text f.place_in Headless n.place)
-      test {shows} {p} {n} f (Value k) e =
+      test {shows} {p} {n} f (Some k) e =
           ((p.place, from_token prefixRoom clauseRoom text s f ∙ rw (W.steps (record { bytes = f.bytes; place = p.place }), e)), f.next_in)
 
       found : {shows : Shown} {p n : Position} → Finds text at shows p n → FieldReads s next at (field_found text wanted (tokens_at text at))
@@ -87,7 +84,7 @@ module _ (prefixRoom clauseRoom : ℕ) (text : List ℕ) where
       go (t ∷ ts) e = found (token_found text at h (ap (next_of text) e))
 
   -- The header's four tokens.
-  module _ (at : ℕ) (h : at ≤ length text) (a : FieldAnswer) where
+  module _ (at : ℕ) (h : at ≤ length text) (a : Result Field Refusal) where
     pub p_read : a ≡ field_found text P (tokens_at text at) → FieldReads wantsP (λ p n. wantsCnf) at a
     unfolding step ending
     p_read e = rw e (field_read wantsP P (λ p n. wantsCnf) at h (record { steps = λ t. word_valued p_text t.place t.bytes wantsCnf; ends = refl }))
@@ -114,6 +111,6 @@ module _ (prefixRoom clauseRoom : ℕ) (text : List ℕ) where
   above_read bound n p at next e = rw e (from_stopped prefixRoom clauseRoom text p Oversized at)
 
 -- What holds of the header from a later state on holds from an earlier one that leads there.
-pub header_before : (text : List ℕ) (s s' : State) (at at' : ℕ) → ((rp rc : ℕ) → reading_from rp rc text s at ≡ reading_from rp rc text s' at') → (a : HeaderAnswer) → HeaderPost text s' at' a → HeaderPost text s at a
-header_before text s s' at at' e (Header v c n) h = (λ rp rc. e rp rc ∙ h.0 rp rc, h.1, h.2, h.3)
-header_before text s s' at at' e (NoHeader r) h = λ rp rc. e rp rc ∙ h rp rc
+pub header_before : (text : List ℕ) (s s' : State) (at at' : ℕ) → ((rp rc : ℕ) → reading_from rp rc text s at ≡ reading_from rp rc text s' at') → (a : Result Header Refusal) → HeaderPost text s' at' a → HeaderPost text s at a
+header_before text s s' at at' e (Ok k) h = (λ rp rc. e rp rc ∙ h.0 rp rc, h.1, h.2, h.3)
+header_before text s s' at at' e (Err r) h = λ rp rc. e rp rc ∙ h rp rc

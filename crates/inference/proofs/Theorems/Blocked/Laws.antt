@@ -1,12 +1,15 @@
 -- A row that was made touches a clause exactly when the clause is blocked by its universal, and what blocks by the row is what blocks. Assumes
 -- nothing.
-use Rattle.std.specs.Prelude.{ℕ, ◌<◌, ◌≤◌, ◌≡◌, Bool, true, false, ◌&&◌, eqb, length, get_or, take, drop, ℤ, nat_abs}
+use Rattle.std.specs.Prelude.{true}
+use Rattle.std.specs.Prelude.{false}
+use Rattle.std.specs.Prelude.{ℕ, ◌<◌, ◌≤◌, ◌≡◌, Bool, ◌&&◌, eqb, length, get_or, take, drop, ℤ, nat_abs}
 use Rattle.std.proofs.Math.Path.{refl, ap, ap₂}
 use Rattle.std.proofs.Common.{sym, ◌∙◌, arith, eq-eqb, ne_eqb, length-take}
 use Rattle.std.proofs.Math.Bool.{◌||◌}
 use mathlib.Core.List.Memᴰ
 use mathlib.Core.List.{List, [], ◌∷◌}
-use Rattle.std.proofs.Math.Decide.{dec_lt}
+use Rattle.std.proofs.Math.Decide.{dec_lt, ℕ_discrete}
+use Rattle.std.specs.List.{list_any}
 use Rattle.std.proofs.Math.ListN.{get_or-eq_default}
 use Rattle.qbf.specs.Dependency.{depends}
 use Rattle.bits.specs.Flags.Laws.{length_flags}
@@ -49,11 +52,23 @@ variable_near w h = go (dec_lt 1024 (nat_abs w))
     go (no m) = variable_magnitude w (omega arith)
 
 -- A word is of a variable exactly where its magnitude is the variable's number.
-pub variable_is : (w : ℤ) (n : ℕ) → n ≤ 1024 → variable_of (word_of w) ≡ n → eqb n (nat_abs w) ≡ true
-variable_is w n h e = eq-eqb n (nat_abs w) (sym e ∙ variable_near w (omega arith))
+pub variable_test : (w : ℤ) (n : ℕ) → n ≤ 1024 → eqb (variable_of (word_of w)) n ≡ eqb n (nat_abs w)
+variable_test w n h = go (ℕ_discrete (variable_of (word_of w)) n)
+  where
+    go : Dec (variable_of (word_of w) ≡ n) → eqb (variable_of (word_of w)) n ≡ eqb n (nat_abs w)
+    go (yes e) = eq-eqb (variable_of (word_of w)) n e ∙ sym (eq-eqb n (nat_abs w) (sym e ∙ variable_near w (omega arith)))
+    go (no o) = ne_eqb (variable_of (word_of w)) n o ∙ sym (ne_eqb n (nat_abs w) (λ e. o (variable_magnitude w (omega arith) ∙ sym e)))
 
-pub variable_other : (w : ℤ) (n : ℕ) → n ≤ 1024 → (variable_of (word_of w) ≡ n → ⊥) → eqb n (nat_abs w) ≡ false
-variable_other w n h o = ne_eqb n (nat_abs w) (λ e. o (variable_magnitude w (omega arith) ∙ sym e))
+-- The tests of a clause as tests of its words.
+pub touches_any : (row : List ℕ) (C : Words) → list_any (λ (x : ℤ). eqb (get_or row (nat_abs x) 0) 1) C ≡ touches row C
+unfolding touches
+touches_any row [] = refl
+touches_any row (x ∷ C) = ap (λ (b : Bool). eqb (get_or row (nat_abs x) 0) 1 || b) (touches_any row C)
+
+pub occurs_any : (n : ℕ) (C : Words) → list_any (λ (x : ℤ). eqb n (nat_abs x)) C ≡ occurs n C
+unfolding occurs
+occurs_any n [] = refl
+occurs_any n (x ∷ C) = ap (λ (b : Bool). eqb n (nat_abs x) || b) (occurs_any n C)
 
 row_short : (scratch : List ℕ) → length (row_in scratch) ≤ 1025
 unfolding row_in
@@ -65,3 +80,10 @@ row_far scratch w h = go (dec_lt 1024 (nat_abs w))
     go : Dec (1024 < nat_abs w) → get_or (row_in scratch) (nat_abs w) 0 ≡ 0
     go (yes l) = get_or-eq_default (row_in scratch) 0 (omega (arith, l, row_short scratch))
     go (no m) = let e = variable_magnitude w (omega arith) in absurd (omega arith)
+
+-- A word is of a variable exactly where its magnitude is the variable's number.
+pub variable_is : (w : ℤ) (n : ℕ) → n ≤ 1024 → variable_of (word_of w) ≡ n → eqb n (nat_abs w) ≡ true
+variable_is w n h e = eq-eqb n (nat_abs w) (sym e ∙ variable_near w (omega arith))
+
+pub variable_other : (w : ℤ) (n : ℕ) → n ≤ 1024 → (variable_of (word_of w) ≡ n → ⊥) → eqb n (nat_abs w) ≡ false
+variable_other w n h o = ne_eqb n (nat_abs w) (λ e. o (variable_magnitude w (omega arith) ∙ sym e))

@@ -1,5 +1,4 @@
 -- `find_blocker`: the first entry from here on that blocks is the first of all, none before having blocked. Assumes nothing.
-use Prim.Native.Nat.{◌-◌}
 use mathlib.Core.Path.{◌≡◌}
 use lib.ListN.{drop}
 use Rattle.formula.specs.Decode.{clause_at}
@@ -13,6 +12,3 @@ abbrev pub invariant-loop-i : goal.invariant-loop-i
 invariant-loop-i l =
     leftmost (blocks_by (row_in l.scratch) (clause_at l.words l.from)) (with_blocks (prefix_of l.prefix))
     ≡ leftmost (blocks_by (row_in l.scratch) (clause_at l.words l.from)) (drop l.i (with_blocks (prefix_of l.prefix)))
-
-abbrev pub decreases-loop-i : goal.decreases-loop-i
-decreases-loop-i l = l.count - l.i

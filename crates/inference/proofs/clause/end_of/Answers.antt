@@ -6,6 +6,3 @@ use Rattle.inference.proofs.clause.end_of.Goals as goal
 
 pub returns : goal.returns
 returns c = c.clause_end.ensures ∙ close_first_clause c.args.from (drop c.args.from c.args.words.now)
-
-pub clause_end-requires : goal.clause_end-requires
-clause_end-requires c = tt

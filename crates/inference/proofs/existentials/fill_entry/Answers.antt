@@ -3,7 +3,6 @@ use mathlib.Core.Path.{◌≡◌, sym, ◌∙◌}
 use Rattle.qbf.specs.Formula.{entry, existential, universal}
 use Rattle.formula.specs.Prefix.{entry_at}
 use Rattle.formula.specs.Prefix.Laws.{shown_existential, shown_universal, entry_at_ranged}
-use Rattle.inference.specs.Existentials.Laws.{existential_asked, universal_asked_lem}
 use Rattle.inference.proofs.existentials.fill_entry.Tie as tie
 use Rattle.inference.proofs.existentials.fill_entry.Lts as lts
 use Rattle.inference.proofs.existentials.fill_entry.Reads as reads
@@ -18,16 +17,10 @@ universal_at c = shown_universal _ _ (sym c.entry_at.ensures ∙ c.in-Universal.
 
 pub put_if-requires : goal.put_if-requires
 put_if-requires c =
-    let ranged = rw (existential_at c.before) at (entry_at_ranged c.args.prefix.now c.requires.fact_1 c.args.place c.requires.fact_2) in
-    record { fact_1 = c.requires.fact_3; fact_2 = ranged.0; fact_3 = ranged.1 }
+    let ranged = rw (existential_at c.before) at (entry_at_ranged c.args.prefix.now c.requires.entries c.args.place c.requires.place_in) in
+    record { is_positive = ranged.0; in_bound = ranged.1 }
 
 pub put_if-requires-in-Universal : goal.put_if-requires-in-Universal
 put_if-requires-in-Universal c =
-    let ranged = rw (universal_at c.before) at (entry_at_ranged c.args.prefix.now c.requires.fact_1 c.args.place c.requires.fact_2) in
-    record { fact_1 = c.requires.fact_3; fact_2 = ranged.0; fact_3 = ranged.1 }
-
-pub returns-in-Existential : goal.returns-in-Existential
-returns-in-Existential c = rw (existential_at c.before.before.before.before.before, existential_asked c.args.existential) c.put_if.ensures
-
-pub returns-in-Universal : goal.returns-in-Universal
-returns-in-Universal c = rw (universal_at c.before.before.before.before.before, universal_asked_lem c.args.existential) c.put_if-in-Universal.ensures
+    let ranged = rw (universal_at c.before) at (entry_at_ranged c.args.prefix.now c.requires.entries c.args.place c.requires.place_in) in
+    record { is_positive = ranged.0; in_bound = ranged.1 }

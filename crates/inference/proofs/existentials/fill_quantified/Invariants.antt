@@ -1,7 +1,6 @@
 -- `fill_quantified`: filling from the entries that are left gives the same flags. Assumes nothing.
-use Prim.Native.Nat.{◌-◌}
 use mathlib.Core.Path.{◌≡◌}
-use lib.ListN.{length, drop}
+use lib.ListN.{drop}
 use Rattle.bits.specs.Flags.{flags}
 use Rattle.formula.specs.Prefix.{prefix_of, quantifier_of}
 use Rattle.inference.specs.Existentials.{flags_from, quantified_flags}
@@ -9,7 +8,4 @@ use Rattle.inference.proofs.existentials.fill_quantified.Given as goal
 
 abbrev pub invariant-loop-i : goal.invariant-loop-i
 invariant-loop-i l =
-    (flags_from (quantifier_of l.existential) (flags l.bytes) (drop l.i (prefix_of l.prefix)) ≡ quantified_flags (quantifier_of l.existential) (drop l.from (prefix_of l.prefix))) × (length l.bytes ≡ length l.initial.bytes)
-
-abbrev pub decreases-loop-i : goal.decreases-loop-i
-decreases-loop-i l = l.count - l.i
+    (flags_from (quantifier_of l.existential) (flags l.flags) (drop l.i (prefix_of l.prefix)) ≡ quantified_flags (quantifier_of l.existential) (drop l.from (prefix_of l.prefix)))

@@ -1,5 +1,4 @@
 -- `place_behind`: what is right of the variable among the entries from here on is what is right of it among all. Assumes nothing.
-use Prim.Native.Nat.{◌≤◌, ◌-◌}
 use mathlib.Core.Path.{◌≡◌}
 use lib.ListN.{drop}
 use Rattle.qbf.specs.Formula.{after}
@@ -7,7 +6,4 @@ use Rattle.formula.specs.Prefix.{prefix_of}
 use Rattle.inference.proofs.existentials.place_behind.Given as goal
 
 abbrev pub invariant-loop-i : goal.invariant-loop-i
-invariant-loop-i l = (after l.variable.0 (drop l.i (prefix_of l.prefix)) ≡ after l.variable.0 (prefix_of l.prefix)) × (l.i ≤ l.count)
-
-abbrev pub decreases-loop-i : goal.decreases-loop-i
-decreases-loop-i l = l.count - l.i
+invariant-loop-i l = after l.variable.0 (drop l.i (prefix_of l.prefix)) ≡ after l.variable.0 (prefix_of l.prefix)

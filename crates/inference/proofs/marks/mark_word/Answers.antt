@@ -1,19 +1,17 @@
 -- `mark_word` looks at the opposite's mark and stores its own. Assumes nothing.
-use Prim.Native.Nat.{ℕ, ◌<◌, ◌≤◌}
+use Prim.Native.Nat.{ℕ}
 use mathlib.Core.Path.{◌≡◌, ap, ◌∙◌}
 use native.Mathlib.Omega.{arith}
+use borrow.Author.Rules.{rules}
 use lib.Dec.{eqb}
-use lib.ListN.{get_or, set}
+use lib.ListN.{length, get_or, set}
 use lib.IntN.{neg_ℤ}
 use mir.Syntax.{w32}
 use mir.Val.{to_z, of_z}
 use mir.Facts.{to_z-of_z}
 use Rattle.inference.specs.Marks.{slot_at, marks_in}
-use Rattle.inference.specs.Marks.Laws.{slot_at_bound, slot_has_bit, mark_stored, mark_left_out, mark_one}
+use Rattle.inference.specs.Marks.Laws.{slot_bits, mark_stored, mark_left_out, mark_one}
 use Rattle.inference.proofs.Signed.{read_same, read_slot}
-use Rattle.inference.proofs.marks.mark_word.Tie as tie
-use Rattle.inference.proofs.marks.mark_word.Lts as lts
-use Rattle.inference.proofs.marks.mark_word.Reads as reads
 use Rattle.inference.proofs.marks.mark_word.Goals as goal
 
 pub returns-then-same : goal.returns-then-same
@@ -21,31 +19,24 @@ returns-then-same c =
     mark_left_out (marks_in c.args.marks.now) c.args.except c.args.word
     (read_same c.args.except c.args.word c.ranges.except c.ranges.word c.same.ensures c.if-same.true)
 
-pub opposite_marked-met-requires : goal.opposite_marked-met-requires
-opposite_marked-met-requires c = let e : to_z w32 (of_z w32 c.args.word) ≡ c.args.word = to_z-of_z c.ranges.word in record { fact_1 = c.requires.fact_1; fact_2 = rw e c.requires.fact_2 }
-
--- its slot
-own_at : (c : lts.After-slot tie.the-claims reads.Pre reads.Post tie.handed_clauses) → c.slot.result ≡ slot_at c.args.word
-own_at c = read_slot _ c.ranges.word c.slot.ensures
-
-own_bit : (c : lts.After-slot tie.the-claims reads.Pre reads.Post tie.handed_clauses) → (2 ≤ c.slot.result) × (c.slot.result < 2050)
-own_bit c = rw (own_at c) (slot_has_bit c.args.word c.requires.fact_2, slot_at_bound c.args.word)
-
 pub put-requires : goal.put-requires
-put-requires c = let b = own_bit c in let e = c.requires.fact_1 in omega arith
+put-requires c =
+    let b = slot_bits c.args.word c.slot.result (read_slot _ c.ranges.word c.slot.ensures) c.requires in
+    let e : length c.args.marks.now ≡ 256 = search rules in
+    omega arith
 
 pub returns : goal.returns
 returns c =
-    let slot = c.before.before.before.before in
+    let at = read_slot _ c.ranges.word c.slot.ensures in
     let marks = c.args.marks.now in
     let x = c.args.word in
     let e : to_z w32 (of_z w32 x) ≡ x = to_z-of_z c.ranges.word in
     let met : c.opposite_marked-met.result ≡ eqb (get_or (marks_in marks) (slot_at (neg_ℤ x)) 0) 1 = rw e at c.opposite_marked-met.ensures in
     let left : marks_in c.put.new.bytes ≡ set (marks_in marks) (slot_at x) 1 =
-    mark_stored marks c.put.new.bytes c.slot.result 1 (own_bit slot).0 c.put.ensures ∙ ap (λ (s : ℕ). set (marks_in marks) s 1) (own_at slot) in
+    mark_stored marks c.put.new.bytes c.slot.result 1 (slot_bits c.args.word c.slot.result at c.requires).0 c.put.ensures ∙ ap (λ (s : ℕ). set (marks_in marks) s 1) at in
     rw (met, left)
     (mark_one (marks_in marks) c.args.except x
     (read_same c.args.except x c.ranges.except c.ranges.word c.same.ensures c.if-same.false))
 
 pub overflow_sub-slot : goal.overflow_sub-slot
-overflow_sub-slot c = (own_bit c).0
+overflow_sub-slot c = (slot_bits c.args.word c.slot.result (read_slot _ c.ranges.word c.slot.ensures) c.requires).0

@@ -1,14 +1,8 @@
 -- `tick`: ticking what is left of the clause gives the same marks and tells the same. Assumes nothing.
-use Prim.Native.Nat.{◌-◌}
-use mathlib.Core.Path.{◌≡◌}
-use lib.ListN.{length}
 use Rattle.formula.specs.Decode.{clause_at}
 use Rattle.inference.specs.Marks.{marks_in}
 use Rattle.inference.specs.Marks.Laws.{TicksOn}
 use Rattle.inference.proofs.marks.tick.Given as goal
 
-abbrev pub invariant-loop-i : goal.invariant-loop-i
-invariant-loop-i l = TicksOn (marks_in l.initial.marks) (clause_at l.words l.from) (marks_in l.marks) (clause_at l.words l.i) × (length l.marks ≡ length l.initial.marks)
-
-abbrev pub decreases-loop-i : goal.decreases-loop-i
-decreases-loop-i l = length l.words - l.i
+abbrev pub invariant-loop-word : goal.invariant-loop-word
+invariant-loop-word l = TicksOn (marks_in l.initial.marks) (clause_at l.fn.words l.from) (marks_in l.marks) (clause_at l.rest l.word-index)

@@ -2,8 +2,9 @@
 use Rattle.std.specs.Prelude.{ℕ, ◌<◌, ◌≤◌, ◌-◌, ◌≡◌, List, Bool, false, ℤ}
 use Rattle.std.proofs.Common.{ap, sym, ◌∙◌}
 use native.Mathlib.Omega.{arith}
+use borrow.Author.Rules.{rules}
 use lib.Dec.{eqb}
-use lib.ListN.{get_or}
+use lib.ListN.{length, get_or}
 use Rattle.bits.specs.Flags.{flags}
 use Rattle.inference.specs.Marks.{slot_at, marks_in}
 use Rattle.inference.specs.Marks.Laws.{slot_at_bound, mark_read, mark_stored, mark_none, tick_one, tick_none}
@@ -18,14 +19,14 @@ marked_of marks word slot b s h e =
 pub is_set-requires : goal.is_set-requires
 is_set-requires c =
     let b : c.slot-slot.result < 2050 = rw (read_slot _ c.ranges.word c.slot-slot.ensures) (slot_at_bound c.args.word) in
-    let e = c.requires in
+    let e : length c.args.marks.now ≡ 256 = search rules in
     let l = c.if-slot-lt2.false in
     omega arith
 
 pub put-requires : goal.put-requires
 put-requires c =
     let b : c.slot-slot.result < 2050 = rw (read_slot _ c.ranges.word c.slot-slot.ensures) (slot_at_bound c.args.word) in
-    let e = c.requires in
+    let e : length c.args.marks.now ≡ 256 = search rules in
     let l = c.if-slot-lt2.false in
     omega arith
 

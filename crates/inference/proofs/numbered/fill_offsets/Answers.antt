@@ -20,10 +20,7 @@ more_at c =
     let l = c.loop-from in
     let start = c.before.before.before in
     let h = filling_more start.args.clauses.now l.offsets l.n l.from l.invariant.0 c.loop-from-test.true in
-    omega (arith, h, l.invariant.2, start.requires.fact_2)
-
-pub overflow_cast-offsets : goal.overflow_cast-offsets
-overflow_cast-offsets c = omega (arith, c.loop-from-test.true, c.requires.fact_1)
+    omega (arith, h, l.invariant.2, start.requires.inputs_have_room)
 
 pub offset_bounds-offsets-n : goal.offset_bounds-offsets-n
 offset_bounds-offsets-n c = let h = more_at c in let l = c.loop-from.invariant.2 in let g = c.well_formed.1.0.1 in omega arith
@@ -42,10 +39,7 @@ end_at c =
     omega (arith, clause_within clauses l.from (search rules), c.end_of-from.ensures)
 
 pub overflow_add-from : goal.overflow_add-from
-overflow_add-from c = omega (arith, end_at c, c.requires.fact_1)
-
-pub loop-from-smaller : goal.loop-from-smaller
-loop-from-smaller c = let h = c.loop-from-test.true in omega (arith, h, c.end_of-from.ensures)
+overflow_add-from c = omega (arith, end_at c, c.requires.table_in_bound)
 
 pub loop-from-preserved : goal.loop-from-preserved
 loop-from-preserved c =
@@ -61,12 +55,3 @@ pub returns : goal.returns
 returns c =
     let l = c.loop-from in
     filling_ends c.args.clauses.now l.offsets l.n l.empty l.from l.invariant.0 l.invariant.1 c.loop-from-test.false
-
-pub is_empty-requires : goal.is_empty-requires
-is_empty-requires c = tt
-
-pub empty_after-empty-requires : goal.empty_after-empty-requires
-empty_after-empty-requires c = tt
-
-pub end_of-from-requires : goal.end_of-from-requires
-end_of-from-requires c = tt

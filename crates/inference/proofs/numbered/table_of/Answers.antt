@@ -2,8 +2,8 @@
 use borrow.Author.Tests.{le-leb, lt-leb}
 use Rattle.inference.proofs.numbered.table_of.Goals as goal
 
-pub returns-then-n-inputs : goal.returns-then-n-inputs
-returns-then-n-inputs c = simp (le-leb _ _ c.if-n-inputs.true)
+pub returns-then-number-inputs : goal.returns-then-number-inputs
+returns-then-number-inputs c = simp (le-leb _ _ c.if-number-inputs.true)
 
 pub returns : goal.returns
-returns c = simp (lt-leb _ _ c.if-n-inputs.false)
+returns c = simp (lt-leb _ _ c.if-number-inputs.false)

@@ -1,16 +1,15 @@
 -- `check_trailer` answers by the first test that fails. Assumes nothing.
+use Rattle.std.specs.Prelude.{Ok, Some, None}
 use Prim.Native.Nat.{ℕ, ◌/◌, ◌≤◌, ◌<◌}
 use mathlib.Core.Path.{◌≡◌, ap, sym, ◌∙◌}
 use mathlib.Core.Bool.{true, false}
 use native.Mathlib.Omega.{arith}
 use lib.Dec.{leb}
 use mathlib.Core.List.{List}
-use Rattle.formula.specs.Bounds.{proof_bound, proof_fit}
-use Rattle.formula.specs.Bounds.Laws.{fit_made, fit_refused}
-use Rattle.formula.specs.declared.bounds.ProofLength.{ProofLength}
-use Rattle.formula.specs.declared.bounds.ProofFit.TheVariants.{Within, Oversized}
+use Rattle.formula.specs.Bounds.{proof_bound, at_most}
+use Rattle.formula.specs.Bounds.Laws.{within_bound, above_bound}
+use Rattle.formula.specs.declared.bounds.AtMost.{AtMost}
 use Rattle.prooffile.specs.File.{has_trailer, distance, clause_count, step_count}
-use Rattle.prooffile.specs.declared.file.ProofAnswer.TheVariants.{Read}
 use Rattle.prooffile.specs.File.Laws.{trailer_of, refusal_no_trailer, refusal_oversized, refusal_other_formula, refusal_no_room, refusal_none}
 use Rattle.prooffile.proofs.file.check_trailer.Tie as tie
 use Rattle.prooffile.proofs.file.check_trailer.Lts as lts
@@ -18,11 +17,11 @@ use Rattle.prooffile.proofs.file.check_trailer.Reads as reads
 use Rattle.prooffile.proofs.file.check_trailer.Goals as goal
 
 -- What the constructor of a bounded length answers, on the words of a file.
-count_within : (file : List ℕ) (n : ℕ) (l : ProofLength) → n ≡ distance file → proof_fit (n / 4) ≡ Within l → leb (step_count file) proof_bound ≡ true
-count_within file n l d e = ap (λ m. leb (m / 4) proof_bound) (sym d) ∙ (fit_made _ _ _ _ e (λ z. cc)).0
+count_within : (file : List ℕ) (n : ℕ) (l : AtMost proof_bound) → n ≡ distance file → at_most proof_bound (n / 4) ≡ Some l → leb (step_count file) proof_bound ≡ true
+count_within file n l d e = ap (λ m. leb (m / 4) proof_bound) (sym d) ∙ (within_bound _ l e).0
 
-count_oversized : (file : List ℕ) (n : ℕ) → n ≡ distance file → proof_fit (n / 4) ≡ Oversized → leb (step_count file) proof_bound ≡ false
-count_oversized file n d e = ap (λ m. leb (m / 4) proof_bound) (sym d) ∙ fit_refused _ _ _ _ e (λ z. cc)
+count_oversized : (file : List ℕ) (n : ℕ) → n ≡ distance file → at_most proof_bound (n / 4) ≡ None → leb (step_count file) proof_bound ≡ false
+count_oversized file n d e = ap (λ m. leb (m / 4) proof_bound) (sym d) ∙ above_bound _ e
 
 -- A trailer was found.
 trailed : (c : lts.Then1 tie.the-claims reads.Pre reads.Post) → has_trailer c.args.file.now ≡ true
@@ -32,7 +31,7 @@ trailed c = sym c.has_trailer.ensures ∙ c.if-has_trailer.true
 bounded : (c : lts.Past-After-enum_told tie.the-claims reads.Pre reads.Post) → leb (step_count c.args.file.now) proof_bound ≡ true
 bounded c =
     let n = c.before.before in
-    count_within n.args.file.now n.number_at.result c.in-Within.field-0 n.number_at.ensures (sym c.new.ensures ∙ c.in-Within.is)
+    count_within n.args.file.now n.number_at.result c.in-Some.field-0 n.number_at.ensures (sym c.new.ensures ∙ c.in-Some.is)
 
 pub overflow_sub-start : goal.overflow_sub-start
 overflow_sub-start c =
@@ -80,7 +79,7 @@ returns-else-room-words c =
     let s = n.args in
     let q = sym c.number_at-count.ensures ∙ c.if-count-clause_count.false in
     let r : step_count s.file.now ≤ s.room = rw n.number_at.ensures at c.if-room-words.false in
-    rw (refusal_none s.file.now s.clause_count s.room (trailed n.before) (bounded e) q r) (ap (λ m. Read (m / 4)) n.number_at.ensures)
+    rw (refusal_none s.file.now s.clause_count s.room (trailed n.before) (bounded e) q r) (ap (λ m. Ok (m / 4)) n.number_at.ensures)
 
 pub returns-else-has_trailer : goal.returns-else-has_trailer
 returns-else-has_trailer c =

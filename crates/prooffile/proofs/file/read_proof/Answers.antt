@@ -15,17 +15,17 @@ use Rattle.prooffile.proofs.file.read_proof.Reads as reads
 use Rattle.prooffile.proofs.file.read_proof.Goals as goal
 
 -- The trailer passed, and n is the number of words.
-counted : (c : lts.Past-After-known_told2 tie.the-claims reads.Pre reads.Post) → Counted c.args.file.now c.args.clause_count (length c.args.steps.now) c.in-Read.n
+counted : (c : lts.Past-After-known_told2 tie.the-claims reads.Pre reads.Post) → Counted c.args.file.now c.args.clause_count (length c.args.steps.now) c.in-Ok.n
 counted c =
     let a = c.before in
     let s = a.args in
-    counted_of s.file.now s.clause_count (length s.steps.now) c.in-Read.n (sym a.check_trailer.ensures ∙ c.in-Read.is)
+    counted_of s.file.now s.clause_count (length s.steps.now) c.in-Ok.n (sym a.check_trailer.ensures ∙ c.in-Ok.is)
 
 -- The part that is copied is the bytes of the steps.
-part : (c : lts.Past-After-known_told2 tie.the-claims reads.Pre reads.Post) → let s = c.args in take (trailer_start s.file.now - (trailer_start s.file.now - 4 * c.in-Read.n)) (drop (trailer_start s.file.now - 4 * c.in-Read.n) s.file.now) ≡ step_bytes s.file.now
+part : (c : lts.Past-After-known_told2 tie.the-claims reads.Pre reads.Post) → let s = c.args in take (trailer_start s.file.now - (trailer_start s.file.now - 4 * c.in-Ok.n)) (drop (trailer_start s.file.now - 4 * c.in-Ok.n) s.file.now) ≡ step_bytes s.file.now
 part c =
     let s = c.args in
-    counted_bytes s.file.now s.clause_count (length s.steps.now) c.in-Read.n (counted c)
+    counted_bytes s.file.now s.clause_count (length s.steps.now) c.in-Ok.n (counted c)
 
 pub overflow_sub-end : goal.overflow_sub-end
 overflow_sub-end c = (counted c.before).passed.trailer.long
@@ -45,30 +45,30 @@ copy_words-requires c =
     let v = c.before.before.before in
     let a = v.before in
     let s = a.args in
-    let k = counted_of s.file.now s.clause_count (length s.steps.now) v.in-Read.n (sym a.check_trailer.ensures ∙ v.in-Read.is) in (
+    let k = counted_of s.file.now s.clause_count (length s.steps.now) v.in-Ok.n (sym a.check_trailer.ensures ∙ v.in-Ok.is) in (
       ap length (part v)
           ∙ step_bytes_length s.file.now k.passed.trailer
-          ∙ counted_distance s.file.now s.clause_count (length s.steps.now) v.in-Read.n k,
+          ∙ counted_distance s.file.now s.clause_count (length s.steps.now) v.in-Ok.n k,
       omega arith,
     )
 
-pub returns-in-Refused : goal.returns-in-Refused
-returns-in-Refused c =
+pub returns-in-Err : goal.returns-in-Err
+returns-in-Err c =
     let v = c.before.before.before.before in
     let a = v.before in
     let s = a.args in
-    read_refused s.file.now s.clause_count s.steps.now c.clear_words.new.buffer v.in-Refused.refusal
-    (length_answer_refused (proof_refusal s.file.now s.clause_count (length s.steps.now)) (step_count s.file.now) v.in-Refused.refusal (sym a.check_trailer.ensures ∙ v.in-Refused.is))
-    c.clear_words.ensures
+    read_refused s.file.now s.clause_count s.steps.now c.clear_tail.new.buffer v.in-Err.refusal
+    (length_answer_refused (proof_refusal s.file.now s.clause_count (length s.steps.now)) (step_count s.file.now) v.in-Err.refusal (sym a.check_trailer.ensures ∙ v.in-Err.is))
+    c.clear_tail.ensures
 
-pub returns-in-Read : goal.returns-in-Read
-returns-in-Read c =
+pub returns-in-Ok : goal.returns-in-Ok
+returns-in-Ok c =
     let w = c.before.before.before.before.before in
     let v = w.before.before.before in
     let a = v.before in
     let s = a.args in
     let k = counted v in
-    read_whole s.file.now s.clause_count s.steps.now c.clear_words-in-Read.new.buffer v.in-Read.n k
-    (c.clear_words-in-Read.ensures
-    ∙ ap (clear_from (pos 0) v.in-Read.n)
-    (w.copy_words.ensures ∙ ap (λ b. words_of b ++ drop v.in-Read.n s.steps.now) (part v)))
+    read_whole s.file.now s.clause_count s.steps.now c.clear_tail-in-Ok.new.buffer v.in-Ok.n k
+    (c.clear_tail-in-Ok.ensures
+    ∙ ap (clear_from (pos 0) v.in-Ok.n)
+    (w.copy_words.ensures ∙ ap (λ b. words_of b ++ drop v.in-Ok.n s.steps.now) (part v)))

@@ -24,10 +24,10 @@ returns c =
       answers = printed.answers;
       prints = printed.prints;
       short = files.files_line-end.ensures.short;
-      prefix_cleared = cleared_kept (pos 0) given.prefix.now _ _ prefix.clear_words.ensures kept.prefix;
-      clauses_cleared = cleared_kept (pos 0) given.clauses.now _ _ clauses.clear_words-2.ensures kept.clauses;
-      steps_cleared = cleared_kept (pos 0) given.steps.now _ _ steps.clear_words-3.ensures kept.steps;
-      scratch_cleared = cleared_kept 0 given.scratch.now _ _ scratch.clear_bytes.ensures kept.scratch;
-      offsets_cleared = cleared_kept 0 given.offsets.now _ _ offsets.clear_numbers.ensures kept.offsets;
+      prefix_cleared = cleared_kept (pos 0) given.prefix.now _ _ prefix.clear_tail.ensures kept.prefix;
+      clauses_cleared = cleared_kept (pos 0) given.clauses.now _ _ clauses.clear_tail-2.ensures kept.clauses;
+      steps_cleared = cleared_kept (pos 0) given.steps.now _ _ steps.clear_tail-3.ensures kept.steps;
+      scratch_cleared = cleared_kept 0 given.scratch.now _ _ scratch.clear_tail-4.ensures kept.scratch;
+      offsets_cleared = cleared_kept 0 given.offsets.now _ _ offsets.clear_tail-5.ensures kept.offsets;
       accepted_lost = λ h. accepted_denotes_lost room given.formula.now given.proof.now (length given.line.now) (ap (take 9) (sym printed.prints) ∙ h);
     }

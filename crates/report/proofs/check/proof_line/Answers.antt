@@ -7,21 +7,21 @@ use Rattle.report.specs.Printing.Laws.{stores_instead}
 use Rattle.report.proofs.check.proof_line.Goals as goal
 
 pub slice_bounds-judged_line-end : goal.slice_bounds-judged_line-end
-slice_bounds-judged_line-end c = c.settle_proof.ensures.within _ c.in-Read.is
+slice_bounds-judged_line-end c = c.settle_proof.ensures.within _ c.in-Ok.is
 
-pub slice_bounds-judged_line-end-in-Read : goal.slice_bounds-judged_line-end-in-Read
-slice_bounds-judged_line-end-in-Read c = sym (length-take-le _ _ (c.settle_proof.ensures.within _ c.in-Read.is))
+pub slice_bounds-judged_line-end-in-Ok : goal.slice_bounds-judged_line-end-in-Ok
+slice_bounds-judged_line-end-in-Ok c = sym (length-take-le _ _ (c.settle_proof.ensures.within _ c.in-Ok.is))
 
-pub returns-in-Refused : goal.returns-in-Refused
+pub returns-in-Err : goal.returns-in-Err
 unfolding steps_line
-returns-in-Refused c =
+returns-in-Err c =
     stores_instead
-    (ap (steps_line _ _ _ _ _) (proof_settled_refused c.settle_proof.ensures c.in-Refused.is))
+    (ap (steps_line _ _ _ _ _) (proof_settled_refused c.settle_proof.ensures c.in-Err.is))
     c.refused_line.ensures
 
-pub returns-in-Read : goal.returns-in-Read
+pub returns-in-Ok : goal.returns-in-Ok
 unfolding steps_line
-returns-in-Read c =
+returns-in-Ok c =
     stores_instead
-    (ap (steps_line _ _ _ _ _) (proof_settled_read c.settle_proof.ensures c.in-Read.is))
+    (ap (steps_line _ _ _ _ _) (proof_settled_read c.settle_proof.ensures c.in-Ok.is))
     c.judged_line.ensures

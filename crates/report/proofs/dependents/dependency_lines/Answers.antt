@@ -27,7 +27,7 @@ returns c =
       answers = printed.answers;
       prints = printed.prints;
       short = wrote.write_settled-end.ensures.short;
-      prefix_cleared = prefix.clear_words.ensures ∙ ap (λ (n : ℕ). replicate n (pos 0)) p;
-      clauses_cleared = clauses.clear_words-2.ensures ∙ ap (λ (n : ℕ). replicate n (pos 0)) q;
-      scratch_cleared = scratch.clear_bytes.ensures ∙ ap (λ (n : ℕ). replicate n 0) s;
+      prefix_cleared = prefix.clear_tail.ensures ∙ ap (λ (n : ℕ). replicate n (pos 0)) p;
+      clauses_cleared = clauses.clear_tail-2.ensures ∙ ap (λ (n : ℕ). replicate n (pos 0)) q;
+      scratch_cleared = scratch.clear_tail-3.ensures ∙ ap (λ (n : ℕ). replicate n 0) s;
     }

@@ -1,9 +1,7 @@
 -- `write_dependents` stores the dependents one by one: what is left to store is what the entries that the loop has not passed
 -- give. Assumes nothing.
-use Prim.Native.Nat.{◌-◌, ◌≤◌}
-use mathlib.Core.Path.{◌≡◌}
 use lib.ListN.{drop}
-use Rattle.formula.specs.Prefix.{prefix_of, entry_count}
+use Rattle.formula.specs.Prefix.{prefix_of}
 use Rattle.formula.specs.Store.{Remains}
 use Rattle.dependency.specs.Scratch.{row_in}
 use Rattle.report.specs.Dependents.Listing.{marked}
@@ -12,8 +10,3 @@ use Rattle.report.proofs.dependents.write_dependents.Given as goal
 abbrev pub invariant-loop-i : goal.invariant-loop-i
 invariant-loop-i l =
     Remains l.initial.text l.at (marked (row_in l.scratch) (prefix_of l.prefix)) l.text l.next (marked (row_in l.scratch) (drop l.i (prefix_of l.prefix)))
-    × (l.i ≤ l.count)
-    × (l.count ≡ entry_count l.prefix)
-
-abbrev pub decreases-loop-i : goal.decreases-loop-i
-decreases-loop-i l = l.count - l.i

@@ -1,10 +1,9 @@
 -- `write_lines` stores a line for each universal: what is left to store is what the entries that the loop has not passed give.
 -- Assumes nothing.
-use Prim.Native.Nat.{◌-◌, ◌≤◌}
 use mathlib.Core.Path.{◌≡◌}
 use lib.ListN.{length, drop}
 use Rattle.formula.specs.Decode.{formula_of}
-use Rattle.formula.specs.Prefix.{prefix_of, entry_count}
+use Rattle.formula.specs.Prefix.{prefix_of}
 use Rattle.formula.specs.Store.{Remains}
 use Rattle.report.specs.Dependents.{universal_lines}
 use Rattle.report.proofs.dependents.write_lines.Given as goal
@@ -12,9 +11,4 @@ use Rattle.report.proofs.dependents.write_lines.Given as goal
 abbrev pub invariant-loop-place : goal.invariant-loop-place
 invariant-loop-place l =
     Remains l.initial.text 0 (universal_lines (formula_of l.prefix l.clauses) (prefix_of l.prefix) (prefix_of l.prefix)) l.text l.next (universal_lines (formula_of l.prefix l.clauses) (prefix_of l.prefix) (drop l.place (prefix_of l.prefix)))
-    × (l.place ≤ l.count)
-    × (l.count ≡ entry_count l.prefix)
     × (length l.scratch ≡ length l.initial.scratch)
-
-abbrev pub decreases-loop-place : goal.decreases-loop-place
-decreases-loop-place l = l.count - l.place

@@ -7,17 +7,15 @@ use Rattle.report.proofs.line.accepted_line.Goals as goal
 pub returns : goal.returns
 unfolding accepted_line
 returns c =
-    let empty = c in
-    let steps = empty.before.before.before.before in
-    let clauses = steps.before.before.before.before in
-    let variables = clauses.before.before.before.before in
-    let bytes = variables.before.before.before.before in
+    let bytes = c.write_bytes-at.ensures in
+    let variables = c.write_ended-at.ensures in
+    let clauses = c.write_ended-at-2.ensures in
+    let steps = c.write_ended-at-3.ensures in
+    let empty = c.write_ended.ensures in
     let stored =
-    stores_append bytes.write_bytes-at.ensures
-    (stores_append variables.write_spaced-at.ensures.stores
-    (stores_append clauses.write_spaced-at-2.ensures.stores
-    (stores_append steps.write_spaced-at-3.ensures.stores empty.write_last.ensures.stores))) in
+    stores_append bytes
+    (stores_append variables.stores (stores_append clauses.stores (stores_append steps.stores empty.stores))) in
     record {
       stores = stored;
-      short = omega (arith, stored.reached, bytes.write_bytes-at.ensures.reached, variables.write_spaced-at.ensures.upper_bound, clauses.write_spaced-at-2.ensures.upper_bound, steps.write_spaced-at-3.ensures.upper_bound, empty.write_last.ensures.upper_bound);
+      short = omega (arith, stored.reached, bytes.reached, variables.upper_bound, clauses.upper_bound, steps.upper_bound, empty.upper_bound);
     }

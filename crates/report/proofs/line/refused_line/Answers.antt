@@ -7,21 +7,18 @@ use Rattle.report.proofs.line.refused_line.Goals as goal
 pub returns : goal.returns
 unfolding refused_line
 returns c =
-    let end = c in
-    let line = end.before.before.before.before in
-    let place = line.before.before.before.before in
-    let space = place.before.before.before.before in
-    let word = space.before.before.before.before in
-    let number = word.before.before.before.before in
-    let bytes = number.before.before.before.before.before in
+    let bytes = c.write_bytes-at.ensures in
+    let number = c.write_ended-at.ensures in
+    let word = c.write_word-at.ensures in
+    let space = c.put-at.ensures in
+    let place = c.write_ended-at-2.ensures in
+    let line = c.write_ended-at-3.ensures in
+    let end = c.write_end.ensures in
     let stored =
-    stores_append bytes.write_bytes-at.ensures
-    (stores_append (rw number.number.ensures.0 at number.write_spaced-at.ensures.stores)
-    (stores_append word.write_word-at.ensures.stores
-    (stores_append space.put-at.ensures
-    (stores_append place.write_spaced-at-2.ensures.stores
-    (stores_append line.write_spaced-at-3.ensures.stores end.write_end.ensures.stores))))) in
+    stores_append bytes
+    (stores_append (rw c.number.ensures.0 at number.stores)
+    (stores_append word.stores (stores_append space (stores_append place.stores (stores_append line.stores end.stores))))) in
     record {
       stores = stored;
-      short = omega (arith, stored.reached, bytes.write_bytes-at.ensures.reached, number.write_spaced-at.ensures.upper_bound, word.write_word-at.ensures.upper_bound, space.put-at.ensures.reached, place.write_spaced-at-2.ensures.upper_bound, line.write_spaced-at-3.ensures.upper_bound, end.write_end.ensures.upper_bound);
+      short = omega (arith, stored.reached, bytes.reached, number.upper_bound, word.upper_bound, space.reached, place.upper_bound, line.upper_bound, end.upper_bound);
     }

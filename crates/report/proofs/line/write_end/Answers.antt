@@ -8,18 +8,15 @@ use Rattle.report.proofs.line.write_end.Goals as goal
 pub returns-in-Alone : goal.returns-in-Alone
 unfolding refused_end
 returns-in-Alone c =
-    let last = c in
-    let alone = last.before.before in
-    record { stores = rw (sym alone.numbers.ensures ∙ alone.in-Alone.is) last.write_last.ensures.stores; upper_bound = omega (arith, last.write_last.ensures.upper_bound) }
+    record { stores = rw (sym c.numbers.ensures ∙ c.in-Alone.is) c.write_ended.ensures.stores; upper_bound = omega (arith, c.write_ended.ensures.upper_bound) }
 
 pub returns-in-Blocked : goal.returns-in-Blocked
 unfolding refused_end
 returns-in-Blocked c =
-    let block = c in
-    let variable = block.before.before.before.before in
-    let column = variable.before.before.before.before in
-    let blocked = column.before.before in record {
-      stores = rw (sym blocked.numbers.ensures ∙ blocked.in-Blocked.is)
-          (stores_append column.write_spaced-next.ensures.stores (stores_append variable.write_spaced-next-in-Blocked.ensures.stores block.write_last-in-Blocked.ensures.stores));
-      upper_bound = omega (arith, column.write_spaced-next.ensures.upper_bound, variable.write_spaced-next-in-Blocked.ensures.upper_bound, block.write_last-in-Blocked.ensures.upper_bound);
+    let column = c.write_ended-next.ensures in
+    let variable = c.write_ended-next-in-Blocked.ensures in
+    let block = c.write_ended-in-Blocked.ensures in
+    record {
+      stores = rw (sym c.numbers.ensures ∙ c.in-Blocked.is) (stores_append column.stores (stores_append variable.stores block.stores));
+      upper_bound = omega (arith, column.upper_bound, variable.upper_bound, block.upper_bound);
     }

@@ -1,17 +1,11 @@
 -- `settle_proof` goes by the test on the file's length. Assumes nothing.
-use mathlib.Core.Path.{sym, ◌∙◌}
+use Rattle.std.proofs.Common.{sym, ◌∙◌}
 use Rattle.report.specs.Settle.Laws.{fit_within, fit_oversized, proof_oversized, proof_read}
 use Rattle.report.proofs.settle.settle_proof.Goals as goal
 
-pub returns-in-Oversized : goal.returns-in-Oversized
-returns-in-Oversized c =
-    let s = c in
-    rw c.new-in-Oversized.ensures
-    (proof_oversized s.args.bound s.args.file.now _ _ _ (fit_oversized _ _ (sym c.new.ensures ∙ c.in-Oversized.is)))
+pub returns-in_default : goal.returns-in_default
+returns-in_default c =
+    rw c.new-in_default.ensures (proof_oversized c.args.bound c.args.file.now _ _ _ (fit_oversized _ _ (sym c.new.ensures ∙ c.in_default.is)))
 
-pub returns-in-Within : goal.returns-in-Within
-returns-in-Within c =
-    let read = c in
-    let told = read.before.before in
-    let s = told.before.before.before in
-    proof_read s.args.bound s.args.file.now _ _ _ _ (fit_within _ _ _ (sym told.new.ensures ∙ told.in-Within.is)) read.read_proof.ensures
+pub returns : goal.returns
+returns c = proof_read c.args.bound c.args.file.now _ _ _ _ (fit_within _ _ _ (sym c.new.ensures ∙ c.in-Some.is)) c.read_proof.ensures

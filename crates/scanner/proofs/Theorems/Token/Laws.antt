@@ -2,6 +2,7 @@
 use Rattle.std.specs.Prelude.{ℕ, zero, suc, ◌+◌, ◌-◌, ◌<◌, ◌≤◌, ◌≡◌, refl, ◌⊎◌, Bool, true, false, ◌&&◌, ◌||◌, cond, List, [], ◌∷◌, ◌++◌, length, get_or, take, drop, leb, eqb}
 use Rattle.std.proofs.Common.{ap, sym, ◌∙◌, inl, inr, append_assoc, append-nil, add-one, arith, leb-true, length-append, drop_of_length-le, length-drop, length-take, drop-cons, drop-drop, get_or-drop, le_of_suc-le-suc, not-suc-le-zero}
 use Rattle.std.proofs.lemmas.Bool.{false≢true}
+use Rattle.std.specs.Cmp.Lexicographic.{pointwise}
 use Rattle.qbf.specs.Connectives.{and_both}
 use Rattle.scanner.specs.Position.{line_feed, position_at}
 use Rattle.scanner.specs.Position.Cursor.{along, PositionIn}
@@ -104,25 +105,13 @@ run_length text i = omega (arith, length-take (solid (drop i text)) (drop i text
 pub run_inside : (text : List ℕ) (i : ℕ) → i ≤ length text → i + solid (drop i text) ≤ length text
 run_inside text i h = omega (arith, solid_few (drop i text), length-drop i text)
 
--- Bytes compared one by one.
-pub same_byte : (bs cs : List ℕ) (i : ℕ) → i < length bs → i < length cs → same (drop i bs) (drop i cs) ≡ (eqb (get_or bs i 0) (get_or cs i 0) && same (drop (i + 1) bs) (drop (i + 1) cs))
+-- The library's `==` of two slices of bytes.
+pub same_pointwise : (bs cs : List ℕ) → pointwise eqb bs cs ≡ same bs cs
 unfolding same
-same_byte bs cs i h k = rw (drop_next bs i h, drop_next cs i k)
-
-pub same_end : (bs cs : List ℕ) (i : ℕ) → length bs ≤ i → length cs ≤ i → same (drop i bs) (drop i cs) ≡ true
-unfolding same
-same_end bs cs i h k = rw (drop_of_length-le bs {i = i} h, drop_of_length-le cs {i = i} k)
-
-pub same_lengths : (bs cs : List ℕ) → (length bs ≡ length cs → ⊥) → same bs cs ≡ false
-unfolding same
-same_lengths [] [] n = absurd (n refl)
-same_lengths [] (c ∷ cs) n = refl
-same_lengths (b ∷ bs) [] n = refl
-same_lengths (b ∷ bs) (c ∷ cs) n = go (eqb b c) (same_lengths bs cs (λ e. n (ap suc e)))
-  where
-    go : (t : Bool) → same bs cs ≡ false → (t && same bs cs) ≡ false
-    go true e = e
-    go false e = refl
+same_pointwise [] [] = refl
+same_pointwise [] (c ∷ cs) = refl
+same_pointwise (b ∷ bs) [] = refl
+same_pointwise (b ∷ bs) (c ∷ cs) = ap (λ t. eqb b c && t) (same_pointwise bs cs)
 
 -- What the next token tells: there is none, or a first one, with its bytes and positions.
 pub record Finds (text : List ℕ) (at : ℕ) (shows : Shown) (p n : Position) : Type 0 where
@@ -242,3 +231,23 @@ unfolding tokens_from
 nothing_behind text p i h =
     let e : p.place ≡ length text = omega (arith, i.inside) in
     rw (drop_of_length-le text {i = p.place} h, ← e) (ap End i.stands)
+
+-- Bytes compared one by one.
+pub same_byte : (bs cs : List ℕ) (i : ℕ) → i < length bs → i < length cs → same (drop i bs) (drop i cs) ≡ (eqb (get_or bs i 0) (get_or cs i 0) && same (drop (i + 1) bs) (drop (i + 1) cs))
+unfolding same
+same_byte bs cs i h k = rw (drop_next bs i h, drop_next cs i k)
+
+pub same_end : (bs cs : List ℕ) (i : ℕ) → length bs ≤ i → length cs ≤ i → same (drop i bs) (drop i cs) ≡ true
+unfolding same
+same_end bs cs i h k = rw (drop_of_length-le bs {i = i} h, drop_of_length-le cs {i = i} k)
+
+pub same_lengths : (bs cs : List ℕ) → (length bs ≡ length cs → ⊥) → same bs cs ≡ false
+unfolding same
+same_lengths [] [] n = absurd (n refl)
+same_lengths [] (c ∷ cs) n = refl
+same_lengths (b ∷ bs) [] n = refl
+same_lengths (b ∷ bs) (c ∷ cs) n = go (eqb b c) (same_lengths bs cs (λ e. n (ap suc e)))
+  where
+    go : (t : Bool) → same bs cs ≡ false → (t && same bs cs) ≡ false
+    go true e = e
+    go false e = refl

@@ -1,10 +1,7 @@
 -- `read_digits` reads a run byte by byte; each need is one law of Token.Numbers. Assumes nothing.
 use mathlib.Core.Path.{sym, ◌∙◌}
-use native.Mathlib.Omega.{arith}
-use lib.ListN.{get_or}
-use lib.Dec.{eqb}
 use Rattle.scanner.proofs.Theorems.Token.Laws.{solid_blank, solid_end}
-use Rattle.scanner.proofs.Theorems.Token.Numbers.{more_end, digits_begin, digits_more, digits_end}
+use Rattle.scanner.proofs.Theorems.Token.Numbers.{digits_begin, digits_more, digits_end}
 use Rattle.scanner.proofs.token.read_digits.Goals as goal
 
 pub loop-read-init : goal.loop-read-init
@@ -21,12 +18,6 @@ loop-read-preserved c =
     let l = c.before.before.before.before.before.before.loop-read in
     let text = c.before.before.before.before.before.before.before.before.args.text.now in
     rw c.more_digits-read.ensures (digits_more text _ l.read l.invariant c.before.before.before.before.loop-read-test.true (sym c.before.before.is_blank.ensures ∙ c.before.if-is_blank.false))
-
-pub loop-read-smaller : goal.loop-read-smaller
-loop-read-smaller c =
-    let l = c.before.before.before.before.before.before.loop-read in
-    let args = c.before.before.before.before.before.before.before.before.args in
-    rw c.more_digits-read.ensures (omega (arith, more_end l.read (eqb l.read.end args.from) (get_or args.text.now l.read.end 0), c.before.before.before.before.loop-read-test.true))
 
 pub returns : goal.returns
 returns c =

@@ -1,5 +1,5 @@
 -- `skip_blanks` passes blanks one by one. Assumes nothing.
-use mathlib.Core.Path.{refl, sym, ◌∙◌}
+use mathlib.Core.Path.{sym, ◌∙◌}
 use native.Mathlib.Omega.{arith}
 use Rattle.scanner.proofs.Theorems.Position.Laws.{past_in, small_in}
 use Rattle.scanner.proofs.Theorems.Token.Laws.{blank_passed}
@@ -11,25 +11,9 @@ past-at-requires c =
     let s = small_in _ l.at l.invariant.0 c.before.before.before.before.before.before.before.requires.1 in
     (omega (arith, s.0), omega (arith, s.1), omega (arith, s.2))
 
-pub loop-at-smaller : goal.loop-at-smaller
-loop-at-smaller c = rw c.past-at.ensures (omega (arith, c.before.before.before.before.loop-at-test.true))
-
 pub loop-at-preserved : goal.loop-at-preserved
 loop-at-preserved c =
     let l = c.before.before.before.before.before.before.loop-at in
     let text = c.before.before.before.before.before.before.before.before.args.text.now in
     let h = c.before.before.before.before.loop-at-test.true in
     rw c.past-at.ensures (past_in text l.at l.invariant.0 h, l.invariant.1 ∙ blank_passed text l.at.place h (sym c.before.before.is_blank.ensures ∙ c.before.if-is_blank.true))
-
-pub returns-else-is_blank : goal.returns-else-is_blank
-returns-else-is_blank c =
-    let l = c.before.before.before.before.before.loop-at in
-    record { same_tokens = l.invariant.1; stands = l.invariant.0; no_blank = λ h. sym c.before.is_blank.ensures ∙ c.if-is_blank.false }
-
-pub returns : goal.returns
-returns c =
-    let l = c.before.before.loop-at in
-    record { same_tokens = l.invariant.1; stands = l.invariant.0; no_blank = λ h. absurd (omega (arith, c.loop-at-test.false)) }
-
-pub loop-at-init : goal.loop-at-init
-loop-at-init c = (c.before.requires.0, refl)

@@ -1,5 +1,6 @@
 -- Source document 001's prefix (01, "Programs"), 1 −2 3 4 in old words, against its table of records, by computation: the same entries, and each
 -- told by the other; then its proof by way of the old prefix. `e v b` and `a v b` are records of an existential and of a universal.
+use Rattle.checker.specs.Verdict.{Verdict, accept}
 use Rattle.std.specs.Prelude.{◌≡◌, refl, List, [], ◌∷◌, ℤ, pos, negsuc}
 use Rattle.std.proofs.Common.{sym, ◌∙◌}
 use Rattle.qbf.specs.Formula.{existential, universal, entry}
@@ -11,7 +12,6 @@ use Rattle.inference.specs.Rules.{plain_rules}
 use Rattle.checker.specs.Verdict.{scope_verdict}
 use Rattle.inference.specs.Scope.{scope_in}
 use Rattle.checker.specs.Verdict.Examples.{example_prefix, example_clauses, example_steps, positions}
-use Rattle.checker.specs.declared.verdict.Verdict.TheVariants.{Accepted}
 use Rattle.signed.specs.Signed.{signed_prefix, signed_words, signed_formula}
 use Rattle.signed.proofs.Theorems.Signed.Laws.{verdict_same}
 
@@ -35,5 +35,5 @@ example_admitted : Admitted example_prefix example_clauses
 unfolding tables_refusal words_refusal prefix_refusal prefix_of clauses_refusal is_in zeros word_of ordinal
 example_admitted = record { passes = refl }
 
-pub example_verdict : scope_verdict plain_rules (scope_in (signed_formula example_old example_clauses)) example_clauses (example_steps (pos 4)) 8200 9 ≡ Accepted (record { 0 = 9 }) 5
+pub example_verdict : scope_verdict plain_rules (scope_in (signed_formula example_old example_clauses)) example_clauses (example_steps (pos 4)) 8200 9 ≡ accept (record { 0 = 9 }) 5
 example_verdict = sym (verdict_same example_prefix example_clauses example_old example_admitted example_same plain_rules (example_steps (pos 4)) 8200 9) ∙ positions.0

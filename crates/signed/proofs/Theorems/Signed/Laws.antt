@@ -1,5 +1,7 @@
 -- What 01's entries answer of admitted tables is what they answer of the old prefix with the same entries; an admitted table and an old prefix that was
 -- admitted come in pairs, each told by the other. Definitions: Signed. Assumes nothing.
+use Rattle.std.specs.Prelude.{Err}
+use Rattle.formula.specs.declared.refusal.Refusal.{Refusal}
 use Rattle.std.specs.Prelude.{ℕ, zero, suc, ◌≤◌, ◌≡◌, refl, length, leb, ℤ, pos, negsuc, nat_abs}
 use Rattle.std.proofs.Common.{ap, sym, ◌∙◌, not-suc-le-zero, arith}
 use mathlib.Core.List.Memᴰ
@@ -21,7 +23,6 @@ use Rattle.inference.specs.Rules.{Rules}
 use Rattle.checker.specs.Verdict.{if_admitted, scope_verdict, sized_verdict, verdict_of}
 use Rattle.inference.specs.Scope.{scope_in}
 use Rattle.evaluator.specs.Evaluation.{game_bound, verdict, after_tables, unset, evaluation_of}
-use Rattle.evaluator.specs.declared.evaluation.Evaluation.TheVariants.{Refused}
 use Rattle.signed.specs.Signed.{signed_entry, signed_prefix, signed_by, entry_word, signed_words, signed_formula, SignedTables}
 
 -- A word's entry is of the word's magnitude, and so is an entry's word; words to entries and back.
@@ -124,9 +125,9 @@ module _ (prefix clauses old : List ℤ) (a : Admitted prefix clauses) (same : p
   -- games
   pub game_same :
       evaluation_of prefix clauses
-      ≡ require (leb (length old) game_bound) (Refused (refusal Oversized 0)) (verdict (lost (signed_prefix old) unset (matrix_of clauses)))
+      ≡ require (leb (length old) game_bound) (Err (refusal Oversized 0)) (verdict (lost (signed_prefix old) unset (matrix_of clauses)))
   unfolding evaluation_of
-  game_same = λ i. after_tables (a.passes i) (require (leb (count_same i) game_bound) (Refused (refusal Oversized 0)) (verdict (lost (same i) unset (matrix_of clauses))))
+  game_same = λ i. after_tables (a.passes i) (require (leb (count_same i) game_bound) (Err (refusal Oversized 0)) (verdict (lost (same i) unset (matrix_of clauses))))
 
 -- An old prefix for each table, and a table for each old prefix.
 pub table_signed :

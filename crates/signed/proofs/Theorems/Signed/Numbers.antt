@@ -1,5 +1,7 @@
 -- "17's numbers apart" (02, P6): what the checker says of a proof, each reason by 01's number alone, is what is said by the old prefix and steps that
 -- know of no block. Assumes nothing.
+use Rattle.std.specs.Prelude.{Err}
+use Rattle.checker.specs.Verdict.{Verdict, accept}
 use Prim.Native.Nat.{ℕ, zero, suc}
 use Rattle.std.specs.Prelude.{◌≡◌, Bool, not, ◌&&◌, ◌||◌, length, leb, ltb, ℤ, pos, negsuc, nat_abs}
 use Rattle.std.proofs.Math.Path.{refl, ap}
@@ -20,8 +22,6 @@ use Rattle.inference.specs.Empty.{some_empty}
 use Rattle.inference.specs.Steps.{Scope, Step, resolution, reduction, stated_by, size_of, family_of, read_step, antecedent, reduct, blocked, blocker_of, demand, judge_statement, judge_resolution, judge_reduction, judge, Judged, right, wrong, judged_as, judge_read, judge_first, Outcome, turn, less_one, run}
 use Rattle.checker.specs.Verdict.{conclude, scope_verdict, verdict_of}
 use Rattle.inference.specs.Scope.{scope_in}
-use Rattle.checker.specs.declared.verdict.Verdict.{Verdict}
-use Rattle.checker.specs.declared.verdict.Verdict.TheVariants.{Refused}
 use Rattle.signed.specs.Signed.{signed_prefix, signed_formula, refused, said, blockless}
 use Rattle.signed.proofs.Theorems.Signed.Laws.{verdict_same}
 
@@ -122,7 +122,7 @@ pub verdict_said :
     → said (verdict_of rules prefix clauses steps scratch room) ≡ said (scope_verdict rules (blockless (scope_in (signed_formula old clauses))) clauses steps scratch room)
 verdict_said prefix clauses old a same rules steps scratch room =
     ap said (verdict_same prefix clauses old a same rules steps scratch room)
-    ∙ said_within (leb (length steps) proof_bound) (leb rules.scratch scratch) (leb (zeros clauses) room) (Refused (refusal Oversized 0)) (Refused (refusal NoRoom 0)) (Refused (refusal NoRoom (suc room)))
+    ∙ said_within (leb (length steps) proof_bound) (leb rules.scratch scratch) (leb (zeros clauses) room) (Err (refusal Oversized 0)) (Err (refusal NoRoom 0)) (Err (refusal NoRoom (suc room)))
     (conclude rules (zeros clauses) (run rules (family_of steps) (scope_in (signed_formula old clauses)) room (clauses_of clauses) zero steps))
     (conclude rules (zeros clauses) (run rules (family_of steps) (blockless (scope_in (signed_formula old clauses))) room (clauses_of clauses) zero steps))
     (run_said (scope_in (signed_formula old clauses)) rules (family_of steps) (zeros clauses) room (clauses_of clauses) zero steps)

@@ -1,9 +1,11 @@
 -- Laws of the completion as the code does it: the next variable, entries put in front of those that were moved on, blocks numbered last.
 -- Assumes nothing.
-use Rattle.std.specs.Prelude.{ℕ, suc, ◌+◌, ◌≤◌, ◌<◌, ◌≡◌, refl, true, false, List, [], ◌∷◌, ◌++◌, ℤ, length, get_or, take, drop}
+use Rattle.std.specs.Prelude.{ℕ, zero, suc, ◌+◌, ◌≤◌, ◌<◌, ◌≡◌, refl, Bool, true, false, List, [], ◌∷◌, ◌++◌, ℤ, length, get_or, take, drop}
 use Rattle.std.proofs.Math.Path.{ap}
-use Rattle.std.proofs.Common.{sym, ◌∙◌, append-nil, arith, length-append}
+use Rattle.std.proofs.Common.{sym, ◌∙◌, append-nil, arith, length-append, length-drop, get_or-drop, add-one, one-add}
 use Rattle.std.proofs.lemmas.List.{map-append, length-map}
+use Rattle.std.specs.List.{count_by}
+use Rattle.std.proofs.lemmas.List.Sums.{count_by_more_yes, count_by_more_no}
 use Rattle.std.proofs.Math.Seq.{length-take-le}
 use Rattle.qbf.specs.Formula.{existential, entry}
 use Rattle.formula.specs.Bounds.{variable_bound}
@@ -31,6 +33,26 @@ module _ (marks : List ℕ) (v : ℕ) where
   count_yes : is_free_mark (get_or marks (suc v) 0) ≡ true → length (free_marked marks (suc v)) ≡ suc (length (free_marked marks v))
   count_yes e = ap {B = ℕ} (λ (ns : List ℕ). length ns) (free_yes e) ∙ length-append (free_marked marks v) (suc v ∷ []) ∙ omega arith
 
+-- How many of the marks from that of 1 to that of v are of free variables.
+pub marked_free : (marks : List ℕ) (v : ℕ) → v < length marks → count_by is_free_mark (take v (drop 1 marks)) ≡ length (free_marked marks v)
+unfolding passing
+marked_free marks zero h = refl
+marked_free marks (suc v) h = go (marked_free marks v (omega arith)) (is_free_mark (get_or marks (suc v) 0)) refl
+  where
+    here : get_or (drop 1 marks) v 0 ≡ get_or marks (suc v) 0
+    here = get_or-drop 1 marks v 0 ∙ ap (λ k. get_or marks k 0) (one-add v)
+
+    long : v < length (drop 1 marks)
+    long = omega (arith, length-drop 1 marks)
+
+    go :
+        count_by is_free_mark (take v (drop 1 marks)) ≡ length (free_marked marks v) → (t : Bool) → is_free_mark (get_or marks (suc v) 0) ≡ t
+        → count_by is_free_mark (take (suc v) (drop 1 marks)) ≡ length (free_marked marks (suc v))
+    go before true e =
+        omega (arith, rw (add-one v) at (count_by_more_yes is_free_mark (drop 1 marks) v 0 long (rw here e)), before, count_yes marks v e)
+    go before false e =
+        omega (arith, rw (add-one v) at (count_by_more_no is_free_mark (drop 1 marks) v 0 long (rw here e)), before, ap {B = ℕ} (λ (ns : List ℕ). length ns) (free_no marks v e))
+
 -- Entries of the free variables up to v put to the table's start; what is behind those of all stays.
 pub record PutSoFar (marks : List ℕ) (variables : ℕ) (table₀ table : List ℤ) (at v : ℕ) : Type 0 where
   pub within : v ≤ variables
@@ -43,35 +65,35 @@ pub put_begins : (marks : List ℕ) (variables : ℕ) (table : List ℤ) → Put
 unfolding passing
 put_begins marks variables table = record { within = omega arith; same = refl; place = refl; put = entries_none table; behind = refl }
 
-module _ {marks : List ℕ} {variables : ℕ} {table₀ table : List ℤ} {at v : ℕ} (room : entry_words (length (free_marked marks variables)) ≤ length table₀) (h : v < variables) (I : PutSoFar marks variables table₀ table at v) where
-  pub put_skips : is_free_mark (get_or marks (suc v) 0) ≡ false → PutSoFar marks variables table₀ table at (suc v)
+-- The variable n is next.
+module _ {marks : List ℕ} {variables : ℕ} {table₀ table : List ℤ} {at v n : ℕ} (next : n ≡ suc v) (room : entry_words (length (free_marked marks variables)) ≤ length table₀) (h : n ≤ variables) (I : PutSoFar marks variables table₀ table at v) where
+  pub put_skips : is_free_mark (get_or marks n 0) ≡ false → PutSoFar marks variables table₀ table at n
   put_skips e =
-      record {
-        within = h;
-        same = I.same;
-        place = rw (free_no marks v e) I.place;
-        put = rw (free_no marks v e) I.put;
-        behind = I.behind;
-      }
+      let f = free_no marks v (rw next at e) in
+      rw next (record { within = omega arith; same = I.same; place = rw f I.place; put = rw f I.put; behind = I.behind })
 
-  module _ (e : is_free_mark (get_or marks (suc v) 0) ≡ true) where
+  module _ (e : is_free_mark (get_or marks n 0) ≡ true) where
+    free : is_free_mark (get_or marks (suc v) 0) ≡ true
+    free = rw next at e
+
     longer : entry_words (suc at) ≤ entry_words (length (free_marked marks variables))
     longer =
         words_rise (suc at) (length (free_marked marks variables))
-        (omega (arith, I.place, count_yes marks v e, passing_grows (λ k. is_free_mark (get_or marks k 0)) (suc v) variables h))
+        (omega (arith, I.place, count_yes marks v free, passing_grows (λ k. is_free_mark (get_or marks k 0)) (suc v) variables (omega arith)))
 
     pub put_fits : entry_fits (length table) at ≡ true
     put_fits = entry_room (length table) at (omega (arith, longer, room, I.same))
 
-    pub put_adds : suc v ≤ variable_bound → PutSoFar marks variables table₀ (put_entry table at (entry (suc v) existential) 0) (suc at) (suc v)
+    pub put_adds : n ≤ variable_bound → PutSoFar marks variables table₀ (put_entry table at (entry n existential) 0) (suc at) n
     put_adds b =
-        record {
-          within = h;
+        rw next
+        (record {
+          within = omega arith;
           same = put_same table at (entry (suc v) existential) 0 ∙ I.same;
-          place = ap suc I.place ∙ sym (count_yes marks v e);
-          put = put_entries table at (suc v) existential 0 put_fits b ∙ rw I.put (sym (added_yes marks v e));
+          place = ap suc I.place ∙ sym (count_yes marks v free);
+          put = put_entries table at (suc v) existential 0 put_fits (rw next at b) ∙ rw I.put (sym (added_yes marks v free));
           behind = put_before table at (entry (suc v) existential) 0 (entry_words (length (free_marked marks variables))) longer ∙ I.behind;
-        }
+        })
 
 pub put_ends : {marks : List ℕ} {variables : ℕ} {table₀ table : List ℤ} {at v : ℕ} → variables ≤ v → PutSoFar marks variables table₀ table at v → FreePut marks variables table₀ table
 put_ends {marks} {variables} {table₀} {table} {at} {v} h I =

@@ -1,5 +1,8 @@
 -- Laws of reading the clauses: the marks of the open clause's variables, and one law for each outcome of a token.
 -- Assumes nothing.
+use Rattle.std.specs.Prelude.{Result, Ok, Err}
+use Rattle.formula.specs.declared.clauses.ClauseStep.{ClauseStep}
+use Rattle.formula.specs.declared.clauses.ClauseStep.TheVariants.{Literal, Closed}
 use Prim.Native.Nat.{ℕ, zero, suc, ◌+◌, ◌/◌, ◌%◌, ◌≤◌, ◌<◌, min}
 use Rattle.std.specs.Prelude.{◌≡◌, Bool, ◌||◌, length, get_or, set, take, ltb, eqb, ℤ, pos, negsuc, nat_abs}
 use Rattle.std.proofs.Math.Path.{refl, ap, sym}
@@ -47,9 +50,6 @@ use Rattle.formula.specs.declared.refusal.Reason.{Reason}
 use Rattle.scanner.specs.declared.position.Position.{Position}
 use Rattle.scanner.specs.declared.token.Token.{Token as Shown}
 use Rattle.scanner.specs.declared.token.Token.TheVariants.{Natural, Negative, NoNumber}
-use Rattle.formula.specs.declared.clauses.ClauseStep.{ClauseStep}
-use Rattle.formula.specs.declared.clauses.ClauseStep.TheVariants.{Literal, Closed, Refused as NoStep}
-use Rattle.formula.specs.declared.clauses.ClausesAnswer.TheVariants.{Refused as NoClauses}
 
 -- One more word of a table.
 take_push : (xs : List ℤ) (n : ℕ) (w : ℤ) → n < length xs → take (n + 1) (set xs n w) ≡ take n xs ++ (w ∷ [])
@@ -180,12 +180,12 @@ module _ (marks : List ℕ) (P : Prefix) (words : List ℤ) (closed : ℕ) (M : 
   unfolding is_free_mark
   marks_free = record { size = M.size; frees = λ v l k. rw (M.seen v k l, M.says v k) }
 
-pub literal_none : (x : Option Reason) → Literal ≡ literal_step x → x ≡ none
+pub literal_none : (x : Option Reason) → (Ok Literal) ≡ literal_step x → x ≡ none
 literal_none none e = refl
 literal_none (some r) e = let z : ◌≡◌ {A = ℕ} 0 1 = cc in absurd (omega arith)
 
 -- What a literal does to the state and to the tables, by its answer: m is read as the literal of k, which the code has as n.
-module _ {n v : ℕ} {positive : Bool} {used closed : ℕ} {table : List ℤ} {marks : List ℕ} {table' : List ℤ} {marks' : List ℕ} {answer : ClauseStep} (small : v ≤ variable_bound) (room : used ≤ length table) (size : length marks ≡ variable_bound + 1) (m : Number) (k : ℕ) (isLiteral : (place prefixRoom c : ℕ) (P : Prefix) → clause_token prefixRoom (length table) place v c P (take used table) m ≡ put_literal prefixRoom (length table) place v c P (take used table) positive k) (s : min k too_large ≡ n) (post : LiteralPost n v positive used closed table marks table' marks' answer) where
+module _ {n v : ℕ} {positive : Bool} {used closed : ℕ} {table : List ℤ} {marks : List ℕ} {table' : List ℤ} {marks' : List ℕ} {answer : Result ClauseStep Reason} (small : v ≤ variable_bound) (room : used ≤ length table) (size : length marks ≡ variable_bound + 1) (m : Number) (k : ℕ) (isLiteral : (place prefixRoom c : ℕ) (P : Prefix) → clause_token prefixRoom (length table) place v c P (take used table) m ≡ put_literal prefixRoom (length table) place v c P (take used table) positive k) (s : min k too_large ≡ n) (post : LiteralPost n v positive used closed table marks table' marks' answer) where
   abbrev judged : Option Reason
   judged = marked_reason v n marks closed used (length table)
 
@@ -224,7 +224,7 @@ natural_literal : (v used : ℕ) (table : List ℤ) (k : ℕ) → (k ≡ 0 → �
 natural_literal v used table zero z place prefixRoom c P = absurd (z refl)
 natural_literal v used table (suc k) z place prefixRoom c P = refl
 
-module _ {n v used closed : ℕ} {table : List ℤ} {marks : List ℕ} {table' : List ℤ} {marks' : List ℕ} {answer : ClauseStep} (small : v ≤ variable_bound) (room : used ≤ length table) (size : length marks ≡ variable_bound + 1) where
+module _ {n v used closed : ℕ} {table : List ℤ} {marks : List ℕ} {table' : List ℤ} {marks' : List ℕ} {answer : Result ClauseStep Reason} (small : v ≤ variable_bound) (room : used ≤ length table) (size : length marks ≡ variable_bound + 1) where
   pub natural_post : (n ≡ 0 → ⊥) → LiteralPost n v true used closed table marks table' marks' answer → (m : Number) → shown m ≡ Natural n → ClauseTokenPost m v used closed table marks table' marks' answer
   natural_post z post m sh =
       let k = shown_natural m n sh in
@@ -233,11 +233,11 @@ module _ {n v used closed : ℕ} {table : List ℤ} {marks : List ℕ} {table' :
   pub negative_post : LiteralPost n v false used closed table marks table' marks' answer → (m : Number) → shown m ≡ Negative n → ClauseTokenPost m v used closed table marks table' marks' answer
   negative_post post m sh = let k = shown_negative m n sh in rw k.1 (literal_post small room size (negative k.0) k.0 (λ p rp c P. refl) k.2 post)
 
-pub no_number_post : (v used closed : ℕ) (table : List ℤ) (marks : List ℕ) (table' : List ℤ) (marks' : List ℕ) (m : Number) → shown m ≡ NoNumber → ClauseTokenPost m v used closed table marks table' marks' (NoStep BadToken)
+pub no_number_post : (v used closed : ℕ) (table : List ℤ) (marks : List ℕ) (table' : List ℤ) (marks' : List ℕ) (m : Number) → shown m ≡ NoNumber → ClauseTokenPost m v used closed table marks table' marks' (Err BadToken)
 no_number_post v used closed table marks table' marks' m sh = rw (shown_no_number m sh) (record { states = λ p rp c P M. refl; stores = tt })
 
 -- The same of a closing 0.
-pub closing_post : {n v used closed : ℕ} {table table' : List ℤ} {marks : List ℕ} {answer : ClauseStep} → used ≤ length table → length marks ≡ variable_bound + 1 → ClosingPost used table table' answer → n ≡ 0 → (m : Number) → shown m ≡ Natural n → ClauseTokenPost m v used closed table marks table' marks answer
+pub closing_post : {n v used closed : ℕ} {table table' : List ℤ} {marks : List ℕ} {answer : Result ClauseStep Reason} → used ≤ length table → length marks ≡ variable_bound + 1 → ClosingPost used table table' answer → n ≡ 0 → (m : Number) → shown m ≡ Natural n → ClauseTokenPost m v used closed table marks table' marks answer
 closing_post {n} {v} {used} {closed} {table} {table'} {marks} {answer} room size post z m sh =
     let k = shown_natural m n sh in
     let none_left : k.0 ≡ 0 = omega (arith, k.2) in
@@ -304,16 +304,16 @@ module _ {text : List ℕ} {from v c : ℕ} {table₀ table : List ℤ} {marks�
         let R = I.sofar rp P L in
         R.reads ∙ from_token rp (length table₀) text (clauses v c P (take used table)) f ∙ rw (R.marked.count, e)
 
-    pub clauses_over : c ≤ closed → (table' : List ℤ) (marks' : List ℕ) (prefixRoom : ℕ) (P : Prefix) → Listed marks₀ P → ClausesPost text from v c prefixRoom P table₀ table' marks' (NoClauses (refused_at p Miscount))
+    pub clauses_over : c ≤ closed → (table' : List ℤ) (marks' : List ℕ) (prefixRoom : ℕ) (P : Prefix) → Listed marks₀ P → ClausesPost text from v c prefixRoom P table₀ table' marks' (Err (refused_at p Miscount))
     clauses_over h table' marks' rp P L =
         clauses_step false (le-ltb closed c h) rp P L ∙ from_refused rp (length table₀) text f.place_in Miscount k.place
 
     module _ (h : closed < c) where
-      pub clauses_refuse : {r : Reason} {table' : List ℤ} {marks' : List ℕ} → ClauseTokenPost (number_of f.bytes) v used closed table marks table' marks' (NoStep r) → (prefixRoom : ℕ) (P : Prefix) → Listed marks₀ P → ClausesPost text from v c prefixRoom P table₀ table' marks' (NoClauses (refused_at p r))
+      pub clauses_refuse : {r : Reason} {table' : List ℤ} {marks' : List ℕ} → ClauseTokenPost (number_of f.bytes) v used closed table marks table' marks' (Err r) → (prefixRoom : ℕ) (P : Prefix) → Listed marks₀ P → ClausesPost text from v c prefixRoom P table₀ table' marks' (Err (refused_at p r))
       clauses_refuse {r} post rp P L =
           clauses_step true (lt-ltb closed c h) rp P L ∙ rw (← I.same, post.states p.place rp c P (I.sofar rp P L).marked) (from_refused rp (length table) text f.place_in r k.place)
 
-      pub clauses_literal : {table' : List ℤ} {marks' : List ℕ} → length table' ≡ length table → ClauseTokenPost (number_of f.bytes) v used closed table marks table' marks' Literal → ClausesSoFar text from v c table₀ table' marks₀ marks' k.place (used + 1) closed start
+      pub clauses_literal : {table' : List ℤ} {marks' : List ℕ} → length table' ≡ length table → ClauseTokenPost (number_of f.bytes) v used closed table marks table' marks' (Ok Literal) → ClausesSoFar text from v c table₀ table' marks₀ marks' k.place (used + 1) closed start
       clauses_literal {table'} {marks'} l post =
           record {
             room = omega (arith, l, post.stores.0);
@@ -324,7 +324,7 @@ module _ {text : List ℕ} {from v c : ℕ} {table₀ table : List ℤ} {marks�
             sofar = λ rp P L. more rp P L (post.states p.place rp c P (I.sofar rp P L).marked);
           }
         where
-          more : (rp : ℕ) (P : Prefix) → Listed marks₀ P → TokenStates (number_of f.bytes) p.place v used closed table table' marks' rp c P Literal → ClausesRead text from v c (length table₀) table' marks' k.place (used + 1) closed start rp P
+          more : (rp : ℕ) (P : Prefix) → Listed marks₀ P → TokenStates (number_of f.bytes) p.place v used closed table table' marks' rp c P (Ok Literal) → ClausesRead text from v c (length table₀) table' marks' k.place (used + 1) closed start rp P
           more rp P L s =
               record {
                 marked = s.1;
@@ -332,7 +332,7 @@ module _ {text : List ℕ} {from v c : ℕ} {table₀ table : List ℤ} {marks�
                 reads = clauses_step true (lt-ltb closed c h) rp P L ∙ rw (← I.same, s.0);
               }
 
-      pub clauses_closed : {table' : List ℤ} {marks' : List ℕ} → length table' ≡ length table → ClauseTokenPost (number_of f.bytes) v used closed table marks table' marks' Closed → ClausesSoFar text from v c table₀ table' marks₀ marks' k.place (used + 1) (closed + 1) (used + 1)
+      pub clauses_closed : {table' : List ℤ} {marks' : List ℕ} → length table' ≡ length table → ClauseTokenPost (number_of f.bytes) v used closed table marks table' marks' (Ok Closed) → ClausesSoFar text from v c table₀ table' marks₀ marks' k.place (used + 1) (closed + 1) (used + 1)
       clauses_closed {table'} {marks'} l post =
           record {
             room = omega (arith, l, post.stores.0);
@@ -343,7 +343,7 @@ module _ {text : List ℕ} {from v c : ℕ} {table₀ table : List ℤ} {marks�
             sofar = λ rp P L. more rp P L (post.states p.place rp c P (I.sofar rp P L).marked);
           }
         where
-          more : (rp : ℕ) (P : Prefix) → Listed marks₀ P → TokenStates (number_of f.bytes) p.place v used closed table table' marks' rp c P Closed → ClausesRead text from v c (length table₀) table' marks' k.place (used + 1) (closed + 1) (used + 1) rp P
+          more : (rp : ℕ) (P : Prefix) → Listed marks₀ P → TokenStates (number_of f.bytes) p.place v used closed table table' marks' rp c P (Ok Closed) → ClausesRead text from v c (length table₀) table' marks' k.place (used + 1) (closed + 1) (used + 1) rp P
           more rp P L s =
               record {
                 marked = s.1;

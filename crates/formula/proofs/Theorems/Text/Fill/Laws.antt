@@ -1,5 +1,6 @@
 -- Laws of filling and clearing the tables: no marks at first, the stages one after the other, the completed prefix, zeros past the used part.
 -- Assumes nothing.
+use Rattle.std.specs.Prelude.{Some, None, Err}
 use Rattle.std.specs.Prelude.{ℕ, zero, suc, ◌+◌, ◌-◌, ◌≤◌, ◌≡◌, refl, true, false, List, [], ◌∷◌, ◌++◌, length, get_or, take, replicate, leb, ℤ, pos}
 use Rattle.std.proofs.Common.{ap, ◌∙◌, le_of_suc-le-suc, not-suc-le-zero, arith, le-leb, length-append, length-take-le}
 use Rattle.std.proofs.lemmas.Bool.{lt-leb}
@@ -15,7 +16,7 @@ use Rattle.formula.specs.Prefix.Laws.{words_length, entries_length}
 use Rattle.formula.specs.Refusal.{refusal, in_text}
 use Rattle.formula.specs.Tables.{is_in}
 use Rattle.scanner.specs.Token.{first_token}
-use Rattle.formula.specs.Text.{Reading, padded, refused, wantsP, completing, reading, reading_from, ReadPost}
+use Rattle.formula.specs.Text.{Reading, padded, refused, wantsP, completing, reading, reading_from, ReadPost, filled}
 use Rattle.formula.specs.Text.Distinct.{PrefixFine}
 use Rattle.formula.proofs.Theorems.Text.Distinct.{prefix_empty, completed_fine}
 use Rattle.formula.specs.Text.Sets.{Listed}
@@ -23,8 +24,6 @@ use Rattle.formula.specs.Text.Clauses.{MarksFree}
 use Rattle.formula.specs.Text.Fill.{FillPost}
 use Rattle.formula.specs.declared.refusal.Reason.TheVariants.{Oversized as TooLong, NoRoom as Lacks}
 use Rattle.formula.specs.declared.refusal.Refusal.{Refusal}
-use Rattle.formula.specs.declared.free.Completion.TheVariants.{Completed, NoRoom}
-use Rattle.formula.specs.declared.read.ReadAnswer.TheVariants.{Read, Refused as Unread}
 
 unmarked : (n v : ℕ) → get_or {A = ℕ} (replicate n 0) v 0 ≡ 0
 unmarked zero v = refl
@@ -56,7 +55,7 @@ pub clear_padded : (room n : ℕ) (table : List ℤ) → n ≤ length table → 
 clear_padded room n table h e = rw (length-take-le n table h, ← e) (cleared_rest n table h)
 
 -- The filled tables, cleared past the used part, are what reading promises.
-pub read_filled : (text : List ℕ) (prefix clauses prefix' clauses' : List ℤ) (p n c : ℕ) → length prefix' ≡ length prefix → length clauses' ≡ length clauses → FillPost (reading text (length prefix) (length clauses)) prefix' clauses' (Read p n c) → ReadPost text prefix clauses (clear_from (pos 0) p prefix') (clear_from (pos 0) n clauses') (Read p n c)
+pub read_filled : (text : List ℕ) (prefix clauses prefix' clauses' : List ℤ) (p n c : ℕ) → length prefix' ≡ length prefix → length clauses' ≡ length clauses → FillPost (reading text (length prefix) (length clauses)) prefix' clauses' (filled p n c) → ReadPost text prefix clauses (clear_from (pos 0) p prefix') (clear_from (pos 0) n clauses') (filled p n c)
 read_filled text prefix clauses prefix' clauses' p n c e f h =
     record {
       answers = rw (h.0, length-take-le p prefix' h.1, length-take-le n clauses' h.2);
@@ -64,7 +63,7 @@ read_filled text prefix clauses prefix' clauses' p n c e f h =
       fills_clauses = rw h.0 (clear_padded (length clauses) n clauses' h.2 f);
     }
 
-pub read_refused : (text : List ℕ) (prefix clauses prefix' clauses' : List ℤ) (r : Refusal) → length prefix' ≡ length prefix → length clauses' ≡ length clauses → FillPost (reading text (length prefix) (length clauses)) prefix' clauses' (Unread r) → ReadPost text prefix clauses (clear_from (pos 0) 0 prefix') (clear_from (pos 0) 0 clauses') (Unread r)
+pub read_refused : (text : List ℕ) (prefix clauses prefix' clauses' : List ℤ) (r : Refusal) → length prefix' ≡ length prefix → length clauses' ≡ length clauses → FillPost (reading text (length prefix) (length clauses)) prefix' clauses' (Err r) → ReadPost text prefix clauses (clear_from (pos 0) 0 prefix') (clear_from (pos 0) 0 clauses') (Err r)
 read_refused text prefix clauses prefix' clauses' r e f h =
     record {
       answers = rw h;
@@ -103,12 +102,12 @@ module _ (prefixRoom : ℕ) (text : List ℕ) (v c used n : ℕ) (prefix prefix'
       words_length (completed_in marks v used prefix)
       ∙ ap entry_words (length-append (existentials (free_marked marks v)) (entries_in prefix used) ∙ rw (length-map (free_marked marks v) (λ (m : ℕ). entry m existential), entries_length prefix used h))
 
-  pub fill_completed : (total : ℕ) → length prefix' ≡ length prefix → CompletionPost marks v used prefix prefix' (Completed total) → FillPost completed_reading prefix' clauses' (Read total n c)
+  pub fill_completed : (total : ℕ) → length prefix' ≡ length prefix → CompletionPost marks v used prefix prefix' (Some total) → FillPost completed_reading prefix' clauses' (filled total n c)
   fill_completed total l post =
       let fits : leb (length (prefix_words (completed_in marks v used prefix))) prefixRoom ≡ true = le-leb _ prefixRoom (rw (total_length, ← post.0) (omega (arith, post.1, l, room))) in
       (rw (completed_marked v used prefix (take n clauses') marks b F, fits, post.2), post.1, k)
 
-  pub fill_crowded : CompletionPost marks v used prefix prefix' NoRoom → completed_reading ≡ refused (in_text text (length text) Lacks)
+  pub fill_crowded : CompletionPost marks v used prefix prefix' None → completed_reading ≡ refused (in_text text (length text) Lacks)
   fill_crowded post =
       let short : leb (length (prefix_words (completed_in marks v used prefix))) prefixRoom ≡ false = lt-leb _ prefixRoom (rw total_length (omega (arith, post, room))) in
       rw (completed_marked v used prefix (take n clauses') marks b F, short)

@@ -1,5 +1,8 @@
 -- Laws of reading the sets: the marks of the variables listed, and one law for each outcome of a token in a set.
 -- Assumes nothing.
+use Rattle.std.specs.Prelude.{Result, Ok, Err}
+use Rattle.formula.specs.declared.sets.SetStep.{SetStep}
+use Rattle.formula.specs.declared.sets.SetStep.TheVariants.{Listed as Lists, Closed}
 use Prim.Native.Nat.{ℕ, zero, suc, ◌+◌, ◌≤◌, ◌<◌, min}
 use Rattle.std.proofs.Math.Path.{◌≡◌, refl, sym}
 use Rattle.std.proofs.Common.{◌∙◌, add-one, arith, length-set, get_or-set_same, get_or-set_other}
@@ -31,9 +34,6 @@ use Rattle.formula.specs.declared.refusal.Refusal.{Refusal}
 use Rattle.scanner.specs.declared.position.Position.{Position}
 use Rattle.scanner.specs.declared.token.Token.{Token as Shown}
 use Rattle.scanner.specs.declared.token.Token.TheVariants.{Natural, Negative, NoNumber}
-use Rattle.formula.specs.declared.sets.SetStep.{SetStep}
-use Rattle.formula.specs.declared.sets.SetStep.TheVariants.{Listed as Lists, Closed as Closes, Refused as NoListing}
-use Rattle.formula.specs.declared.sets.SetsAnswer.TheVariants.{Sets, Refused as NoSets}
 
 -- One more entry lists its variable.
 pub listed_snoc : (v : ℕ) (P : Prefix) (n : ℕ) (q : Quantifier) → is_in v (listed (P ++ (entry n q ∷ []))) ≡ (is_in v (listed P) || eqb v n)
@@ -64,7 +64,7 @@ listed_more marks P q n h z fresh L =
     small v (no e) = rw (get_or-set_other marks n v 1 0 e) (L.small v)
 
 -- What a number other than 0 does to the state and to the tables, by its answer.
-module _ {n v : ℕ} {q : Quantifier} {used : ℕ} {prefix : List ℤ} {marks : List ℕ} {prefix' : List ℤ} {marks' : List ℕ} {answer : SetStep} (filled : Bool) (small : v ≤ variable_bound) (room : entry_words used ≤ length prefix) (L : Listed marks (entries_in prefix used)) (z : 0 < n) (post : ListingPost n v q used prefix marks prefix' marks' answer) where
+module _ {n v : ℕ} {q : Quantifier} {used : ℕ} {prefix : List ℤ} {marks : List ℕ} {prefix' : List ℤ} {marks' : List ℕ} {answer : Result SetStep Reason} (filled : Bool) (small : v ≤ variable_bound) (room : entry_words used ≤ length prefix) (L : Listed marks (entries_in prefix used)) (z : 0 < n) (post : ListingPost n v q used prefix marks prefix' marks' answer) where
   -- It is judged by its mark.
   abbrev judged : Option Reason
   judged = variable_reason v n (ltb 0 (get_or marks n 0)) (entry_fits (length prefix) used)
@@ -109,10 +109,10 @@ closing_post n v q filled used prefix marks z m sh = let k = shown_natural m n s
     go zero false e = record { states = λ p c rc. refl; stores = tt }
     go (suc k) filled e = absurd (omega arith)
 
-pub negative_post : (n v : ℕ) (q : Quantifier) (filled : Bool) (used : ℕ) (prefix : List ℤ) (marks : List ℕ) (prefix' : List ℤ) (marks' : List ℕ) (m : Number) → shown m ≡ Negative n → SetTokenPost m v q filled used prefix marks prefix' marks' (NoListing BadToken)
+pub negative_post : (n v : ℕ) (q : Quantifier) (filled : Bool) (used : ℕ) (prefix : List ℤ) (marks : List ℕ) (prefix' : List ℤ) (marks' : List ℕ) (m : Number) → shown m ≡ Negative n → SetTokenPost m v q filled used prefix marks prefix' marks' (Err BadToken)
 negative_post n v q filled used prefix marks prefix' marks' m sh = rw (shown_negative m n sh).1 (record { states = λ p c rc. refl; stores = tt })
 
-pub no_number_post : (v : ℕ) (q : Quantifier) (filled : Bool) (used : ℕ) (prefix : List ℤ) (marks : List ℕ) (prefix' : List ℤ) (marks' : List ℕ) (m : Number) → shown m ≡ NoNumber → SetTokenPost m v q filled used prefix marks prefix' marks' (NoListing BadToken)
+pub no_number_post : (v : ℕ) (q : Quantifier) (filled : Bool) (used : ℕ) (prefix : List ℤ) (marks : List ℕ) (prefix' : List ℤ) (marks' : List ℕ) (m : Number) → shown m ≡ NoNumber → SetTokenPost m v q filled used prefix marks prefix' marks' (Err BadToken)
 no_number_post v q filled used prefix marks prefix' marks' m sh = rw (shown_no_number m sh) (record { states = λ p c rc. refl; stores = tt })
 
 -- In a set, at the place `at`: `used` words were used as it began, n are now.
@@ -129,7 +129,7 @@ set_begins text start v q used prefix marks h L =
     record { room = h; more = omega arith; same = refl; listed = L; on = omega arith; reads = λ c rc. rw (le-ltb used used (omega arith)) }
 
 module _ {text : List ℕ} {start v : ℕ} {q : Quantifier} {used : ℕ} {prefix₀ prefix : List ℤ} {marks : List ℕ} {at n : ℕ} (I : SetSoFar text start v q used prefix₀ prefix marks at n) where
-  pub set_ends : tokens_at text at ≡ [] → (prefix' : List ℤ) (marks' : List ℕ) → SetPost text start v q used prefix₀ prefix' marks' (NoSets (at_end text Unfinished))
+  pub set_ends : tokens_at text at ≡ [] → (prefix' : List ℤ) (marks' : List ℕ) → SetPost text start v q used prefix₀ prefix' marks' (Err (at_end text Unfinished))
   unfolding ending
   set_ends e prefix' marks' = λ c rc. I.reads c rc ∙ from_end (length prefix₀) rc text _ at e
 
@@ -139,14 +139,14 @@ module _ {text : List ℕ} {start v : ℕ} {q : Quantifier} {used : ℕ} {prefix
     unfolding step
     set_step c rc = I.reads c rc ∙ from_token (length prefix₀) rc text _ f
 
-    pub set_closes : {prefix' : List ℤ} {marks' : List ℕ} → SetTokenPost (number_of f.bytes) v q (ltb used n) n prefix marks prefix' marks' Closes → SetPost text start v q used prefix₀ prefix' marks' (Sets n k)
+    pub set_closes : {prefix' : List ℤ} {marks' : List ℕ} → SetTokenPost (number_of f.bytes) v q (ltb used n) n prefix marks prefix' marks' (Ok Closed) → SetPost text start v q used prefix₀ prefix' marks' (Ok (record { entries = n; next = k }))
     set_closes post =
         rw (post.stores.0, post.stores.1) (λ c rc. set_step c rc ∙ rw (← I.same, post.states p.place c rc), I.listed, I.room, omega (arith, f.after, I.on), f.next_in)
 
-    pub set_refuses : {r : Reason} {prefix' : List ℤ} {marks' : List ℕ} → SetTokenPost (number_of f.bytes) v q (ltb used n) n prefix marks prefix' marks' (NoListing r) → SetPost text start v q used prefix₀ prefix' marks' (NoSets (refused_at p r))
+    pub set_refuses : {r : Reason} {prefix' : List ℤ} {marks' : List ℕ} → SetTokenPost (number_of f.bytes) v q (ltb used n) n prefix marks prefix' marks' (Err r) → SetPost text start v q used prefix₀ prefix' marks' (Err (refused_at p r))
     set_refuses {r} post = λ c rc. set_step c rc ∙ rw (← I.same, post.states p.place c rc) (from_refused (length prefix) rc text f.place_in r k.place)
 
-    pub set_lists : {more : ℕ} {prefix' : List ℤ} {marks' : List ℕ} → length prefix' ≡ length prefix → SetTokenPost (number_of f.bytes) v q (ltb used n) n prefix marks prefix' marks' (Lists more) → SetSoFar text start v q used prefix₀ prefix' marks' k.place more
+    pub set_lists : {more : ℕ} {prefix' : List ℤ} {marks' : List ℕ} → length prefix' ≡ length prefix → SetTokenPost (number_of f.bytes) v q (ltb used n) n prefix marks prefix' marks' (Ok (Lists more)) → SetSoFar text start v q used prefix₀ prefix' marks' k.place more
     set_lists {more} l post =
         record {
           room = omega (arith, l, post.stores.1);
@@ -174,16 +174,16 @@ sets_begin text start v prefix marks L =
 
 module _ {text : List ℕ} {start v : ℕ} {prefix₀ prefix : List ℤ} {marks : List ℕ} {at : Position} {used : ℕ} (within : PositionIn text at) (I : SetsSoFar text start v prefix₀ prefix marks at.place used) where
   -- The sets are over where the same is read from the clauses on.
-  over : ((c rc : ℕ) → reading_from (length prefix₀) rc text (between_sets v c (entries_in prefix used)) at.place ≡ reading_from (length prefix₀) rc text (clauses v c (entries_in prefix used) []) at.place) → SetsPost text start v prefix₀ prefix marks (Sets used at)
+  over : ((c rc : ℕ) → reading_from (length prefix₀) rc text (between_sets v c (entries_in prefix used)) at.place ≡ reading_from (length prefix₀) rc text (clauses v c (entries_in prefix used) []) at.place) → SetsPost text start v prefix₀ prefix marks (Ok (record { entries = used; next = at }))
   over e = (λ c rc. I.reads c rc ∙ e c rc, I.listed, I.room, within)
 
-  pub sets_end : tokens_at text at.place ≡ [] → SetsPost text start v prefix₀ prefix marks (Sets used at)
+  pub sets_end : tokens_at text at.place ≡ [] → SetsPost text start v prefix₀ prefix marks (Ok (record { entries = used; next = at }))
   unfolding ending open_from zeros
   sets_end e = over (λ c rc. from_end (length prefix₀) rc text (between_sets v c (entries_in prefix used)) at.place e ∙ sym (from_end (length prefix₀) rc text (clauses v c (entries_in prefix used) []) at.place e))
 
   module _ {shows : Shown} {p k : Position} (f : Finds text at.place shows p k) where
     -- A token that is no quantifier's letter.
-    pub sets_over : (same f.bytes e_text || same f.bytes a_text) ≡ false → SetsPost text start v prefix₀ prefix marks (Sets used at)
+    pub sets_over : (same f.bytes e_text || same f.bytes a_text) ≡ false → SetsPost text start v prefix₀ prefix marks (Ok (record { entries = used; next = at }))
     unfolding step
     sets_over h =
         let both = or_no (same f.bytes e_text) (same f.bytes a_text) h in
@@ -200,9 +200,9 @@ module _ {text : List ℕ} {start v : ℕ} {prefix₀ prefix : List ℤ} {marks 
           go false true h = refl
           go false false h = let z : ◌≡◌ {A = ℕ} 0 1 = cc in absurd (omega arith)
 
-      pub sets_refuse : {r : Refusal} → SetPost text k.place v (quantifier_of (same f.bytes e_text)) used prefix prefix marks (NoSets r) → (prefix' : List ℤ) (marks' : List ℕ) → SetsPost text start v prefix₀ prefix' marks' (NoSets r)
+      pub sets_refuse : {r : Refusal} → SetPost text k.place v (quantifier_of (same f.bytes e_text)) used prefix prefix marks (Err r) → (prefix' : List ℤ) (marks' : List ℕ) → SetsPost text start v prefix₀ prefix' marks' (Err r)
       sets_refuse post prefix' marks' = λ c rc. opens_set c rc ∙ rw (← I.same) (post c rc)
 
-      pub sets_on : (n : ℕ) (after : Position) (prefix' : List ℤ) (marks' : List ℕ) → length prefix' ≡ length prefix → SetPost text k.place v (quantifier_of (same f.bytes e_text)) used prefix prefix' marks' (Sets n after) → SetsSoFar text start v prefix₀ prefix' marks' after.place n
+      pub sets_on : (n : ℕ) (after : Position) (prefix' : List ℤ) (marks' : List ℕ) → length prefix' ≡ length prefix → SetPost text k.place v (quantifier_of (same f.bytes e_text)) used prefix prefix' marks' (Ok (record { entries = n; next = after })) → SetsSoFar text start v prefix₀ prefix' marks' after.place n
       sets_on n after prefix' marks' l post =
           record { room = post.2; same = l ∙ I.same; listed = post.1; reads = λ c rc. opens_set c rc ∙ rw (← I.same) (post.0 c rc) }

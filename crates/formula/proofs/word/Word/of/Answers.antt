@@ -1,6 +1,5 @@
 -- `Word::of` answers by the word's sign and what the constructor of variables says of its size. Assumes nothing.
 use mathlib.Core.Path.{◌≡◌, ap, sym, ◌∙◌}
-use native.Mathlib.Omega.{arith}
 use borrow.Author.Rules.{rules}
 use lib.IntN.{pos, neg_ℤ, ◌-ℤ◌}
 use mir.Syntax.{w32}
@@ -42,19 +41,6 @@ negative_at c =
     let e : to_z w32 (of_z w32 z) ≡ z = search rules in
     word_negative z (λ h. c.if-word-eq0.false (ap (of_z w32) h)) (rw e at c.if-word-ltminus1024.false) (rw e at c.if-word-gt0.false)
 
-pub overflow_cast-word : goal.overflow_cast-word
-overflow_cast-word c =
-    let z = c.args.word in
-    let e : to_z w32 (of_z w32 z) ≡ z = search rules in
-    let p = positive_at c in
-    rw e (p.signed, record { fits = omega (arith, p.small) })
-
-pub overflow_sub-word : goal.overflow_sub-word
-overflow_sub-word c =
-    let z = c.args.word in
-    let e : to_z w32 (of_z w32 z) ≡ z = search rules in
-    rw (e, zero_sub z) (negative_at c).fits
-
 -- the opposite, read back from its bits
 opposite_at : (c : lts.Else4 tie.the-claims reads.Pre reads.Post) → to_z w32 (of_z w32 (pos 0 -ℤ to_z w32 (of_z w32 c.args.word))) ≡ neg_ℤ c.args.word
 opposite_at c =
@@ -62,27 +48,13 @@ opposite_at c =
     let e : to_z w32 (of_z w32 z) ≡ z = search rules in
     rw (e, zero_sub z) (to_z-of_z (negative_at c).fits)
 
-pub overflow_cast-word-else-word-gt0 : goal.overflow_cast-word-else-word-gt0
-overflow_cast-word-else-word-gt0 c = let n = negative_at c in rw (opposite_at c) (n.signed, record { fits = omega (arith, n.small) })
-
-pub returns-in-Within : goal.returns-in-Within
-returns-in-Within c =
+pub returns-in-Some : goal.returns-in-Some
+returns-in-Some c =
     let z = c.args.word in
     let e : to_z w32 (of_z w32 z) ≡ z = search rules in
-    sym ((positive_at c.before.before).is _ (rw e at (sym c.new.ensures) ∙ c.in-Within.is))
+    sym ((positive_at c.before.before).is _ (rw e at (sym c.new.ensures) ∙ c.in-Some.is))
 
-pub returns-in-Outside : goal.returns-in-Outside
-returns-in-Outside c =
-    let z = c.args.word in
-    let e : to_z w32 (of_z w32 z) ≡ z = search rules in
-    sym ((positive_at c.before.before).is _ (rw e at (sym c.new.ensures) ∙ c.in-Outside.is))
-
-pub returns-in-Within-new : goal.returns-in-Within-new
-returns-in-Within-new c =
+pub returns-in-Some-new : goal.returns-in-Some-new
+returns-in-Some-new c =
     let n = c.before.before in
-    sym ((negative_at n).is _ (rw (opposite_at n) at (sym c.new-else-word-gt0.ensures) ∙ c.in-Within-new.is))
-
-pub returns-in-Outside-new : goal.returns-in-Outside-new
-returns-in-Outside-new c =
-    let n = c.before.before in
-    sym ((negative_at n).is _ (rw (opposite_at n) at (sym c.new-else-word-gt0.ensures) ∙ c.in-Outside-new.is))
+    sym ((negative_at n).is _ (rw (opposite_at n) at (sym c.new-else-word-gt0.ensures) ∙ c.in-Some-new.is))

@@ -1,32 +1,25 @@
--- `ordinal` answers by what the word is, arm by arm. Assumes nothing.
-use mathlib.Core.Path.{◌≡◌, ap, sym, ◌∙◌}
-use borrow.Author.Rules.{rules}
-use mir.Syntax.{w32}
-use mir.Val.{to_z, of_z}
-use Rattle.formula.specs.Word.{word_of, ordinal_of, ordinal}
-use Rattle.formula.proofs.word.Word.ordinal.Tie as tie
-use Rattle.formula.proofs.word.Word.ordinal.Lts as lts
-use Rattle.formula.proofs.word.Word.ordinal.Reads as reads
+-- `ordinal` answers by whether the word is positive, the word read back from its bits. Assumes nothing.
+use Rattle.std.proofs.Common.{◌≡◌, refl, ap, ◌∙◌, rules, w32, to_z, of_z}
+use Rattle.formula.specs.Word.{ordinal_of, ordinal}
+use Rattle.formula.specs.declared.literal.Variable.{Variable}
+use Rattle.formula.specs.declared.word.Word.{Word}
+use Rattle.formula.specs.declared.word.Word.TheVariants.{Zero, TooLarge, Positive, Negative}
 use Rattle.formula.proofs.word.Word.ordinal.Goals as goal
 
--- the word's kind, the word read back from its bits
-kind_at : (c : lts.After-of tie.the-claims reads.Pre reads.Post) → c.of.result ≡ word_of c.args.word
-kind_at c =
-    let e : to_z w32 (of_z w32 c.args.word) ≡ c.args.word = search rules in
-    rw e at c.of.ensures
-
-pub returns-in-Zero : goal.returns-in-Zero
-unfolding ordinal
-returns-in-Zero c = ap ordinal_of (sym c.in-Zero.is ∙ kind_at c.before)
-
-pub returns-in-TooLarge : goal.returns-in-TooLarge
-unfolding ordinal
-returns-in-TooLarge c = ap ordinal_of (sym c.in-TooLarge.is ∙ kind_at c.before)
+none : (k : Word) → ((v : Variable) → k ≡ Positive v → ⊥) → 0 ≡ ordinal_of k
+none Zero n = refl
+none TooLarge n = refl
+none (Positive v) n = absurd (n v refl)
+none (Negative v) n = refl
 
 pub returns-in-Positive : goal.returns-in-Positive
 unfolding ordinal
-returns-in-Positive c = ap ordinal_of (sym c.in-Positive.is ∙ kind_at c.before)
+returns-in-Positive c =
+    let e : to_z w32 (of_z w32 c.args.word) ≡ c.args.word = search rules in
+    ap ordinal_of (rw e at c.in-Positive.ensures)
 
-pub returns-in-Negative : goal.returns-in-Negative
+pub returns-in_default : goal.returns-in_default
 unfolding ordinal
-returns-in-Negative c = ap ordinal_of (sym c.in-Negative.is ∙ kind_at c.before)
+returns-in_default c =
+    let e : to_z w32 (of_z w32 c.args.word) ≡ c.args.word = search rules in
+    none c.of.result c.in_default.not-Positive ∙ ap ordinal_of (rw e at c.of.ensures)

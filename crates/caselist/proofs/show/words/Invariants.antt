@@ -1,6 +1,0 @@
--- `words` prints a table to its end: the place rises to the length. Assumes nothing.
-use Rattle.std.proofs.Common.{◌-◌, length}
-use Rattle.caselist.proofs.show.words.Given as goal
-
-abbrev pub decreases-loop-i : goal.decreases-loop-i
-decreases-loop-i g l = length l.table - l.i

@@ -1,6 +1,0 @@
--- `run_list` goes from case to case: each begins further on. Assumes nothing.
-use Rattle.std.proofs.Common.{◌-◌, length}
-use Rattle.refusals.proofs.file.run_list.Given as goal
-
-abbrev pub decreases-loop-at : goal.decreases-loop-at
-decreases-loop-at g l = length l.list - l.at

@@ -1,0 +1,54 @@
+// The checks of a proof, by the entry that asks for 8,200 bytes of scratch and the one that asks for 640. The buffers lent hold 7 before.
+use anyhow::Result;
+use caselist::show::{Refused, clear_or_not, is_clear};
+use caselist::words::Tables;
+use checker::proof::{check_proof, check_proof_small};
+use checker::verdict::Verdict;
+
+// Prints what a check answers in so many bytes of scratch and so many starts.
+fn judged<F: FnOnce(&mut [u8], &mut [u32]) -> Verdict>(
+    rt: &(impl Print + AllocGlobal),
+    sizes: (usize, usize),
+    check: F,
+) -> Result<()>
+    requires { F.IsAlwaysCallable check }
+{
+    let (scratch, starts) = sizes;
+    let mut scratch = vec![in rt.alloc(); 7u8; scratch]?;
+    let mut starts = vec![in rt.alloc(); 7u32; starts]?;
+    match check(&mut scratch, &mut starts) {
+        Ok(accepted) => print!(rt; "accepted {} {}", accepted.empty.0, accepted.steps)?,
+        Err(r) => print!(rt; "{}", Refused(r))?,
+    }
+    let clear = is_clear(&scratch) && is_clear(&starts);
+    println!(rt; ", buffers {}", clear_or_not(clear))?;
+    Ok(())
+}
+
+// A proof by the entry that asks for 8,200 bytes.
+pub fn large(
+    rt: &(impl Print + AllocGlobal),
+    tables: &Tables,
+    name: &str,
+    steps: &[i32],
+    sizes: (usize, usize),
+) -> Result<()> {
+    print!(rt; "proof, {name}: ")?;
+    judged(rt, sizes, |scratch, starts| {
+        check_proof(&tables.prefix, &tables.clauses, steps, scratch, starts)
+    })
+}
+
+// A proof by the entry that asks for 640 bytes; how many it is lent is told.
+pub fn small(
+    rt: &(impl Print + AllocGlobal),
+    tables: &Tables,
+    name: &str,
+    steps: &[i32],
+    sizes: (usize, usize),
+) -> Result<()> {
+    print!(rt; "small proof, scratch {}, {name}: ", sizes.0)?;
+    judged(rt, sizes, |scratch, starts| {
+        check_proof_small(&tables.prefix, &tables.clauses, steps, scratch, starts)
+    })
+}
