@@ -1,5 +1,5 @@
 // What the programs that run worked cases share: lists of cases, the words and the bytes that their fields write, and how answers are
-// shown. No promise of the checker rests on this crate: its functions are proved safe and ending.
+// shown. No promise of the checker rests on this crate. What a field writes and what was left clear is proved, what is printed is not.
 #![tactic(auto)]
 
 pub mod bytes;

@@ -1,5 +1,8 @@
 // A list of cases: a file of lines, a case a line, whose fields are parted by bars. A line that begins with # says what the cases behind
 // it show; it and an empty line are passed over.
+ghost use Rattle.std.specs.Prelude.{ℕ, MatchResult};
+ghost use Rattle.caselist.specs.Numbers.{IsPair};
+
 use anyhow::{Result, bail};
 use std::fs;
 use std::rt::Files;
@@ -24,7 +27,9 @@ pub fn run_list<R: Files + AllocGlobal, F: FnMut(&[&str]) -> Result<()>>(
 }
 
 // The two numbers at the end of a case, or the usual ones where it has none.
-pub fn pair_or(fields: &[&str], usual: (usize, usize)) -> Result<(usize, usize)> {
+pub fn pair_or(fields: &[&str], usual: (usize, usize)) -> Result<(usize, usize)>
+    ensures { MatchResult result (IsPair fields.now usual) (λ _. (pair : ℕ × ℕ) → ¬ (IsPair fields.now usual pair)) }
+{
     match fields {
         [] => Ok(usual),
         [first, second] => Ok((first.parse()?, second.parse()?)),

@@ -1,4 +1,7 @@
 // How answers are shown: the words of a table, the dependents of a row, refusals; and whether a buffer was left clear, that is wholly 0.
+ghost use Rattle.std.specs.Prelude.{◌≡◌, [], Bool, codes, if◌then◌else◌};
+ghost use Rattle.caselist.specs.Clear.{TellsClear};
+
 use formula::refusal::{Numbers, Refusal};
 use std::fmt;
 
@@ -63,20 +66,23 @@ impl fmt::Display for Refused {
 }
 
 // Is the buffer wholly 0?
-pub fn is_clear<T: Copy + Default + PartialEq>(buffer: &[T]) -> bool {
+pub fn is_clear<T: Copy + Default + PartialEq>(buffer: &[T]) -> bool
+    ensures { TellsClear T.is_default T.eq buffer.now result }
+{
     let zero = T::default();
     buffer.iter().all(|x| *x == zero)
 }
 
 // A text for a buffer that is not wholly 0, nothing for one that is.
-pub fn unless_clear<T: Copy + Default + PartialEq>(
-    buffer: &[T],
-    text: &'static str,
-) -> &'static str {
+pub fn unless_clear<T: Copy + Default + PartialEq>(buffer: &[T], text: &'static str) -> &'static str
+    ensures { (clear : Bool) × TellsClear T.is_default T.eq buffer.now clear × (result.now ≡ (if clear then [] else text.now)) }
+{
     if is_clear(buffer) { "" } else { text }
 }
 
 // How buffers were left.
-pub fn clear_or_not(clear: bool) -> &'static str {
+pub fn clear_or_not(clear: bool) -> &'static str
+    ensures { result.now ≡ (if clear then codes "clear" else codes "not clear") }
+{
     if clear { "clear" } else { "not clear" }
 }

@@ -1,0 +1,5 @@
+use Rattle.caselist.proofs.Fields.{starred}
+use Rattle.caselist.proofs.words.at_star.Goals as goal
+
+pub returns : goal.returns
+returns c = starred _ _ c.split_once.ensures.cases
