@@ -1,6 +1,7 @@
 // The words that a field writes: decimal numbers of 32 bits, parted by blanks.
-ghost use Rattle.std.specs.Prelude.{◌≡◌, ◌++◌, true, false, eqb, ltb, List, length, drop, replicate, ℤ, pos, MatchOption, IfOk, OnOk};
+ghost use Rattle.std.specs.Prelude.{◌≡◌, ◌++◌, true, false, eqb, ltb, List, length, drop, replicate, ℤ, MatchOption, IfOk, OnOk};
 ghost use Rattle.std.specs.List.{starts_with, position_or_len, before_first, after_first};
+ghost use Rattle.caselist.specs.Clear.{sevens};
 ghost use Rattle.caselist.specs.Tokens.{record_of, records_to, WritesRepeated, TokenWrites, FieldWrites};
 
 use anyhow::Result;
@@ -104,8 +105,9 @@ impl Tables {
     }
 
     // Tables of so many words to lend, which hold 7, so that what was not cleared shows.
+    #[tactic(auto, unfolding(crate::specs::Clear::sevens))]
     pub fn lent(alloc: Global, prefix: usize, clauses: usize) -> Result<Tables>
-        ensures { IfOk result (λ t. (t.prefix.items ≡ replicate prefix (pos 7)) × (t.clauses.items ≡ replicate clauses (pos 7))) }
+        ensures { IfOk result (λ t. (t.prefix.items ≡ sevens prefix) × (t.clauses.items ≡ sevens clauses)) }
     {
         Ok(Tables {
             prefix: vec![in alloc; 7; prefix]?,
