@@ -1,3 +1,4 @@
+-- `at_star`: split_once parts the token at its first star. Assumes nothing.
 use Rattle.caselist.proofs.Fields.{starred}
 use Rattle.caselist.proofs.words.at_star.Goals as goal
 

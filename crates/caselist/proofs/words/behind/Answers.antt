@@ -1,3 +1,4 @@
+-- `behind`: strip_prefix answers what stands behind the front. Assumes nothing.
 use Rattle.caselist.proofs.Fields.{stripped}
 use Rattle.caselist.proofs.words.behind.Goals as goal
 

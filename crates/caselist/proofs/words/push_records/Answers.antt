@@ -1,3 +1,4 @@
+-- `push_records`: a turn pushes the record of one variable more, up to the last; a last below 1 pushes none. Assumes nothing.
 use Rattle.std.proofs.Common.{◌≡◌, pos, ℤ, ◌+ℤ◌, ◌<ℤ◌, w32, to_z, of_z, refl, inl, inr, arith}
 use Rattle.std.proofs.lemmas.Int.{ints, to_z-of_z}
 use Rattle.std.proofs.lemmas.List.{append-nil}

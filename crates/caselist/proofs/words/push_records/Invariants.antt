@@ -1,3 +1,4 @@
+-- `push_records`: the records of the variables below v stand behind the words that were there. Assumes nothing.
 use Rattle.std.proofs.Common.{◌≡◌, ◌⊎◌, ◌++◌, ◌-◌, ◌≤ℤ◌, pos, nat_abs}
 use Rattle.caselist.specs.Tokens.{records}
 use Rattle.caselist.proofs.words.push_records.Given as goal

@@ -1,3 +1,4 @@
+-- `push_times`: the word stands so many times behind the words that were there. Assumes nothing.
 use Rattle.std.proofs.Common.{◌≡◌, ◌++◌, replicate}
 use Rattle.caselist.proofs.words.push_times.Given as goal
 

@@ -1,3 +1,4 @@
+-- `words`: a turn pushes the words of one token more; where none is left, the field is written. Assumes nothing.
 use Rattle.caselist.proofs.Fields.{so_far-token, so_far-end}
 use Rattle.caselist.proofs.words.words.Goals as goal
 

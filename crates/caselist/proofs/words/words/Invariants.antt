@@ -1,3 +1,4 @@
+-- `words`: what stands is what the tokens so far write. Assumes nothing.
 use Rattle.caselist.proofs.Fields.{WritesSoFar}
 use Rattle.caselist.proofs.words.words.Given as goal
 
