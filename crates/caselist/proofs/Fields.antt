@@ -1,13 +1,11 @@
 -- Tokens by their fronts, and the field that they stand in.
-use Rattle.std.proofs.Common.{ℕ, ◌≡◌, sym, subst, true, false, Option, Some, None, List, [], ◌++◌, length, drop, eqb, ltb, lit<, arith, ℤ, MatchOption, Bor, append_assoc}
-use Rattle.std.specs.List.{starts_with, position_or_len, before_first, after_first}
+use Rattle.std.proofs.Common.{ℕ, ◌≡◌, sym, subst, true, false, Option, Some, None, List, [], ◌++◌, length, drop, eqb, ℤ, MatchOption, Bor, append_assoc}
+use Rattle.std.specs.List.{starts_with}
 use Rattle.std.specs.Str.{IsCharBoundary}
 use Rattle.std.specs.Str.Iter.{split_whitespace_rest, split_whitespace_steps}
 use Rattle.std.specs.Str.Pattern.{FindsTextPrefix, StripsPrefix}
 use Rattle.std.proofs.lemmas.List.{append-nil}
-use Rattle.std.proofs.lemmas.Str.Pattern.{starts_text, IsSplitOnceResult, split_once_first}
-use Rattle.std.proofs.lemmas.Bool.Decides.{nat_tests}
-use borrow.Author.Tests.{lt-ltb}
+use Rattle.std.proofs.lemmas.Str.Pattern.{starts_text}
 use Rattle.std.specs.declared.str.SplitWhitespace.{SplitWhitespace}
 use Rattle.caselist.specs.Tokens.{TokenWrites, FieldWrites, ended, token}
 
@@ -19,20 +17,6 @@ stripped n s (Some x) h =
     let P : ℕ → Type 0 = λ k. IsCharBoundary s k in
     let D : ℕ → Type 0 = λ k. x.now ≡ drop k s in
     (sym (starts_text true n s (h.0, h.1, subst P (sym h.1.0) h.1.2)), subst D h.1.0 h.2)
-
-not_below : (m n : ℕ) → m ≡ n → ltb m n ≡ false
-not_below m n e = grind (arith, nat_tests)
-
--- What `split_once` says of a star.
-pub starred : (bs : List ℕ) (r : Option (Bor (List ℕ) × Bor (List ℕ))) → IsSplitOnceResult 42 bs r
-    → MatchOption r (ltb (position_or_len (λ b. eqb b 42) bs) (length bs) ≡ false)
-    (λ x. (ltb (position_or_len (λ b. eqb b 42) bs) (length bs) ≡ true) × (x.0.now ≡ before_first (λ b. eqb b 42) bs) × (x.1.now ≡ after_first (λ b. eqb b 42) bs))
-starred bs None h =
-    let e : position_or_len (λ b. eqb b 42) bs ≡ length bs = split_once_first 42 bs None h (lit< tt) in
-    not_below _ _ e
-starred bs (Some x) h =
-    let e = split_once_first 42 bs (Some x) h (lit< tt) in
-    (lt-ltb _ _ e.0, e.1, e.2)
 
 -- Words so far, where whatever the rest of the field writes comes behind them.
 abbrev pub WritesSoFar : List ℕ → List ℤ → SplitWhitespace → Type 0

@@ -28,7 +28,7 @@ abbrev pub Grown : ℕ → Result Ended Refusal → Type 0
 Grown inputs (Ok e) = inputs ≤ e.numbered
 Grown inputs (Err r) = Unit {0}
 
--- The first empty clause's number is told, 0 for none.
+-- The first empty clause's number is told, if one is empty.
 abbrev pub EmptyTold : ℕ → Words → Words → List ℕ → Result Ended Refusal → Type 0
 EmptyTold inputs clauses steps offsets (Ok e) = e.empty ≡ empty_number (first_empty 1 (stored inputs clauses steps offsets e.numbered))
 EmptyTold inputs clauses steps offsets (Err r) = Unit {0}

@@ -5,13 +5,14 @@ use Rattle.std.specs.Prelude.{Option as Optional, Some, None, Result, Ok, Err, �
 use Rattle.formula.specs.declared.literal.Variable.{Variable}
 use Rattle.checker.specs.declared.step.StepTaken.{StepTaken}
 use Rattle.formula.specs.Refusal.{passes}
-use Rattle.std.specs.Prelude.{ℕ, ◌+◌, ◌≤◌, ◌≡◌, Bool, not, ◌&&◌, List, length, take, drop, ℤ, pos, neg_ℤ}
+use Rattle.std.specs.Prelude.{ℕ, ◌+◌, ◌≡◌, Bool, not, ◌&&◌, List, length, take, drop, ℤ, pos, neg_ℤ, nat_abs}
 use Rattle.std.proofs.Math.Option.{Option, none, some}
 use Rattle.bits.specs.Flags.{flags}
 use Rattle.dependency.specs.Row.{row_of}
 use Rattle.dependency.specs.Scratch.{row_at, later, small_bound, row_in}
 use Rattle.formula.specs.Decode.{formula_of}
-use Rattle.formula.specs.Word.{word_of, variable_of}
+use Rattle.formula.specs.Word.{word_of}
+use Rattle.formula.specs.Bounds.{variable_bound, in_range, variable_fit}
 use Rattle.formula.specs.declared.refusal.Reason.{Reason}
 use Rattle.formula.specs.declared.refusal.Reason.TheVariants.{NotEarlier, WrongPivot, Blocked}
 use Rattle.inference.specs.declared.read.Family.{Family}
@@ -49,17 +50,22 @@ pub record RowReady (prefix clauses : List ℤ) (u : ℕ) (scratch : List ℕ) :
   pub row : row_in scratch ≡ row_of (formula_of prefix clauses) u
   pub ready : Ready prefix scratch
 
--- The row of the variable `kept` stands there; with 0 for none, any row (02, P4).
-pub record KeptReady (prefix clauses : List ℤ) (kept : ℕ) (scratch : List ℕ) : Type 0 where
-  pub row : 1 ≤ kept → row_in scratch ≡ row_of (formula_of prefix clauses) kept
+-- The row of the variable `kept` stands there; where there is none, any row (02, P4). A clause of contracts and no type of the two: while a row is made, and
+-- while marks stand, it does not hold of them.
+pub record KeptReady (prefix clauses : List ℤ) (kept : Optional Variable) (scratch : List ℕ) : Type 0 where
+  pub row : (v : Variable) → kept ≡ Some v → row_in scratch ≡ row_of (formula_of prefix clauses) v.0
   pub ready : Ready prefix scratch
 
--- The variable whose row stands in the scratch after a right step: a reduction's own, a resolution leaves what stood there.
-abbrev pub kept_by : StepKind → StepRead → ℕ → ℕ
-kept_by Resolution step kept = kept
-kept_by Reduction step kept = variable_of (word_of step.pivot)
+-- The variable of a word that is a literal.
+abbrev pub literal_variable : ℤ → Optional Variable
+literal_variable w = variable_fit (in_range (nat_abs w) variable_bound) (nat_abs w)
 
-abbrev pub kept_after : StepRead → ℕ → ℕ
+-- The variable whose row stands in the scratch after a right step: a reduction's own, a resolution leaves what stood there.
+abbrev pub kept_by : StepKind → StepRead → Optional Variable → Optional Variable
+kept_by Resolution step kept = kept
+kept_by Reduction step kept = literal_variable step.pivot
+
+abbrev pub kept_after : StepRead → Optional Variable → Optional Variable
 kept_after step kept = kept_by step.kind step kept
 
 -- The pivot stands in both clauses, no opposite literals forbid it, then the result; `may` tells which variables may be merged.
@@ -88,25 +94,25 @@ pub record Answers (reason : Option Reason) (r : Result ⊤ Reason) (scratch scr
   pub kept : take 256 (drop row_at scratch') ≡ take 256 (drop row_at scratch)
 
 -- After a wrong step no row is kept.
-abbrev pub kept_if : Result ⊤ Reason → ℕ → ℕ
+abbrev pub kept_if : Result ⊤ Reason → Optional Variable → Optional Variable
 kept_if (Ok tt) kept = kept
-kept_if (Err r) kept = 0
+kept_if (Err r) kept = None
 
 -- An answer that leaves the scratch ready; if the step is right, the row of `kept` stands there.
-pub record JudgedReady (prefix clauses : List ℤ) (kept : ℕ) (reason : Option Reason) (r : Result ⊤ Reason) (scratch' : List ℕ) : Type 0 where
+pub record JudgedReady (prefix clauses : List ℤ) (kept : Optional Variable) (reason : Option Reason) (r : Result ⊤ Reason) (scratch' : List ℕ) : Type 0 where
   pub answer : r ≡ passes reason
   pub ready : KeptReady prefix clauses (kept_if r kept) scratch'
 
 -- The step's answer: where the next step begins, whose row is kept then, and whether the step's clause is empty; `kept` is the variable of the
 -- row before the step.
-abbrev pub step_answer : ℕ → ℕ → Judged → Result StepTaken Reason
+abbrev pub step_answer : ℕ → Optional Variable → Judged → Result StepTaken Reason
 step_answer at kept (right s) = Ok (record { next = at + size_of s; kept = kept_after (fields_of at s) kept; empty = is_empty (stated_by s) })
 step_answer at kept (wrong r) = Err r
 
-abbrev pub kept_in : Result StepTaken Reason → ℕ
+abbrev pub kept_in : Result StepTaken Reason → Optional Variable
 kept_in (Ok t) = t.kept
-kept_in (Err r) = 0
+kept_in (Err r) = None
 
-pub record StepChecked (prefix clauses : List ℤ) (at kept : ℕ) (j : Judged) (r : Result StepTaken Reason) (scratch' : List ℕ) : Type 0 where
+pub record StepChecked (prefix clauses : List ℤ) (at : ℕ) (kept : Optional Variable) (j : Judged) (r : Result StepTaken Reason) (scratch' : List ℕ) : Type 0 where
   pub answer : r ≡ step_answer at kept j
   pub ready : KeptReady prefix clauses (kept_in r) scratch'

@@ -2,7 +2,7 @@
 // the pivot. Looked for with the marks of one antecedent; the flags of those universals are filled in only where a pair is met.
 ghost use Rattle.std.specs.Prelude.{◌≡◌, ◌≤◌, length, take, pos, neg_ℤ};
 ghost use Rattle.bits.specs.Flags.{flags};
-ghost use Rattle.formula.specs.Prefix.{prefix_of, Entries};
+ghost use Rattle.formula.specs.Held.{prefix_in};
 ghost use Rattle.inference.specs.Clause.{words_of};
 ghost use Rattle.inference.specs.Words.{without, InRange};
 ghost use Rattle.inference.specs.Steps.{crosses};
@@ -16,12 +16,12 @@ use bits::is_set;
 use dependency::scratch::SMALL;
 use formula::clear::clear_tail;
 use formula::literal::Variable;
+use formula::prefix::Prefix;
 use formula::word::Word;
 use inference::clause::{ClauseAt, any_word};
-use inference::existentials::{EXISTENTIALS_END, FLAG_BYTES, fill_quantified, place_behind};
+use inference::existentials::{EXISTENTIALS_END, FLAG_BYTES, fill_quantified};
 use inference::marks::{MARK_BYTES, mark_clause, opposite_marked, wipe};
 use inference::read::Family;
-use inference::words::same;
 
 // Whether a word that is not the one left out meets its opposite and is of no variable that may be merged.
 fn crosses_word(
@@ -33,14 +33,11 @@ fn crosses_word(
     requires { InRange word }
     ensures { result ≡ crosses_by (marks_in marks.now) (flags mergeable.now) (without except (alone word)) }
 {
-    !same(except, word)
-        && opposite_marked(word, marks)
-        && !is_set(mergeable, Word::variable(word) - 1)
+    except != word && opposite_marked(word, marks) && !is_set(mergeable, Word::variable(word) - 1)
 }
 
 // Whether a word of the clause does, by the marks and the flags that stand in the scratch. One pass over the clause.
-fn crosses_by(clause: ClauseAt, except: i32, scratch: &[u8]) -> bool
-    requires { length scratch.now ≡ small_bound }
+fn crosses_by(clause: ClauseAt, except: i32, scratch: &[u8; SMALL]) -> bool
     ensures { result ≡ crosses_by (marks_of scratch.now) (universals_in scratch.now) (without except (words_of clause.entry)) }
 {
     let marks = scratch.first_chunk::<MARK_BYTES>().unwrap();
@@ -56,19 +53,17 @@ fn crosses_by(clause: ClauseAt, except: i32, scratch: &[u8]) -> bool
 
 // The marks of one antecedent standing: whether the other, but for the pivot, holds an opposite that may not be merged.
 fn unmergeable(
-    prefix: &[i32],
+    prefix: Prefix,
     right: ClauseAt,
     pivot: Variable,
     except: i32,
-    scratch: &mut [u8],
+    scratch: &mut [u8; SMALL],
 ) -> bool
-    requires scratch_whole { length scratch.old ≡ small_bound }
-    requires entries { Entries prefix.now }
-    ensures { (result ≡ crosses_marks (mergeable_in (prefix_of prefix.now) pivot.0) (marks_of scratch.old) (without except (words_of right.entry))) × (take merge_at scratch.new ≡ take merge_at scratch.old) }
+    ensures { (result ≡ crosses_marks (mergeable_in (prefix_in prefix.entry) pivot.0) (marks_of scratch.old) (without except (words_of right.entry))) × (take merge_at scratch.new ≡ take merge_at scratch.old) }
 {
     clear_tail(&mut scratch[EXISTENTIALS_END..SMALL], 0, 0);
     if crosses_by(right, except, scratch) {
-        let behind = place_behind(prefix, pivot);
+        let behind = prefix.right_of(pivot);
         fill_quantified(prefix, behind, false, &mut scratch[EXISTENTIALS_END..SMALL]);
         return crosses_by(right, except, scratch);
     }
@@ -78,16 +73,15 @@ fn unmergeable(
 // Whether the antecedents hold opposite literals, apart from the pivot, that may not be merged. Ordinary ones are not asked: there the result tells.
 pub fn antecedents_cross(
     family: Family,
-    prefix: &[i32],
+    prefix: Prefix,
     left: ClauseAt,
     right: ClauseAt,
     pivot: Variable,
-    scratch: &mut [u8],
+    scratch: &mut [u8; SMALL],
 ) -> bool
     requires scratch_clean { Clean scratch.old }
-    requires entries { Entries prefix.now }
     requires pivot_in_range { pivot.0 ≤ 1024 }
-    ensures { Crossed family (crosses (mergeable_in (prefix_of prefix.now) pivot.0) (without (pos pivot.0) (words_of left.entry)) (without (neg_ℤ (pos pivot.0)) (words_of right.entry))) result scratch.old scratch.new }
+    ensures { Crossed family (crosses (mergeable_in (prefix_in prefix.entry) pivot.0) (without (pos pivot.0) (words_of left.entry)) (without (neg_ℤ (pos pivot.0)) (words_of right.entry))) result scratch.old scratch.new }
 {
     match family {
         Family::Ordinary => false,

@@ -2,7 +2,7 @@
 ghost use Rattle.std.specs.Prelude.{◌≡◌, ◌≤◌, zero, length, replicate};
 ghost use Rattle.dependency.specs.Scratch.{small_bound};
 ghost use Rattle.formula.specs.Decode.{clauses_of};
-ghost use Rattle.formula.specs.Tables.{Admitted, zeros};
+ghost use Rattle.formula.specs.Tables.{zeros};
 ghost use Rattle.inference.specs.Rules.{resized, plain_rules, small_rules};
 ghost use Rattle.inference.specs.Steps.{family_of, run};
 ghost use Rattle.inference.specs.Empty.{number_found};
@@ -16,7 +16,7 @@ use formula::bounds::ProofLength;
 use formula::clear::clear_tail;
 use formula::literal::ClauseNumber;
 use formula::refusal::{Reason, Refusal};
-use formula::tables::check_tables_in;
+use formula::tables::{Tables, check_tables_in};
 use inference::existentials::{EXISTENTIALS_END, fill_quantified};
 use inference::numbered::fill_offsets;
 
@@ -28,59 +28,58 @@ fn clear_lent(scratch: &mut [u8], offsets: &mut [u32])
     clear_tail(offsets, 0, 0);
 }
 
-// All steps are right: the first empty clause decides, `empty` being its number, 0 for none.
-fn conclude_run(inputs: usize, numbered: usize, empty: usize) -> Verdict
+// All steps are right: the first empty clause decides.
+fn conclude_run(inputs: usize, numbered: usize, empty: Option<ClauseNumber>) -> Verdict
     requires { inputs ≤ numbered }
     ensures { result ≡ concluded inputs numbered (number_found empty) }
 {
-    if empty < 1 {
+    let Some(number) = empty else {
         return Err(Refusal::new(Reason::NoConclusion, numbered));
-    }
+    };
     Ok(Accepted {
-        empty: ClauseNumber::at(empty - 1),
+        empty: number,
         steps: numbered - inputs,
     })
 }
 
 // The steps, in the scratch that they need: the existentials and the offsets of the input clauses are filled first.
 fn judge_steps<'a>(
-    prefix: &[i32],
-    clauses: &'a [i32],
+    tables: Tables<'a>,
     steps: &'a [i32],
     inputs: usize,
-    scratch: &mut [u8],
+    scratch: &mut [u8; SMALL],
     offsets: &mut [u32],
 ) -> Verdict
-    requires admitted { Admitted prefix.now clauses.now }
-    requires inputs_counted { inputs ≡ zeros clauses.now }
+    requires inputs_counted { inputs ≡ zeros tables.clauses.now }
     requires steps_in_bound { length steps.now ≤ 1048576 }
-    requires scratch_whole { length scratch.old ≡ small_bound }
     requires inputs_have_room { inputs ≤ length offsets.old }
-    ensures { result ≡ conclude plain_rules inputs (run plain_rules (family_of steps.now) (scope_of prefix.now clauses.now) (length offsets.old) (clauses_of clauses.now) zero steps.now) }
+    ensures { result ≡ conclude plain_rules inputs (run plain_rules (family_of steps.now) (scope_of tables.entry.prefix.now tables.entry.clauses.now) (length offsets.old) (clauses_of tables.entry.clauses.now) zero steps.now) }
 {
     clear_lent(scratch, offsets);
-    fill_quantified(prefix, 0, true, &mut scratch[LATER..EXISTENTIALS_END]);
-    let first = fill_offsets(clauses, offsets);
-    let ended = run_steps(
-        prefix, clauses, steps, inputs, first, true, scratch, offsets,
-    )?;
+    fill_quantified(
+        tables.entries(),
+        0,
+        true,
+        &mut scratch[LATER..EXISTENTIALS_END],
+    );
+    let first = fill_offsets(tables.clauses, offsets);
+    let ended = run_steps(tables, steps, inputs, first, true, scratch, offsets)?;
     conclude_run(inputs, ended.numbered, ended.empty)
 }
 
-// The order of refusals after the tables; so many bytes of scratch are asked for.
+// The order of refusals after the tables; so many bytes of scratch are asked for: one of two constants, whose bound is a
+// clause of the three functions that hand it on.
 fn judge_sized<'a>(
-    prefix: &[i32],
-    clauses: &'a [i32],
+    tables: Tables<'a>,
     steps: &'a [i32],
     inputs: usize,
     scratch: &mut [u8],
     offsets: &mut [u32],
     bytes: usize,
 ) -> Verdict
-    requires admitted { Admitted prefix.now clauses.now }
-    requires inputs_counted { inputs ≡ zeros clauses.now }
+    requires inputs_counted { inputs ≡ zeros tables.clauses.now }
     requires bytes_enough { small_bound ≤ bytes }
-    ensures { result ≡ sized_verdict (resized bytes plain_rules) prefix.now clauses.now steps.now (length scratch.old) (length offsets.old) }
+    ensures { result ≡ sized_verdict (resized bytes plain_rules) tables.entry.prefix.now tables.entry.clauses.now steps.now (length scratch.old) (length offsets.old) }
 {
     let Some(_) = ProofLength::new(steps.len()) else {
         return Err(Refusal::new(Reason::Oversized, 0));
@@ -91,14 +90,8 @@ fn judge_sized<'a>(
     if offsets.len() < inputs {
         return Err(Refusal::new(Reason::NoRoom, offsets.len() + 1));
     }
-    judge_steps(
-        prefix,
-        clauses,
-        steps,
-        inputs,
-        &mut scratch[..SMALL],
-        offsets,
-    )
+    let front = scratch.first_chunk_mut::<SMALL>().unwrap();
+    judge_steps(tables, steps, inputs, front, offsets)
 }
 
 // The verdict; what was lent is left filled. The check of tables marks in the scratch.
@@ -115,8 +108,7 @@ fn judge_proof<'a>(
 {
     let counts = check_tables_in(prefix, clauses, scratch)?;
     judge_sized(
-        prefix,
-        clauses,
+        Tables { prefix, clauses },
         steps,
         counts.clauses,
         scratch,

@@ -1,40 +1,38 @@
 // The entries that give a dependency row, one for each size of scratch: the order of their refusals, then the row, then clear buffers.
-ghost use Rattle.std.specs.Prelude.{◌≡◌, true, ◌&&◌, ◌++◌, ◌<◌, ◌≤◌, length, drop, eqb};
+ghost use Rattle.std.specs.Prelude.{◌≡◌, ◌&&◌, ◌++◌, ◌<◌, ◌≤◌, length, drop, eqb};
 ghost use Rattle.qbf.specs.Formula.{universal};
 ghost use Rattle.formula.specs.Refusal.{passes};
-ghost use Rattle.formula.specs.Prefix.{prefix_of, entry_at, entry_count, is_quantifier, quantifies, Entries};
-ghost use Rattle.formula.specs.Tables.{Admitted};
-ghost use Rattle.formula.specs.Decode.{formula_of};
+ghost use Rattle.formula.specs.Prefix.{entry_at, entry_count, is_quantifier, quantifies};
+ghost use Rattle.formula.specs.Held.{prefix_in, formula_in};
 ghost use Rattle.dependency.specs.Scratch.{scratch_bound, small_bound, row_in};
-ghost use Rattle.dependency.specs.Answer.{asked_byte, asked_bytes, asked_refusal, asked_for, room_refusal, row_refusal, RowFilled, RowDone};
+ghost use Rattle.dependency.specs.Answer.{asked_bytes, asked_refusal, asked_for, room_refusal, row_refusal, RowFilled, RowDone};
 
 use crate::row::{depends_in, make_row};
 use crate::scratch::{SCRATCH, SMALL};
+use crate::universal::Universal;
 use formula::clear::clear_tail;
 use formula::literal::Variable;
-use formula::prefix::{Entry, entry_at, entry_count};
+use formula::prefix::{Entry, Prefix};
 use formula::refusal::{Reason, Refusal};
-use formula::tables::check_tables_in;
+use formula::tables::{Tables, check_tables_in};
 use formula::word::Word;
 
 // The entry at a place is this variable, universal.
-fn is_universal_at(prefix: &[i32], place: usize, variable: Variable) -> bool
-    requires entries { Entries prefix.now }
-    requires place_bound { place < entry_count prefix.now }
-    ensures { result ≡ (is_quantifier universal (entry_at prefix.now place).quantifier && eqb (entry_at prefix.now place).variable variable.0) }
+fn is_universal_at(prefix: Prefix, place: usize, variable: Variable) -> bool
+    requires { place < entry_count prefix.words.now }
+    ensures { result ≡ (is_quantifier universal (entry_at prefix.entry.words.now place).quantifier && eqb (entry_at prefix.entry.words.now place).variable variable.0) }
 {
-    match entry_at(prefix, place) {
+    match prefix.entry_at(place) {
         Entry::Existential(_) => false,
-        Entry::Universal(u) => u.0 == variable.0,
+        Entry::Universal(u) => u == variable,
     }
 }
 
 // The variable is universal in the prefix. One pass over the entries.
-pub fn is_universal(prefix: &[i32], variable: Variable) -> bool
-    requires { Entries prefix.now }
-    ensures { result ≡ quantifies universal (prefix_of prefix.now) variable.0 }
+pub fn is_universal(prefix: Prefix, variable: Variable) -> bool
+    ensures { result ≡ quantifies universal (prefix_in prefix.entry) variable.0 }
 {
-    (0..entry_count(prefix)).any(|i| is_universal_at(prefix, i, variable))
+    (0..prefix.count()).any(|i| is_universal_at(prefix, i, variable))
 }
 
 // The refusal for the buffers' lengths, which comes last; so many bytes of scratch are asked for.
@@ -52,14 +50,13 @@ fn room_answer(row: usize, scratch: usize, bytes: usize) -> Result<(), Refusal>
 
 // The refusals that come after those of the tables; without one, the universal that is asked for.
 fn asked_answer(
-    prefix: &[i32],
+    prefix: Prefix,
     variable: i32,
     row: usize,
     scratch: usize,
     bytes: usize,
 ) -> Result<Variable, Refusal>
-    requires { Entries prefix.now }
-    ensures { result ≡ asked_for (asked_refusal bytes (prefix_of prefix.now) variable row scratch) variable }
+    ensures { result ≡ asked_for (asked_refusal bytes (prefix_in prefix.entry) variable row scratch) variable }
 {
     let other = Refusal::new(Reason::NotUniversal, 0);
     let Word::Positive(v) = Word::of(variable) else {
@@ -84,7 +81,8 @@ fn row_answer(
     ensures { result ≡ asked_for (row_refusal bytes prefix.now clauses.now variable row (length scratch.old)) variable }
 {
     check_tables_in(prefix, clauses, scratch)?;
-    asked_answer(prefix, variable, row, scratch.len(), bytes)
+    let entries = Prefix { words: prefix };
+    asked_answer(entries, variable, row, scratch.len(), bytes)
 }
 
 // Writes a row that was made to the front of the row's buffer: 1 for a dependent, 0 elsewhere.
@@ -98,21 +96,13 @@ fn copy_row(made: &[u8; SMALL], row: &mut [u8])
 }
 
 // The row with what follows it cleared, and scratch cleared.
-fn write_row(
-    prefix: &[i32],
-    clauses: &[i32],
-    variable: Variable,
-    row: &mut [u8],
-    scratch: &mut [u8],
-)
-    requires admitted { Admitted prefix.now clauses.now }
-    requires variable_value { quantifies universal (prefix_of prefix.now) variable.0 ≡ true }
-    requires in_bounds { 1025 ≤ length row.old }
-    requires small_bound_in_bounds { small_bound ≤ length scratch.old }
-    ensures { RowFilled (formula_of prefix.now clauses.now) variable.0 row.old scratch.old row.new scratch.new }
+fn write_row(universal: Universal, row: &mut [u8], scratch: &mut [u8])
+    requires row_enough { 1025 ≤ length row.old }
+    requires scratch_enough { small_bound ≤ length scratch.old }
+    ensures { RowFilled (formula_in universal.entry.tables) universal.entry.variable.0 row.old scratch.old row.new scratch.new }
 {
     let made = scratch.first_chunk_mut::<SMALL>().unwrap();
-    make_row(prefix, clauses, variable, made);
+    make_row(universal, made);
     copy_row(made, row);
     clear_tail(row, 1_025, 0);
     clear_tail(scratch, 0, 0);
@@ -132,7 +122,12 @@ fn row_with(
 {
     match row_answer(prefix, clauses, variable, row.len(), scratch, bytes) {
         Ok(v) => {
-            write_row(prefix, clauses, v, row, scratch);
+            let tables = Tables { prefix, clauses };
+            let universal = Universal {
+                tables,
+                variable: v,
+            };
+            write_row(universal, row, scratch);
             Ok(())
         }
         Err(refusal) => {

@@ -7,3 +7,4 @@ mod pass;
 pub mod row;
 pub mod scratch;
 mod search;
+pub mod universal;

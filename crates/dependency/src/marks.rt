@@ -22,6 +22,7 @@ pub struct Slot {
 }
 
 // What is known of a clause's entries, for the search from u and the one from −u: 0 for none, the variable of the only ones, or SEVERAL.
+// Numbers and no enum: they are those of the definitions, and the contracts of `see_at` and `reach_at` would need a map from an enum's cases to them.
 #[derive(Clone, Copy)]
 pub struct Seen {
     pub positive: usize,

@@ -1,4 +1,5 @@
 // A pass of both searches over the clauses, from the first to the last or back: each clause's entries first, then the literals that they reach.
+// Loops over a clause's words go by places, since where the next clause begins is their answer.
 ghost use Rattle.std.specs.Prelude.{◌≡◌, Bool, reverse, ◌<◌, ◌≤◌, length};
 ghost use Rattle.formula.specs.Decode.{clauses_of};
 ghost use Rattle.dependency.specs.Marks.{Boundary, ClauseBefore, pass};
@@ -78,9 +79,9 @@ fn pass_forth(clauses: &[i32], marks: &mut [u8; SMALL])
 
 // Where the clause begins that ends before `end`: behind the 0 of the one before it, or with the table.
 fn clause_start(clauses: &[i32], end: usize) -> usize
-    requires fact_1 { 0 < end }
-    requires fact_2 { end ≤ length clauses.now }
-    requires fact_3 { Boundary clauses.now end }
+    requires not_first { 0 < end }
+    requires in_table { end ≤ length clauses.now }
+    requires at_boundary { Boundary clauses.now end }
     ensures { ClauseBefore clauses.now end result }
 {
     for i in (1..end).rev() {
@@ -104,7 +105,7 @@ fn pass_back(clauses: &[i32], marks: &mut [u8; SMALL])
     }
 }
 
-// One pass, in either direction.
+// One pass, in either direction, which is a flag alone: it is turned at each pass.
 pub fn pass(clauses: &[i32], back: bool, marks: &mut [u8; SMALL])
     ensures { (s : Bool) → marks_in s marks.new ≡ pass (ordered back (clauses_of clauses.now)) (marks_in s marks.old) }
 {

@@ -1,19 +1,16 @@
 // Dependency rows: two searches, then a flag for each variable. Callers make a row in the 640 bytes that they lend and ask it about variables.
-ghost use Rattle.std.specs.Prelude.{◌≡◌, true, ◌≤◌, ◌<◌, length, get_or, eqb};
+ghost use Rattle.std.specs.Prelude.{◌≡◌, ◌≤◌, ◌<◌, length, get_or, eqb};
 ghost use Rattle.bits.specs.Flags.{flags};
-ghost use Rattle.qbf.specs.Formula.{universal};
-ghost use Rattle.formula.specs.Prefix.{prefix_of, quantifies};
-ghost use Rattle.formula.specs.Tables.{Admitted};
-ghost use Rattle.formula.specs.Decode.{formula_of};
+ghost use Rattle.formula.specs.Held.{formula_in};
 ghost use Rattle.dependency.specs.Scratch.{small_bound, row_in, RowMade};
 ghost use Rattle.dependency.specs.Bits.{depends_at, RowFlags};
 
 use crate::marks::{Slot, VARIABLES, is_entry};
 use crate::scratch::{LATER, ROW, SMALL};
 use crate::search::search;
+use crate::universal::Universal;
 use bits::{is_set, put};
 use formula::clear::clear_tail;
-use formula::literal::Variable;
 
 // Whether the variable v + 1 depends on u: it may be passed, and u is joined to it and −u to its opposite, or u to its opposite and −u to it. That a literal is
 // reached is told by its opposite's flag.
@@ -45,23 +42,19 @@ fn fill_row(work: &mut [u8; SMALL])
 
 // Makes the row of a universal; all else of the bytes is left 0. Passes over all clauses until one changes nothing: at most as many as there are literals of
 // existentials right of it, for each of its two literals.
-pub fn make_row(prefix: &[i32], clauses: &[i32], variable: Variable, work: &mut [u8])
-    requires admitted { Admitted prefix.now clauses.now }
-    requires variable_value { quantifies universal (prefix_of prefix.now) variable.0 ≡ true }
-    requires work_len { length work.old ≡ small_bound }
-    ensures { RowMade (formula_of prefix.now clauses.now) variable.0 work.new }
+pub fn make_row(universal: Universal, work: &mut [u8; SMALL])
+    ensures { RowMade (formula_in universal.entry.tables) universal.entry.variable.0 work.new }
 {
-    let marks = work.first_chunk_mut::<SMALL>().unwrap();
-    search(prefix, clauses, variable, marks);
-    fill_row(marks);
-    clear_tail(&mut marks[..ROW], 0, 0);
-    clear_tail(marks, LATER, 0);
+    search(universal.tables, universal.variable, work);
+    fill_row(work);
+    clear_tail(&mut work[..ROW], 0, 0);
+    clear_tail(work, LATER, 0);
 }
 
 // By the row that stands in scratch, the variable of this number depends on the row's universal.
 pub fn depends_in(scratch: &[u8], variable: usize) -> bool
-    requires small_bound_in_bounds { small_bound ≤ length scratch.now }
-    requires variable_bound { variable ≤ 1024 }
+    requires scratch_enough { small_bound ≤ length scratch.now }
+    requires in_bound { variable ≤ 1024 }
     ensures { result ≡ eqb (get_or (row_in scratch.now) variable 0) 1 }
 {
     if variable == 0 {

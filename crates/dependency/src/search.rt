@@ -3,9 +3,9 @@
 ghost use Rattle.std.specs.Prelude.{◌≡◌, Bool, true, false, ◌<◌, ◌≤◌, ◌+◌, drop, get_or, set};
 ghost use Rattle.qbf.specs.Formula.{after};
 ghost use Rattle.formula.specs.Word.{slot};
-ghost use Rattle.formula.specs.Prefix.{prefix_of, entry_at, entry_count, Entries};
-ghost use Rattle.formula.specs.Tables.{Admitted};
-ghost use Rattle.formula.specs.Decode.{clauses_of, formula_of};
+ghost use Rattle.formula.specs.Prefix.{entry_at, entry_count};
+ghost use Rattle.formula.specs.Held.{prefix_in, formula_in};
+ghost use Rattle.formula.specs.Decode.{clauses_of};
 ghost use Rattle.dependency.specs.Search.{open_entry, open_entries, ones, entries, Settled, Searched};
 ghost use Rattle.dependency.specs.Bits.{marks_in, NoEntries, Opens, RightOpened};
 
@@ -15,7 +15,8 @@ use crate::scratch::{LATER, ROW, SMALL};
 use bits::{count, put};
 use formula::clear::clear_tail;
 use formula::literal::Variable;
-use formula::prefix::{Entry, entry_at, entry_count, variable_at};
+use formula::prefix::{Entry, Prefix};
+use formula::tables::Tables;
 
 // How many entries the two searches have.
 fn count_entries(marks: &[u8; SMALL]) -> usize
@@ -54,28 +55,13 @@ fn settle(clauses: &[i32], unreached: usize, marks: &mut [u8; SMALL])
     }
 }
 
-// Where the entries right of a variable begin.
-fn right_of(prefix: &[i32], variable: Variable) -> usize
-    requires { Entries prefix.now }
-    ensures { drop result (prefix_of prefix.now) ≡ after variable.0 (prefix_of prefix.now) }
-{
-    let count = entry_count(prefix);
-    for i in 0..count {
-        if variable_at(prefix, i).0 == variable.0 {
-            return i + 1;
-        }
-    }
-    count
-}
-
 // The literals of the entry at a place may be passed, if it is existential.
-fn open_entry(prefix: &[i32], place: usize, marks: &mut [u8; SMALL])
-    requires fact_1 { Entries prefix.now }
-    requires fact_2 { place < entry_count prefix.now }
-    requires fact_3 { NoEntries marks.old }
-    ensures { Opens marks.old marks.new (open_entry (entry_at prefix.now place).quantifier (entry_at prefix.now place).variable) }
+fn open_entry(prefix: Prefix, place: usize, marks: &mut [u8; SMALL])
+    requires place_in { place < entry_count prefix.words.now }
+    requires no_entries { NoEntries marks.old }
+    ensures { Opens marks.old marks.new (open_entry (entry_at prefix.entry.words.now place).quantifier (entry_at prefix.entry.words.now place).variable) }
 {
-    match entry_at(prefix, place) {
+    match prefix.entry_at(place) {
         Entry::Existential(v) => {
             let n = v.0;
             put(marks, VARIABLES + n, true);
@@ -85,20 +71,19 @@ fn open_entry(prefix: &[i32], place: usize, marks: &mut [u8; SMALL])
 }
 
 // The existentials from the place `from` on may be passed.
-fn open_entries(prefix: &[i32], from: usize, marks: &mut [u8; SMALL])
-    requires fact_1 { Entries prefix.now }
-    requires fact_2 { NoEntries marks.old }
-    ensures { Opens marks.old marks.new (open_entries (drop from (prefix_of prefix.now))) }
+fn open_entries(prefix: Prefix, from: usize, marks: &mut [u8; SMALL])
+    requires { NoEntries marks.old }
+    ensures { Opens marks.old marks.new (open_entries (drop from (prefix_in prefix.entry))) }
 {
-    for i in from..entry_count(prefix) {
+    for i in from..prefix.count() {
         open_entry(prefix, i, marks);
     }
 }
 
 // The searches start from the literals of a universal.
 fn start(variable: Variable, marks: &mut [u8; SMALL])
-    requires le_variable { (1 ≤ variable.0) × (variable.0 ≤ 1024) }
-    requires s_value { (s : Bool) → get_or (marks_in s marks.old) (slot variable.0 s) 0 ≡ 0 }
+    requires in_range { (1 ≤ variable.0) × (variable.0 ≤ 1024) }
+    requires unmarked { (s : Bool) → get_or (marks_in s marks.old) (slot variable.0 s) 0 ≡ 0 }
     ensures { (s : Bool) → marks_in s marks.new ≡ set (marks_in s marks.old) (slot variable.0 s) 3 }
 {
     let at = 2 * variable.0;
@@ -107,23 +92,21 @@ fn start(variable: Variable, marks: &mut [u8; SMALL])
 }
 
 // What is right of a universal may be passed, whatever the marks held.
-fn open_right(prefix: &[i32], variable: Variable, marks: &mut [u8; SMALL])
-    requires { Entries prefix.now }
-    ensures { RightOpened (after variable.0 (prefix_of prefix.now)) marks.new }
+fn open_right(prefix: Prefix, variable: Variable, marks: &mut [u8; SMALL])
+    ensures { RightOpened (after variable.0 (prefix_in prefix.entry)) marks.new }
 {
     clear_tail(marks, 0, 0);
-    let from = right_of(prefix, variable);
+    let from = prefix.right_of(variable);
     open_entries(prefix, from, marks);
 }
 
 // Both searches from the literals of a universal, whatever the marks held.
-pub fn search(prefix: &[i32], clauses: &[i32], variable: Variable, marks: &mut [u8; SMALL])
-    requires admitted { Admitted prefix.now clauses.now }
-    requires le_variable { (1 ≤ variable.0) × (variable.0 ≤ 1024) }
-    ensures { (s : Bool) → Searched (formula_of prefix.now clauses.now) variable.0 s (marks_in s marks.new) }
+pub fn search(tables: Tables, variable: Variable, marks: &mut [u8; SMALL])
+    requires { (1 ≤ variable.0) × (variable.0 ≤ 1024) }
+    ensures { (s : Bool) → Searched (formula_in tables.entry) variable.0 s (marks_in s marks.new) }
 {
-    open_right(prefix, variable, marks);
+    open_right(tables.entries(), variable, marks);
     let unreached = count_open(marks);
     start(variable, marks);
-    settle(clauses, unreached, marks);
+    settle(tables.clauses, unreached, marks);
 }

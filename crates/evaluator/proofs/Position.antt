@@ -1,7 +1,7 @@
 -- The first variable left of a prefix: whose turn it is, what is left after it, and what the position is by its two
 -- values, the bytes being stored to and put back. Assumes nothing.
-use Prim.Native.Nat.{ℕ, ◌<◌}
-use mathlib.Core.Path.{◌≡◌, refl, ap, sym, ◌∙◌, subst}
+use Prim.Native.Nat.{ℕ, ◌<◌, ◌≤◌}
+use mathlib.Core.Path.{◌≡◌, refl, ap, sym, ◌∙◌}
 use mathlib.Core.Bool.{Bool, true, false, false≢true}
 use mathlib.Core.List.{List, [], ◌∷◌, Memᴰ}
 use native.Mathlib.Omega.{arith}
@@ -21,7 +21,6 @@ use Rattle.evaluator.specs.Turns.{universal_due, due, Due}
 -- v is the first variable of the prefix, on the side q, and `rest` is what is left after it
 pub record Opened (q : Quantifier) (n : ℕ) (prefix : List ℤ) (v : ℕ) (rest : List ℤ) : Type 0 where
   pub small : v < n
-  pub entries : Entries rest
   pub reach : variable_bound < n
   pub shorter : length rest < length prefix
   pub plays : (τ : Values) (M : Matrix)
@@ -31,6 +30,9 @@ pub record Opened (q : Quantifier) (n : ℕ) (prefix : List ℤ) (v : ℕ) (rest
 first_entry : (ws : List ℤ) → 0 < entry_count ws → prefix_of ws ≡ entry_at ws 0 ∷ prefix_of (later_entries ws)
 first_entry ws h = entries_drop ws 0 h ∙ ap {B = Prefix} (λ P. entry_at ws 0 ∷ P) (sym (later_entries_lem ws))
 
+pub first_bound : (ws : List ℤ) → Entries ws → 0 < entry_count ws → (entry_at ws 0).variable ≤ variable_bound
+first_bound ws d h = let r = d.ranged (entry_at ws 0) (rw (first_entry ws h) (Memᴰ.head refl)) in omega (arith, r.1)
+
 lost_first :
     (q : Quantifier) (P R : Prefix) (x : Entry) (τ : Values) (M : Matrix) → P ≡ x ∷ R → due P ≡ q
     → lost P τ M ≡ turn q (lost R (assign τ x.variable false) M) (lost R (assign τ x.variable true) M)
@@ -38,15 +40,13 @@ unfolding lost
 lost_first q P R x τ M e f = let k : x.quantifier ≡ q = sym (ap due e) ∙ f in rw (e, k)
 
 pub opened : (q : Quantifier) (n : ℕ) (prefix : List ℤ) (v : ℕ) (rest : List ℤ)
-    → Due q n prefix → 0 < entry_count prefix → v ≡ (entry_at prefix 0).variable → rest ≡ later_entries prefix
+    → Entries prefix → Due q n prefix → 0 < entry_count prefix → v ≡ (entry_at prefix 0).variable → rest ≡ later_entries prefix
     → Opened q n prefix v rest
-opened q n prefix v rest d h e f =
+opened q n prefix v rest r d h e f =
     let split = first_entry prefix h in
-    let r = d.entries.ranged (entry_at prefix 0) (rw split (Memᴰ.head refl)) in
     rw (f, e)
     (record {
-      small = omega (arith, r.1, d.reach);
-      entries = record { ranged = λ x m. d.entries.ranged x (subst (λ (P : Prefix). Memᴰ x P) (sym split) (Memᴰ.tail m)) };
+      small = omega (arith, first_bound prefix r h, d.reach);
       reach = d.reach;
       shorter = later_shorter prefix h;
       plays = λ τ M. lost_first q (prefix_of prefix) (prefix_of (later_entries prefix)) (entry_at prefix 0) τ M split d.first;
@@ -69,12 +69,12 @@ due_side (x ∷ P) b e = go x.quantifier refl b e
     go universal k true f = k
     go universal k false f = absurd (false≢true (sym (rw k at f)))
 
-module _ (n : ℕ) (ws : List ℤ) (entries : Entries ws) (reach : variable_bound < n) where
+module _ (n : ℕ) (ws : List ℤ) (reach : variable_bound < n) where
   pub due_universal : universal_due (prefix_of ws) ≡ true → Due universal n ws
-  due_universal e = record { first = due_side (prefix_of ws) true e; entries = entries; reach = reach }
+  due_universal e = record { first = due_side (prefix_of ws) true e; reach = reach }
 
   pub due_existential : universal_due (prefix_of ws) ≡ false → Due existential n ws
-  due_existential e = record { first = due_side (prefix_of ws) false e; entries = entries; reach = reach }
+  due_existential e = record { first = due_side (prefix_of ws) false e; reach = reach }
 
 -- where the universal side is due a variable is left
 pub universal_left : {n : ℕ} (ws : List ℤ) → Due universal n ws → 0 < entry_count ws
@@ -96,10 +96,10 @@ lost_none prefix τ M h = none_left (prefix_of prefix) h
 -- a side is handed the rest: its measure falls, and the side is due
 module _ {q : Quantifier} {n : ℕ} {prefix rest : List ℤ} {v : ℕ} (t m : ℕ) (o : Opened q n prefix v rest) (due : Bool) where
   pub hand_universal : length prefix ≡ t → m ≡ n → due ≡ universal_due (prefix_of rest) → due ≡ true → (length rest < t) × Due universal m rest
-  hand_universal h k e d = (omega (arith, o.shorter), rw k (due_universal n rest o.entries o.reach (sym e ∙ d)))
+  hand_universal h k e d = (omega (arith, o.shorter), rw k (due_universal n rest o.reach (sym e ∙ d)))
 
   pub hand_existential : length prefix ≡ t → m ≡ n → due ≡ universal_due (prefix_of rest) → due ≡ false → (length rest < t) × Due existential m rest
-  hand_existential h k e d = (omega (arith, o.shorter), rw k (due_existential n rest o.entries o.reach (sym e ∙ d)))
+  hand_existential h k e d = (omega (arith, o.shorter), rw k (due_existential n rest o.reach (sym e ∙ d)))
 
 -- the first call has answered at 0 and left the values as they were lent
 pub record Once (q : Quantifier) (prefix rest : List ℤ) (vs : List ℕ) (v : ℕ) (M : Matrix) (zero-lost : Bool) (left : List ℕ) : Type 0 where
@@ -118,14 +118,8 @@ module _ {q : Quantifier} {prefix rest : List ℤ} {vs : List ℕ} {v : ℕ} {M 
   left_length : length left ≡ length vs
   left_length = rw o.kept (length-set vs v 0)
 
-  pub once_store : v < length left
-  once_store = rw left_length o.opening.small
-
   pub once_length : (b : ℕ) → length (set left v b) ≡ length vs
   once_length b = length-set left v b ∙ left_length
-
-  pub once_back : set left v (get_or vs v 0) ≡ vs
-  once_back = rw o.kept (set-set vs v 0 (get_or vs v 0) ∙ set-get_or vs v 0)
 
   pub once_turn : lost (prefix_of prefix) (values_of vs) M ≡ turn q zero-lost (lost (prefix_of rest) (assign (values_of vs) v true) M)
   once_turn =
@@ -138,18 +132,6 @@ module _ {q : Quantifier} {prefix rest : List ℤ} {vs : List ℕ} {v : ℕ} {M 
   last_is : last ≡ set vs v 1
   last_is = w.kept ∙ ap (λ (l : List ℕ). set l v 1) w.once.kept ∙ set-set vs v 0 1
 
-  last_length : length last ≡ length vs
-  last_length = rw last_is (length-set vs v 1)
-
-  pub twice_store : v < length last
-  twice_store = rw last_length w.once.opening.small
-
-  pub twice_length : (b : ℕ) → length (set last v b) ≡ length vs
-  twice_length b = length-set last v b ∙ last_length
-
-  pub twice_back : set last v (get_or vs v 0) ≡ vs
-  twice_back = rw last_is (set-set vs v 1 (get_or vs v 0) ∙ set-get_or vs v 0)
-
   pub twice_turn : lost (prefix_of prefix) (values_of vs) M ≡ turn q zero-lost one-lost
   twice_turn =
       once_turn w.once
@@ -157,3 +139,10 @@ module _ {q : Quantifier} {prefix rest : List ℤ} {vs : List ℕ} {v : ℕ} {M 
       (ap (λ (τ : Values). lost (prefix_of rest) τ M) (sym (values_set vs v 1 w.once.opening.small))
       ∙ ap (λ (l : List ℕ). lost (prefix_of rest) (values_of l) M) (sym last_is ∙ w.kept)
       ∙ sym w.one)
+
+-- the values are put back
+pub back_once : (vs left : List ℕ) (v : ℕ) → left ≡ set vs v 0 → set left v (get_or vs v 0) ≡ vs
+back_once vs left v k = rw k (set-set vs v 0 (get_or vs v 0) ∙ set-get_or vs v 0)
+
+pub back_twice : (vs left last : List ℕ) (v : ℕ) → left ≡ set vs v 0 → last ≡ set left v 1 → set last v (get_or vs v 0) ≡ vs
+back_twice vs left last v k l = rw (l, k, set-set vs v 0 1) (set-set vs v 1 (get_or vs v 0) ∙ set-get_or vs v 0)

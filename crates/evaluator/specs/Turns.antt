@@ -2,7 +2,7 @@
 use Rattle.std.specs.Prelude.{ℕ, ◌<◌, ◌≡◌, Bool, false, List, [], ◌∷◌, ℤ}
 use Rattle.qbf.specs.Formula.{Quantifier, existential, universal, Prefix}
 use Rattle.formula.specs.Bounds.{variable_bound}
-use Rattle.formula.specs.Prefix.{prefix_of, is_quantifier, Entries}
+use Rattle.formula.specs.Prefix.{prefix_of, is_quantifier}
 
 unfoldable pub universal_due : Prefix → Bool
 universal_due [] = false
@@ -16,5 +16,4 @@ due (x ∷ P) = x.quantifier
 -- The side q is due, and n values reach every variable.
 pub record Due (q : Quantifier) (n : ℕ) (prefix : List ℤ) : Type 0 where
   pub first : due (prefix_of prefix) ≡ q
-  pub entries : Entries prefix
   pub reach : variable_bound < n

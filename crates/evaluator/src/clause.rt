@@ -2,7 +2,7 @@
 // so nothing is required of the tables.
 ghost use Rattle.std.specs.Prelude.{◌≡◌, get_or};
 ghost use Rattle.qbf.specs.Play.{true_literal, satisfied};
-ghost use Rattle.formula.specs.Decode.{literal_of, clause_at, clause_of};
+ghost use Rattle.formula.specs.Decode.{literal_of, first_clause, clause_of};
 ghost use Rattle.evaluator.specs.Values.{values_of};
 
 use formula::word::Word;
@@ -22,12 +22,11 @@ fn literal_true(values: &[u8], word: i32) -> bool
     if word < 0 { b != 1 } else { b == 1 }
 }
 
-// The clause that starts at `from` has a true literal.
-pub fn clause_satisfied(values: &[u8], clauses: &[i32], from: usize) -> bool
-    ensures { result ≡ satisfied (values_of values.now) (clause_of (clause_at clauses.now from)) }
+// The first clause of the words has a true literal.
+pub fn clause_satisfied(values: &[u8], words: &[i32]) -> bool
+    ensures { result ≡ satisfied (values_of values.now) (clause_of (first_clause words.now)) }
 {
-    for i in from..clauses.len() {
-        let word = clauses[i];
+    for &word in words {
         if Word::is_zero(word) {
             return false;
         }

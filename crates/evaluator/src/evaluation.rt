@@ -1,24 +1,22 @@
 // The evaluator: plays the game of admitted tables of up to 16 variables, from the first position to the end.
 ghost use Rattle.std.specs.Prelude.{◌≡◌};
 ghost use Rattle.qbf.specs.Play.{lost};
-ghost use Rattle.formula.specs.Prefix.{prefix_of, Entries};
+ghost use Rattle.formula.specs.Held.{prefix_in};
 ghost use Rattle.formula.specs.Decode.{matrix_of};
-ghost use Rattle.formula.specs.Tables.{Admitted};
 ghost use Rattle.evaluator.specs.Evaluation.{unset, evaluation_of};
 
 use crate::turns::{existential_turn, universal_due, universal_turn};
 use formula::bounds::AtMost;
-use formula::prefix::entry_count;
+use formula::prefix::Prefix;
 use formula::refusal::{Reason, Refusal};
-use formula::tables::check_tables;
+use formula::tables::{Tables, check_tables};
 
 // How many variables a game has that is played.
 pub type GameLength = AtMost<16>;
 
 // The first position is lost: the side of the first variable begins.
-fn first_lost(prefix: &[i32], clauses: &[i32]) -> bool
-    requires { Entries prefix.now }
-    ensures { result ≡ lost (prefix_of prefix.now) unset (matrix_of clauses.now) }
+fn first_lost(prefix: Prefix, clauses: &[i32]) -> bool
+    ensures { result ≡ lost (prefix_in prefix.entry) unset (matrix_of clauses.now) }
 {
     let mut values = [0u8; 1025];
     if universal_due(prefix) {
@@ -29,14 +27,14 @@ fn first_lost(prefix: &[i32], clauses: &[i32]) -> bool
 }
 
 // The game of admitted tables: whether the first position is not lost.
-fn play(prefix: &[i32], clauses: &[i32]) -> Result<bool, Refusal>
-    requires { Admitted prefix.now clauses.now }
-    ensures { result ≡ evaluation_of prefix.now clauses.now }
+fn play(tables: Tables) -> Result<bool, Refusal>
+    ensures { result ≡ evaluation_of tables.entry.prefix.now tables.entry.clauses.now }
 {
-    let Some(_) = GameLength::new(entry_count(prefix)) else {
+    let prefix = tables.entries();
+    let Some(_) = GameLength::new(prefix.count()) else {
         return Err(Refusal::new(Reason::Oversized, 0));
     };
-    Ok(!first_lost(prefix, clauses))
+    Ok(!first_lost(prefix, tables.clauses))
 }
 
 // The evaluator's one entry, for tables of any kind: whether the formula is true, or the refusal.
@@ -44,5 +42,5 @@ pub fn evaluate(prefix: &[i32], clauses: &[i32]) -> Result<bool, Refusal>
     ensures { result ≡ evaluation_of prefix.now clauses.now }
 {
     check_tables(prefix, clauses)?;
-    play(prefix, clauses)
+    play(Tables { prefix, clauses })
 }

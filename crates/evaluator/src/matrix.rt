@@ -5,20 +5,15 @@ ghost use Rattle.formula.specs.Decode.{words_after, matrix_of};
 ghost use Rattle.evaluator.specs.Values.{values_of};
 
 use crate::clause::clause_satisfied;
-use formula::word::Word;
+use formula::words::clause_end;
 
 // Where the clause after the one at `from` starts.
 fn next_clause(clauses: &[i32], from: usize) -> usize
     requires { from < length clauses.now }
-    ensures clauses_value { drop result clauses.now ≡ words_after clauses.now from }
-    ensures lower_bound { from < result }
+    ensures rest { drop result clauses.now ≡ words_after clauses.now from }
+    ensures further { from < result }
 {
-    for i in from..clauses.len() {
-        if Word::is_zero(clauses[i]) {
-            return i + 1;
-        }
-    }
-    clauses.len()
+    clause_end(clauses, from) + 1
 }
 
 // Some clause has no true literal.
@@ -28,7 +23,7 @@ pub fn matrix_falsified(values: &[u8], clauses: &[i32]) -> bool
     let mut i = 0;
     // Clauses are of differing length: where the next one starts is known behind this one.
     while i < clauses.len() {
-        if clause_satisfied(values, clauses, i) {
+        if clause_satisfied(values, &clauses[i..]) {
             i = next_clause(clauses, i);
         } else {
             return true;

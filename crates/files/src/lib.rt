@@ -3,6 +3,7 @@
 
 pub mod reading;
 
+ghost use Rattle.std.specs.Prelude.{IfSome};
 ghost use Rattle.std.specs.Counts.{IsPrefixLen};
 ghost use Rattle.std.specs.IoError.{error_kind};
 ghost use Rattle.files.specs.Calls.{IsNumberOf};
@@ -26,7 +27,7 @@ fn error_number(error: Error) -> i32
     }
 }
 
-// One call of `read`: the count that it answered and 0, or -1 and the error number.
+// One call of `read`: the count that it answered and 0, or -1 and the error number. As C's `read` tells it and no `Result`, since `after_read` takes the two.
 fn read_once(file: &mut impl Read, buffer: &mut [u8]) -> (isize, i32) {
     match file.read(buffer) {
         Ok(n) => (n as isize, 0),
@@ -34,10 +35,10 @@ fn read_once(file: &mut impl Read, buffer: &mut [u8]) -> (isize, i32) {
     }
 }
 
-// Reads on until the end is seen, the buffer is full or the file is unreadable, and answers how many bytes it has: 0 where it
-// is unreadable. `after_read` decides after each call.
-fn read_open(file: &mut impl Read, buffer: &mut [u8]) -> usize
-    ensures { IsPrefixLen result buffer.new }
+// Reads on until the end is seen, the buffer is full or the file is unreadable, and answers how many bytes it has: `None` where
+// it is unreadable. `after_read` decides after each call.
+fn read_open(file: &mut impl Read, buffer: &mut [u8]) -> Option<usize>
+    ensures { IfSome result (λ n. IsPrefixLen n buffer.new) }
 {
     let mut at = 0;
     let mut tries = TRIES;
@@ -52,25 +53,28 @@ fn read_open(file: &mut impl Read, buffer: &mut [u8]) -> usize
                 at = next;
                 tries = left;
             }
-            Reading::Whole(n) => return n,
-            Reading::Unreadable => return 0,
+            Reading::Whole(n) => return Some(n),
+            Reading::Unreadable => return None,
         }
     }
 }
 
+// Reads the file of this name, if it is readable. A path that is not UTF-8 names no file.
+fn read_path(rt: &impl Files, path: &[u8], buffer: &mut [u8]) -> Option<usize>
+    ensures { IfSome result (λ n. IsPrefixLen n buffer.new) }
+{
+    let name = from_utf8(path).ok()?;
+    let mut file = fs::open(rt, name).ok()?;
+    read_open(&mut file, buffer)
+}
+
 // Reads the file into the buffer and answers how many bytes it has, at most as many as the buffer; a file that cannot be
 // read, at its start or later, is as empty. A caller that has to see a longer file lends one byte more than it takes.
-// Past the count the buffer may hold anything. A path that is not UTF-8 names no file.
+// Past the count the buffer may hold anything.
 pub fn read_file(rt: &impl Files, path: &[u8], buffer: &mut [u8]) -> usize
     ensures { IsPrefixLen result buffer.new }
 {
-    let Ok(name) = from_utf8(path) else {
-        return 0;
-    };
-    let Ok(mut file) = fs::open(rt, name) else {
-        return 0;
-    };
-    read_open(&mut file, buffer)
+    read_path(rt, path, buffer).unwrap_or(0)
 }
 
 // Says on standard error that standard output was not written, with the reason.

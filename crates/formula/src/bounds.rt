@@ -3,7 +3,7 @@
 ghost use Rattle.std.specs.Prelude.{◌≡◌};
 ghost use Rattle.formula.specs.Bounds.{at_most};
 
-// A number that is at most MAX.
+// A number that is at most MAX. No ghost field says so: `at_most`, by which the constructor is stated, would have to hold the proof in each value.
 #[derive(Clone, Copy, Debug, PartialEq, Eq)]
 pub struct AtMost<const MAX: usize>(pub usize);
 

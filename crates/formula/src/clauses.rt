@@ -153,14 +153,14 @@ pub fn read_clauses(
     marks: &mut [usize; 1025],
 ) -> Result<MatrixRead, Refusal>
     requires position_in { PositionIn text.now from × (length text.now ≤ text_bound) }
-    requires variables_le_variable_bound { (variables ≤ variable_bound) × (count ≤ count_bound) }
+    requires counts_in_bound { (variables ≤ variable_bound) × (count ≤ count_bound) }
     ensures { (prefixRoom : ℕ) (P : Prefix) → Listed marks.old P → ClausesPost text.now from.place variables count prefixRoom P clauses.old clauses.new marks.new result }
 {
     let mut at = from;
     let mut used = 0;
     let mut closed = 0;
     let mut start = 0;
-    // From token to token, up to the text's end or a refusal: no index is counted.
+    // From token to token, up to the text's end or a refusal: no `for` counts the place; what is counted are words and clauses.
     loop {
         match next_token(text, at.place, at.line, at.column) {
             Next::End(end) => return clauses_end(end, start, used, closed, count),

@@ -1,6 +1,7 @@
 // Bytes and numbers written into a lent text. A store past the text's end does nothing: a writer counts its places to the
 // end and asks for room once. Each function answers the place behind what it wrote. It is no `Display`, which would be these same stores behind a formatter: bytes
-// go into the text lent, and are counted past its end.
+// go into the text lent, and are counted past its end. Text and place are no struct: the text is lent by name to each call, the place is what a call answers,
+// and a struct of the two would be put together anew for each piece whose room a caller tells.
 ghost use Rattle.std.specs.Prelude.{◌≡◌, [], ◌∷◌, ◌+◌, ◌^◌, ◌<◌, length};
 ghost use Rattle.formula.specs.Decimal.{decimal};
 ghost use Rattle.formula.specs.Store.{Stores};

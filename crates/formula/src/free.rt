@@ -63,7 +63,7 @@ pub fn complete(
     variables: usize,
     marks: &[usize; 1025],
 ) -> Option<usize>
-    requires entries_in_bounds { (entry_words entries ≤ length prefix.old) × (variables ≤ variable_bound) }
+    requires within { (entry_words entries ≤ length prefix.old) × (variables ≤ variable_bound) }
     requires prefix_fine { PrefixFine variable_bound (completed_in marks.now variables entries prefix.old) }
     ensures { CompletionPost marks.now variables entries prefix.old prefix.new result }
 {

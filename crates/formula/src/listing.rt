@@ -9,7 +9,8 @@ ghost use Rattle.formula.specs.Tables.Scan.{AllOrNone, Listing, marks_used};
 use crate::word::Word;
 use bits::{is_set, put};
 
-// How many of the bytes lent are marks: a bit for each variable, or none.
+// How many of the bytes lent are marks: a bit for each variable, or none. Marks are a slice that may be empty, and no `Option` of an array: that would be lent
+// again at each entry, and taken out of the scratch for good.
 pub fn marks_used(lent: usize) -> usize
     ensures { result ≡ marks_used lent }
 {
@@ -28,22 +29,31 @@ fn stands_in(table: &[i32], variable: usize) -> bool
         .any(|entry| variable == Word::ordinal(entry[0]))
 }
 
-// Whether a table lists the variable, by its mark where there are marks. The loop over clause words asks it of each: the test of the
-// length is the same each time.
-pub fn is_listed(table: &[i32], variable: usize, marks: &[u8]) -> bool
-    requires le_variable { (1 ≤ variable) × (variable ≤ variable_bound) }
-    requires listing { Listing table.now marks.now }
-    ensures { result ≡ listed_in table.now variable }
-{
-    if marks.len() < 1 {
-        return stands_in(table, variable);
+// The variables that a table lists: the table with its marks, if there are any.
+#[derive(Clone, Copy)]
+pub struct Listed<'a> {
+    pub table: &'a [i32],
+    pub marks: &'a [u8],
+    pub ghost listing: { Listing table.now marks.now },
+}
+
+impl<'a> Listed<'a> {
+    // Whether the variable is among them, by its mark where there are marks. The loop over clause words asks it of each: the test of the
+    // length is the same each time.
+    pub fn has(self, variable: usize) -> bool
+        requires { (1 ≤ variable) × (variable ≤ variable_bound) }
+        ensures { result ≡ listed_in self.entry.table.now variable }
+    {
+        if self.marks.len() < 1 {
+            return stands_in(self.table, variable);
+        }
+        is_set(self.marks, variable - 1)
     }
-    is_set(marks, variable - 1)
 }
 
 // Marks the variable where there are marks.
 pub fn mark(variable: usize, marks: &mut [u8])
-    requires le_variable { (1 ≤ variable) × (variable ≤ variable_bound) }
+    requires in_range { (1 ≤ variable) × (variable ≤ variable_bound) }
     requires all_or_none { AllOrNone (length marks.old) }
     ensures { 0 < length marks.old → flags marks.new ≡ set (flags marks.old) (variable - 1) 1 }
 {

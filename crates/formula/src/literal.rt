@@ -5,7 +5,8 @@ ghost use Rattle.formula.specs.Bounds.{variable_bound, variable_fit, literal_fit
 
 use crate::word::Word;
 
-// A variable's number, 1 to 1,024.
+// A variable's number, 1 to 1,024. That it is one is a clause where it is needed, and no ghost field, which would ask more of those who call what asks nothing of the
+// number.
 #[derive(Clone, Copy, Debug, PartialEq, Eq)]
 pub struct Variable(pub usize);
 

@@ -33,7 +33,7 @@ fn fill_tables(
     clauses: &mut [i32],
 ) -> Result<Filled, Refusal>
     requires position_in { PositionIn text.now from × (length text.now ≤ text_bound) }
-    requires variables_le_variable_bound { (variables ≤ variable_bound) × (count ≤ count_bound) }
+    requires counts_in_bound { (variables ≤ variable_bound) × (count ≤ count_bound) }
     ensures { FillPost (reading_from (length prefix.old) (length clauses.old) text.now (between_sets variables count []) from.place) prefix.new clauses.new result }
 {
     let mut marks = [0usize; 1025];

@@ -1,4 +1,5 @@
-// The quantifier sets of a formula's text: `a` or `e`, positive numbers, 0. A mark per variable says whether it is listed.
+// The quantifier sets of a formula's text: `a` or `e`, positive numbers, 0. A mark per variable says whether it is listed. Which quantifier a set has is a flag
+// alone, the answer of the test for its letter: a value of two names would be made of it and taken apart at the entry.
 ghost use Rattle.std.specs.Prelude.{◌≡◌, ◌≤◌, ◌<◌, [], length};
 ghost use Rattle.formula.specs.Bounds.{variable_bound, text_bound};
 ghost use Rattle.scanner.specs.Position.Cursor.{PositionIn};
@@ -102,12 +103,12 @@ fn read_set(
     marks: &mut [usize; 1025],
 ) -> Result<SetsRead, Refusal>
     requires position_in { PositionIn text.now from × (length text.now ≤ text_bound) }
-    requires variables_le_variable_bound { (variables ≤ variable_bound) × (entry_words entries ≤ length prefix.old) × Listed marks.old (entries_in prefix.old entries) }
+    requires listed { (variables ≤ variable_bound) × (entry_words entries ≤ length prefix.old) × Listed marks.old (entries_in prefix.old entries) }
     ensures { SetPost text.now from.place variables (quantifier_of existential) entries prefix.old prefix.new marks.new result }
 {
     let mut at = from;
     let mut n = entries;
-    // From token to token, up to the text's end or a refusal: no index is counted.
+    // From token to token, up to the text's end or a refusal: no `for` counts the place.
     loop {
         match next_token(text, at.place, at.line, at.column) {
             Next::End(end) => return Err(Refusal::in_text(Reason::Unfinished, end)),
@@ -134,12 +135,12 @@ pub fn read_sets(
     marks: &mut [usize; 1025],
 ) -> Result<SetsRead, Refusal>
     requires position_in { PositionIn text.now from × (length text.now ≤ text_bound) }
-    requires variables_le_variable_bound { (variables ≤ variable_bound) × Listed marks.old [] }
+    requires listed { (variables ≤ variable_bound) × Listed marks.old [] }
     ensures { SetsPost text.now from.place variables prefix.old prefix.new marks.new result }
 {
     let mut at = from;
     let mut entries = 0;
-    // From token to token, up to the text's end or a refusal: no index is counted.
+    // From token to token, up to the text's end or a refusal: no `for` counts the place.
     loop {
         match next_token(text, at.place, at.line, at.column) {
             Next::End(_) => return Ok(SetsRead { entries, next: at }),

@@ -6,15 +6,15 @@ ghost use Rattle.std.specs.Prelude.{◌≡◌, true, ◌+◌, ◌%◌, ◌^◌, 
 ghost use mathlib.Core.List.{[], Memᴰ};
 ghost use Rattle.formula.specs.Bounds.{variable_bound, in_range};
 ghost use Rattle.formula.specs.Refusal.{passes};
-ghost use Rattle.formula.specs.Tables.{zeros, prefix_refusal, clauses_refusal, listed_in, words_refusal, tables_answer};
+ghost use Rattle.formula.specs.Tables.{zeros, prefix_refusal, clauses_refusal, listed_in, words_refusal, tables_answer, Admitted};
 ghost use Rattle.formula.specs.Tables.Scan.{AllOrNone, Listing, EntryStep, plain_run, clash_free, ClauseStep};
 
 use crate::bounds::{ClauseCount, MatrixLength, PrefixLength};
 use crate::clear::clear_tail;
-use crate::listing::{is_listed, mark, marks_used};
+use crate::listing::{Listed, mark, marks_used};
 use crate::literal::{Literal, Variable};
 use crate::prefix;
-use crate::prefix::next_block;
+use crate::prefix::{Prefix, next_block};
 use crate::refusal::{Reason, Refusal};
 use crate::word::Word;
 
@@ -25,19 +25,39 @@ pub struct Counts {
     pub clauses: usize,
 }
 
-// Of the last entry that passed the check, its quantifier's number and its block; both are 0 before the first. Numbers, as the table has them: the next
-// entry's is compared with them before it is known to be a quantifier's.
+// Tables that pass the check. How many clauses they hold is no field: of those that are handed tables, the writer and the checker ask for it.
+#[derive(Clone, Copy)]
+pub struct Tables<'a> {
+    pub prefix: &'a [i32],
+    pub clauses: &'a [i32],
+    pub ghost admitted: { Admitted prefix.now clauses.now },
+}
+
+impl<'a> Tables<'a> {
+    // The prefix as entries.
+    pub fn entries(self) -> Prefix<'a>
+        ensures { result.words ≡ self.entry.prefix }
+    {
+        Prefix { words: self.prefix }
+    }
+}
+
+// Of the last entry that passed the check, its quantifier's number and its block; both are 0 before the first. Numbers and no `Option` of a quantifier: the
+// definition of the check, and the contracts by it, go by them.
 #[derive(Clone, Copy)]
 pub struct LastEntry {
     pub quantifier: usize,
     pub block: usize,
 }
 
-// The number of 0 words.
+// The number of 0 words. A sum, and not `filter` and `count`: that compiles to a branch at each word.
 fn count_zeros(clauses: &[i32]) -> usize
     ensures { result ≡ zeros clauses.now }
 {
-    clauses.iter().filter(|word| Word::is_zero(**word)).count()
+    clauses
+        .iter()
+        .map(|word| usize::from(Word::is_zero(*word)))
+        .sum()
 }
 
 // The entry whose first word stands at `at`, behind the entry `last`: its variable's 5 and 6, its quantifier's 5, its block's 6. The
@@ -56,7 +76,11 @@ fn check_entry(
     if v < 1 {
         return Err(Refusal::new(Reason::OutOfRange, at));
     }
-    if is_listed(&prefix[..at], v, marks) {
+    let before = Listed {
+        table: &prefix[..at],
+        marks,
+    };
+    if before.has(v) {
         return Err(Refusal::new(Reason::BoundTwice, at));
     }
     let quantifier = Word::ordinal(prefix[at + 1]);
@@ -90,10 +114,10 @@ fn check_prefix(prefix: &[i32], marks: &mut [u8]) -> Result<(), Refusal>
     Ok(())
 }
 
-// Where the literals that begin at `from` end: at the first word that is 0, out of range or unbound, or at the table's end.
-fn literals_end(prefix: &[i32], clauses: &[i32], from: usize, marks: &[u8]) -> usize
-    requires { (from ≤ length clauses.now) × Listing prefix.now marks.now }
-    ensures { result ≡ from + plain_run (listed_in prefix.now) (drop from clauses.now) }
+// By places, since a place is the answer. Where the literals that begin at `from` end: at the first word that is 0, out of range or unbound, or at the table's end.
+fn literals_end(listed: Listed, clauses: &[i32], from: usize) -> usize
+    requires { from ≤ length clauses.now }
+    ensures { result ≡ from + plain_run (listed_in listed.entry.table.now) (drop from clauses.now) }
 {
     for i in from..clauses.len() {
         let v = Word::variable(clauses[i]);
@@ -103,14 +127,14 @@ fn literals_end(prefix: &[i32], clauses: &[i32], from: usize, marks: &[u8]) -> u
         if Variable::MAX < v {
             return i;
         }
-        if !is_listed(prefix, v, marks) {
+        if !listed.has(v) {
             return i;
         }
     }
     clauses.len()
 }
 
-// The place of the first literal of a clause that repeats or opposes an earlier one, or the clause's length.
+// The place of the first literal of a clause that repeats or opposes an earlier one, or the clause's length: how far it goes without a clash, as `clash_free` counts.
 fn find_clash(clause: &[i32]) -> usize
     requires { (w : ℤ) → Memᴰ w clause.now → in_range (nat_abs w) variable_bound ≡ true }
     ensures { result ≡ clash_free [] clause.now }
@@ -133,16 +157,11 @@ fn find_clash(clause: &[i32]) -> usize
 }
 
 // The clause that begins at `from`: 5, 7, 8, and 9 where no 0 closes it. Answers the place after that 0.
-fn check_clause(
-    prefix: &[i32],
-    clauses: &[i32],
-    from: usize,
-    marks: &[u8],
-) -> Result<usize, Refusal>
-    requires { (from < length clauses.now) × Listing prefix.now marks.now }
-    ensures { ClauseStep (listed_in prefix.now) clauses.now from result }
+fn check_clause(listed: Listed, clauses: &[i32], from: usize) -> Result<usize, Refusal>
+    requires { from < length clauses.now }
+    ensures { ClauseStep (listed_in listed.entry.table.now) clauses.now from result }
 {
-    let end = literals_end(prefix, clauses, from, marks);
+    let end = literals_end(listed, clauses, from);
     let clash = find_clash(&clauses[from..end]);
     if clash < end - from {
         return Err(Refusal::new(Reason::Clash, from + clash));
@@ -161,14 +180,13 @@ fn check_clause(
 }
 
 // The clause words, clause by clause.
-fn check_clauses(prefix: &[i32], clauses: &[i32], marks: &[u8]) -> Result<(), Refusal>
-    requires { Listing prefix.now marks.now }
-    ensures { result ≡ passes (clauses_refusal (listed_in prefix.now) 0 [] clauses.now) }
+fn check_clauses(listed: Listed, clauses: &[i32]) -> Result<(), Refusal>
+    ensures { result ≡ passes (clauses_refusal (listed_in listed.entry.table.now) 0 [] clauses.now) }
 {
     let mut at = 0;
     // The place goes on by a whole clause, so no `for` counts it.
     while at < clauses.len() {
-        at = check_clause(prefix, clauses, at, marks)?;
+        at = check_clause(listed, clauses, at)?;
     }
     Ok(())
 }
@@ -183,7 +201,11 @@ fn check_words(prefix: &[i32], clauses: &[i32], marks: &mut [u8]) -> Result<(), 
     }
     clear_tail(marks, 0, 0);
     check_prefix(prefix, marks)?;
-    check_clauses(prefix, clauses, marks)
+    let listed = Listed {
+        table: prefix,
+        marks,
+    };
+    check_clauses(listed, clauses)
 }
 
 // The check of tables, with marks in what the caller lends: a bit for each variable that the prefix lists where `marks` has at least 128 bytes;

@@ -16,33 +16,27 @@ pub enum Word {
 }
 
 impl Word {
-    // What a word is. The range is tested first and as a whole: compiled, the constructor's own test is gone and no branch is on the sign.
+    // What a word is: 0, or by its magnitude, which is a variable's number or not.
     pub fn of(word: i32) -> Word
         ensures { result ≡ word_of word }
     {
         if word == 0 {
             return Word::Zero;
         }
-        if word < -1_024 {
-            return Word::TooLarge;
-        }
-        if 1_024 < word {
-            return Word::TooLarge;
-        }
-        if 0 < word {
-            match Variable::new(word as usize) {
-                Some(v) => Word::Positive(v),
-                None => Word::TooLarge,
+        match Variable::new(word.unsigned_abs() as usize) {
+            Some(v) => {
+                if 0 < word {
+                    Word::Positive(v)
+                } else {
+                    Word::Negative(v)
+                }
             }
-        } else {
-            match Variable::new((-word) as usize) {
-                Some(v) => Word::Negative(v),
-                None => Word::TooLarge,
-            }
+            None => Word::TooLarge,
         }
     }
 
-    // The number of a word's variable: 0 for the word 0, 1,025 for one out of range.
+    // The number of a word's variable: 0 for the word 0, 1,025 for one out of range. Here and below 0 stands for none, as in the definitions, and no `Option`: what is asked
+    // of each word of a clause is a number that is compared.
     pub fn variable(word: i32) -> usize
         ensures { result ≡ variable_of (word_of word) }
     {
@@ -72,15 +66,15 @@ impl Word {
     }
 
     // The place of a word's literal among marks, two a variable, with what each sign adds; 0, which is no literal's, for any
-    // other word. Both signs take one way, so that the loops above branch on no sign.
+    // other word. By the magnitude and not by a case for each sign: compiled, the loops above branch on no sign.
     fn slot_with(word: i32, plus: usize, minus: usize) -> usize
         requires { (plus ≤ 1) × (minus ≤ 1) }
         ensures { result ≡ slot_with plus minus (word_of word) }
     {
-        match Word::of(word) {
-            Word::Zero | Word::TooLarge => 0,
-            Word::Positive(v) => 2 * v.0 + plus,
-            Word::Negative(v) => 2 * v.0 + minus,
+        let added = if 0 < word { plus } else { minus };
+        match Variable::new(word.unsigned_abs() as usize) {
+            Some(v) => 2 * v.0 + added,
+            None => 0,
         }
     }
 

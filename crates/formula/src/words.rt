@@ -88,7 +88,7 @@ pub fn clause_end(words: &[i32], from: usize) -> usize
     ensures { result ≡ close_from from (drop from words.now) }
 {
     let mut at = from;
-    // The place where it ends is what the loop finds, so no `for` counts it.
+    // By the reader that 01 names, asked at each place: where the clause ends is what the loop finds.
     while let ClauseWord::Word(_) = clause_word(words, at) {
         at += 1;
     }

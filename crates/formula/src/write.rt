@@ -1,38 +1,38 @@
 // The writer of formulas. Every writing function answers the place behind what it wrote; none asks for room but the last. No `Display`: see decimal.rt.
-ghost use Rattle.std.specs.Prelude.{◌≡◌, [], ◌∷◌, ◌++◌, ◌+◌, ◌^◌, ◌<◌, ◌≤◌, max, length, eqb, nat_abs};
+ghost use Rattle.std.specs.Prelude.{◌≡◌, [], ◌∷◌, ◌++◌, ◌+◌, ◌^◌, ◌<◌, ◌≤◌, length, eqb, nat_abs};
 ghost use Rattle.formula.specs.Bounds.{variable_bound};
-ghost use Rattle.formula.specs.Prefix.{prefix_of, entry_count, entry_at, Entries};
+ghost use Rattle.formula.specs.Held.{prefix_in};
+ghost use Rattle.formula.specs.Prefix.{prefix_of, entry_count, entry_at};
 ghost use Rattle.formula.specs.Decimal.{decimal};
 ghost use Rattle.formula.specs.Store.{Stores};
-ghost use Rattle.formula.specs.Tables.{zeros, Admitted};
+ghost use Rattle.formula.specs.Tables.{zeros};
 ghost use Rattle.formula.specs.Write.{largest, header_text, letter_of, written, Writes};
 ghost use Rattle.formula.specs.Write.Stream.{line_end, line_turn, entry_text, prefix_text, word_text, clauses_text, Bounded, Finishes};
 
-use crate::prefix::Entry;
+use crate::prefix::{Entry, Prefix};
 use crate::refusal::{Reason, Refusal};
+use crate::tables::{Tables, check_tables};
 use crate::word::Word;
-use crate::{clear, decimal, prefix, tables};
+use crate::{clear, decimal};
 
 // The letter of the quantifier of the entry at a place.
-fn letter_at(prefix: &[i32], place: usize) -> u8
-    requires entries { Entries prefix.now }
-    requires place_bound { place < entry_count prefix.now }
-    ensures { result ≡ letter_of (entry_at prefix.now place).quantifier }
+fn letter_at(prefix: Prefix, place: usize) -> u8
+    requires { place < entry_count prefix.words.now }
+    ensures { result ≡ letter_of (entry_at prefix.entry.words.now place).quantifier }
 {
-    match prefix::entry_at(prefix, place) {
+    match prefix.entry_at(place) {
         Entry::Existential(_) => b'e',
         Entry::Universal(_) => b'a',
     }
 }
 
 // The largest variable number of a prefix, 0 if it has no entry.
-fn largest_variable(prefix: &[i32]) -> usize
-    requires { Entries prefix.now }
-    ensures { result ≡ largest (prefix_of prefix.now) }
+fn largest_variable(prefix: Prefix) -> usize
+    ensures { result ≡ largest (prefix_in prefix.entry) }
 {
     let mut top: usize = 0;
-    for i in 0..prefix::entry_count(prefix) {
-        top = top.max(prefix::variable_at(prefix, i).0);
+    for i in 0..prefix.count() {
+        top = top.max(prefix.variable_at(i).0);
     }
     top
 }
@@ -92,17 +92,16 @@ fn write_entry(text: &mut [u8], at: usize, last: u8, letter: u8, variable: usize
 }
 
 // The prefix lines: entries of one quantifier that stand together share a line.
-fn write_prefix(prefix: &[i32], text: &mut [u8], at: usize) -> usize
-    requires entries { Entries prefix.now }
-    requires prefix_bound { at + length (prefix_text 0 (prefix_of prefix.now)) < 2 ^ 64 }
-    ensures { Stores text.old at (prefix_text 0 (prefix_of prefix.now)) text.new result }
+fn write_prefix(prefix: Prefix, text: &mut [u8], at: usize) -> usize
+    requires { at + length (prefix_text 0 (prefix_of prefix.words.now)) < 2 ^ 64 }
+    ensures { Stores text.old at (prefix_text 0 (prefix_in prefix.entry)) text.new result }
 {
     let mut next = at;
     // The letter ahead of the first entry: 0, as no letter is.
     let mut last = 0;
-    for i in 0..prefix::entry_count(prefix) {
+    for i in 0..prefix.count() {
         let letter = letter_at(prefix, i);
-        let variable = prefix::variable_at(prefix, i);
+        let variable = prefix.variable_at(i);
         next = write_entry(text, next, last, letter, variable.0);
         last = letter;
     }
@@ -111,8 +110,8 @@ fn write_prefix(prefix: &[i32], text: &mut [u8], at: usize) -> usize
 
 // A clause word: a literal and a space, or the end of its line.
 fn write_word(text: &mut [u8], at: usize, word: i32) -> usize
-    requires word_bound { nat_abs word ≤ variable_bound }
-    requires word_bound_2 { at + length (word_text word) < 2 ^ 64 }
+    requires in_range { nat_abs word ≤ variable_bound }
+    requires place_fits { at + length (word_text word) < 2 ^ 64 }
     ensures { Stores text.old at (word_text word) text.new result }
 {
     match Word::of(word) {
@@ -129,7 +128,7 @@ fn write_word(text: &mut [u8], at: usize, word: i32) -> usize
 // The clause lines.
 fn write_clauses(clauses: &[i32], text: &mut [u8], at: usize) -> usize
     requires bounded { Bounded clauses.now }
-    requires clauses_bound { at + length (clauses_text clauses.now) < 2 ^ 64 }
+    requires place_fits { at + length (clauses_text clauses.now) < 2 ^ 64 }
     ensures { Stores text.old at (clauses_text clauses.now) text.new result }
 {
     let mut next = at;
@@ -140,15 +139,15 @@ fn write_clauses(clauses: &[i32], text: &mut [u8], at: usize) -> usize
 }
 
 // The whole text of tables that passed the check.
-fn write_tables(prefix: &[i32], clauses: &[i32], count: usize, text: &mut [u8]) -> usize
-    requires admitted { Admitted prefix.now clauses.now }
-    requires count_value { count ≡ zeros clauses.now }
-    ensures { Stores text.old 0 (written prefix.now clauses.now) text.new result }
+fn write_tables(tables: Tables, count: usize, text: &mut [u8]) -> usize
+    requires { count ≡ zeros tables.clauses.now }
+    ensures { Stores text.old 0 (written tables.entry.prefix.now tables.entry.clauses.now) text.new result }
 {
+    let prefix = tables.entries();
     let top = largest_variable(prefix);
     let mut at = write_header(text, top, count);
     at = write_prefix(prefix, text, at);
-    write_clauses(clauses, text, at)
+    write_clauses(tables.clauses, text, at)
 }
 
 // The end of a writing: room is asked for here, and what was not used is cleared. Answers the used length.
@@ -166,13 +165,14 @@ fn finish(text: &mut [u8], used: usize) -> Result<usize, Refusal>
 pub fn write_formula(prefix: &[i32], clauses: &[i32], text: &mut [u8]) -> Result<usize, Refusal>
     ensures { Writes prefix.now clauses.now (length text.old) result text.new }
 {
-    match tables::check_tables(prefix, clauses) {
+    match check_tables(prefix, clauses) {
         Err(refusal) => {
             clear::clear_tail(text, 0, 0);
             Err(refusal)
         }
         Ok(counts) => {
-            let used = write_tables(prefix, clauses, counts.clauses, text);
+            let tables = Tables { prefix, clauses };
+            let used = write_tables(tables, counts.clauses, text);
             finish(text, used)
         }
     }

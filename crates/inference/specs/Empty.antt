@@ -1,7 +1,9 @@
 -- Empty clauses among the numbered ones: whether there is one, the first one, and the last clause if it is empty; and the first one's number as the
--- code keeps it, 0 for none. Laws are in Empty/Laws.antt.
+-- code keeps it. Laws are in Empty/Laws.antt.
 pub mod Laws
-use Rattle.std.specs.Prelude.{ℕ, zero, suc, Bool, true, false, List, [], ◌∷◌}
+use Rattle.std.specs.Prelude.{Option as Optional, Some, None}
+use Rattle.formula.specs.declared.literal.ClauseNumber.{ClauseNumber}
+use Rattle.std.specs.Prelude.{ℕ, suc, Bool, true, false, List, [], ◌∷◌}
 use Rattle.std.proofs.Math.Option.{Option, none, some}
 use Rattle.inference.specs.Words.{Words}
 
@@ -31,17 +33,17 @@ last_empty n [] = none
 last_empty n (C ∷ []) = number_if (is_empty C) n
 last_empty n (C ∷ D ∷ Cs) = last_empty (suc n) (D ∷ Cs)
 
--- A number that may be missing as one number, 0 for none, and back.
-abbrev pub empty_number : Option ℕ → ℕ
-empty_number none = 0
-empty_number (some n) = n
+-- A number that may be missing as the code keeps it, and back.
+abbrev pub empty_number : Option ℕ → Optional ClauseNumber
+empty_number none = None
+empty_number (some n) = Some (record { 0 = n })
 
-abbrev pub number_found : ℕ → Option ℕ
-number_found zero = none
-number_found (suc n) = some (suc n)
+abbrev pub number_found : Optional ClauseNumber → Option ℕ
+number_found None = none
+number_found (Some n) = some n.0
 
 -- The first empty clause's number once one more is numbered, which is empty or not.
-abbrev pub empty_after : ℕ → Bool → ℕ → ℕ
-empty_after zero true n = n
-empty_after zero false n = 0
-empty_after (suc e) ends n = suc e
+abbrev pub empty_after : Optional ClauseNumber → Bool → ClauseNumber → Optional ClauseNumber
+empty_after None true n = Some n
+empty_after None false n = None
+empty_after (Some e) ends n = Some e

@@ -33,7 +33,7 @@ unfoldable pub stored : ℕ → Words → Words → List ℕ → ℕ → List Wo
 stored inputs clauses steps offsets zero = []
 stored inputs clauses steps offsets (suc n) = stored inputs clauses steps offsets n ++ (stored_at inputs clauses steps offsets n ∷ [])
 
--- The offsets hold the places of the input clauses, whatever the step words are; `empty` is the first empty one, 0 for none.
-pub record OffsetsFilled (clauses : Words) (empty : ℕ) (offsets : List ℕ) : Type 0 where
+-- The offsets hold the places of the input clauses, whatever the step words are; `empty` is the first empty one.
+pub record OffsetsFilled (clauses : Words) (empty : Option ClauseNumber) (offsets : List ℕ) : Type 0 where
   pub input_clauses : (steps : Words) → stored (length (clauses_of clauses)) clauses steps offsets (length (clauses_of clauses)) ≡ clauses_of clauses
   pub first_empty_lem : empty ≡ empty_number (first_empty 1 (clauses_of clauses))

@@ -21,6 +21,11 @@ kind_read other = None
 abbrev pub kind_is : Family → ℤ → Optional StepKind
 kind_is f w = kind_read (kind_of f w)
 
+-- Where a step of this kind begins its statement, the step's first word standing at `at`.
+abbrev pub statement_by : ℕ → StepKind → ℕ
+statement_by at Resolution = at + 4
+statement_by at Reduction = at + 3
+
 -- The first of two kinds that is one.
 abbrev pub or_kind : Kind → Kind → Kind
 or_kind resolves k = resolves

@@ -6,11 +6,11 @@ ghost use Rattle.formula.specs.Decode.{first_clause, clause_at};
 ghost use Rattle.inference.specs.Words.{holds, AllInRange, TellsAny};
 ghost use Rattle.inference.specs.Empty.{is_empty};
 
-use crate::words::same;
 use formula::word::Word;
 use formula::words::clause_end;
 
 // The place of the 0 that closes the clause, or the table's length where none does.
+#[tactic(auto, using(formula::specs::Decode::Places::close_first_clause))]
 pub fn end_of(words: &[i32], from: usize) -> usize
     ensures { result ≡ from + length (first_clause (drop from words.now)) }
 {
@@ -53,10 +53,11 @@ pub fn any_word<F: Fn(i32) -> bool>(words: &[i32], from: usize, test: F) -> bool
 pub fn has_word(words: &[i32], from: usize, sought: i32) -> bool
     ensures { result ≡ holds sought (first_clause (drop from words.now)) }
 {
-    any_word(words, from, |word| same(sought, word))
+    any_word(words, from, |word| sought == word)
 }
 
 // Whether the clause that begins at `from` is empty: a 0 stands there, or no word.
+#[tactic(auto, using(crate::proofs::Signed::empty_here, crate::proofs::Signed::empty_past))]
 pub fn is_empty(words: &[i32], from: usize) -> bool
     ensures { result ≡ is_empty (clause_at words.now from) }
 {

@@ -9,4 +9,3 @@ pub mod marks;
 pub mod numbered;
 pub mod read;
 pub mod result;
-pub mod words;

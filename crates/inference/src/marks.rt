@@ -1,7 +1,7 @@
 // A step's marks, one flag a literal. Of an antecedent whose literals another one may oppose: 1 for each. Of a result: 1 for one that is not stated
 // yet; the result is marked, its statement ticked off, then all marks are wiped, which tells whether a literal was left unstated. The literal of slot s
 // has the flag s - 2.
-ghost use Rattle.std.specs.Prelude.{◌≡◌, eqb, length, get_or, set, neg_ℤ};
+ghost use Rattle.std.specs.Prelude.{◌≡◌, eqb, get_or, set, neg_ℤ};
 ghost use Rattle.bits.specs.Flags.{flags};
 ghost use Rattle.formula.specs.Decode.{clause_at};
 ghost use Rattle.inference.specs.Clause.{words_of};
@@ -9,7 +9,6 @@ ghost use Rattle.inference.specs.Words.{without, InRange};
 ghost use Rattle.inference.specs.Marks.{slot_at, marks_in, any_marked, Marked, Ticked, Wiped, alone};
 
 use crate::clause::{ClauseAt, words_from};
-use crate::words::same;
 use bits::{is_set, put};
 use formula::clear::clear_tail;
 use formula::word::Word;
@@ -18,6 +17,7 @@ use formula::word::Word;
 pub const MARK_BYTES: usize = 256;
 
 // Whether the opposite of a word is marked.
+#[tactic(auto, using(crate::proofs::Signed::opposite_low, crate::proofs::Signed::opposite_high, crate::proofs::Signed::read_opposite, crate::specs::Marks::Laws::mark_read))]
 pub fn opposite_marked(word: i32, marks: &[u8; MARK_BYTES]) -> bool
     requires { InRange word }
     ensures { result ≡ eqb (get_or (marks_in marks.now) (slot_at (neg_ℤ word)) 0) 1 }
@@ -26,11 +26,12 @@ pub fn opposite_marked(word: i32, marks: &[u8; MARK_BYTES]) -> bool
 }
 
 // Marks a word, unless it is the one left out; tells whether its opposite is marked.
+#[tactic(auto, using(crate::proofs::Signed::slot_low, crate::proofs::Signed::slot_high))]
 fn mark_word(word: i32, except: i32, marks: &mut [u8; MARK_BYTES]) -> bool
     requires { InRange word }
     ensures { Marked (marks_in marks.old) (without except (alone word)) result (marks_in marks.new) }
 {
-    if same(except, word) {
+    if except == word {
         return false;
     }
     let met = opposite_marked(word, marks);
@@ -54,6 +55,7 @@ pub fn mark_clause(clause: ClauseAt, except: i32, marks: &mut [u8; MARK_BYTES]) 
 }
 
 // Takes away a word's mark.
+#[tactic(auto, using(crate::proofs::Signed::slot_low, crate::proofs::Signed::slot_high, crate::proofs::Signed::read_slot, crate::specs::Marks::Laws::mark_stored))]
 pub fn unmark(word: i32, marks: &mut [u8; MARK_BYTES])
     requires { InRange word }
     ensures { marks_in marks.new ≡ set (marks_in marks.old) (slot_at word) 0 }
@@ -62,6 +64,7 @@ pub fn unmark(word: i32, marks: &mut [u8; MARK_BYTES])
 }
 
 // Ticks off a word that is marked: its mark is cleared. Or tells that it is not marked.
+#[tactic(auto, using(crate::proofs::Signed::slot_high))]
 fn tick_word(word: i32, marks: &mut [u8; MARK_BYTES]) -> bool
     ensures { Ticked (marks_in marks.old) (alone word) result (marks_in marks.new) }
 {
@@ -93,6 +96,7 @@ pub fn tick(words: &[i32], from: usize, marks: &mut [u8; MARK_BYTES]) -> bool
 }
 
 // Whether a flag of the bytes is 1. It goes by whole bytes and leaves none out, which compiles to a few wide reads.
+#[tactic(auto, using(crate::specs::Marks::Laws::any_from, crate::specs::Marks::Laws::any_past))]
 fn any_marked(bytes: &[u8]) -> bool
     ensures { result ≡ any_marked (flags bytes.now) }
 {

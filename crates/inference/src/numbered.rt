@@ -22,6 +22,7 @@ pub fn antecedent_of(word: i32, last: usize) -> Option<ClauseNumber>
 }
 
 // The table that holds a numbered clause.
+#[tactic(auto, using(crate::specs::Numbered::Laws::input_or_step))]
 pub fn table_of<'a>(
     clauses: &'a [i32],
     steps: &'a [i32],
@@ -37,6 +38,7 @@ pub fn table_of<'a>(
 }
 
 // The place of a numbered clause's first word in its table: an input clause's offset; for a step where its statement begins.
+#[tactic(auto, using(crate::specs::Numbered::Laws::input_or_step))]
 pub fn place_of(steps: &[i32], offsets: &[u32], inputs: usize, number: ClauseNumber) -> usize
     requires number_positive { 1 ≤ number.0 }
     requires number_has_offset { number.0 ≤ length offsets.now }
@@ -67,6 +69,7 @@ impl<'a> Known<'a> {
     ghost use Rattle.inference.specs.Known.{known_in, words_if};
 
     // A numbered clause.
+    #[tactic(auto, using(crate::specs::Numbered::Laws::stored_by_number))]
     fn clause_of(self, number: ClauseNumber) -> ClauseAt<'a>
         requires number_positive { 1 ≤ number.0 }
         requires number_in_count { number.0 ≤ self.count }
@@ -79,6 +82,7 @@ impl<'a> Known<'a> {
     }
 
     // The clause whose number a word is, if it is one's.
+    #[tactic(auto, using(crate::specs::Numbered::Laws::number_antecedent, crate::specs::Numbered::Laws::number_no_antecedent))]
     pub fn find(self, word: i32) -> Option<ClauseAt<'a>>
         ensures { words_if result ≡ antecedent (known_in self.entry) word }
     {
@@ -89,33 +93,32 @@ impl<'a> Known<'a> {
     }
 }
 
-// The first empty clause, 0 for none, once one more clause is numbered: that one, if it is empty, and so ends the proof, and none was before.
-pub fn empty_after(empty: usize, ends: bool, number: usize) -> usize
+// The first empty clause once one more clause is numbered: that one, if it is empty, and so ends the proof, and none was before.
+pub fn empty_after(
+    empty: Option<ClauseNumber>,
+    ends: bool,
+    number: ClauseNumber,
+) -> Option<ClauseNumber>
     ensures { result ≡ empty_after empty ends number }
 {
-    if 0 < empty {
-        return empty;
-    }
-    if ends {
-        return number;
-    }
-    0
+    empty.or(ends.then_some(number))
 }
 
-// The offsets of the input clauses; answers which is the first empty one, 0 for none. One pass over the clause words.
-pub fn fill_offsets(clauses: &[i32], offsets: &mut [u32]) -> usize
+// The offsets of the input clauses; answers which is the first empty one. One pass over the clause words.
+#[tactic(auto, using(formula::specs::Decode::Places::clause_within))]
+pub fn fill_offsets(clauses: &[i32], offsets: &mut [u32]) -> Option<ClauseNumber>
     requires table_in_bound { length clauses.now ≤ 65536 }
     requires inputs_have_room { length (clauses_of clauses.now) ≤ length offsets.old }
     ensures { OffsetsFilled clauses.now result offsets.new }
 {
     let mut n = 0;
-    let mut empty = 0;
+    let mut empty = None;
     let mut from = 0;
     // Each turn goes on by a whole clause, however long: no `for` counts the place.
     while from < clauses.len() {
+        empty = empty_after(empty, is_empty(clauses, from), ClauseNumber::at(n));
         offsets[n] = from as u32;
         n += 1;
-        empty = empty_after(empty, is_empty(clauses, from), n);
         from = end_of(clauses, from) + 1;
     }
     empty

@@ -1,6 +1,6 @@
 // The result of a step and its statement: marks of the result, ticks of what is stated, and the judgement. A step costs time
 // linear in its clauses and its statement.
-ghost use Rattle.std.specs.Prelude.{◌≡◌, ◌≤◌, length, pos, neg_ℤ};
+ghost use Rattle.std.specs.Prelude.{◌≡◌, ◌≤◌, pos, neg_ℤ};
 ghost use Rattle.inference.specs.Steps.{resolvent, reduct, judge_statement};
 ghost use Rattle.formula.specs.Decode.{clause_at};
 ghost use Rattle.inference.specs.Marks.{marks_in, clean, ticks, tick_all, any_marked, Marked};

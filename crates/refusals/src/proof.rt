@@ -5,18 +5,26 @@ use caselist::words::Tables;
 use checker::proof::{check_proof, check_proof_small};
 use checker::verdict::Verdict;
 
-// Prints what a check answers in so many bytes of scratch and so many starts.
-fn judged<F: FnOnce(&mut [u8], &mut [u32]) -> Verdict>(
+// Prints what an entry answers of a proof in so many bytes of scratch and so many starts.
+fn judged<'a, F: FnOnce(&[i32], &'a [i32], &'a [i32], &mut [u8], &mut [u32]) -> Verdict>(
     rt: &(impl Print + AllocGlobal),
+    tables: &'a Tables,
+    steps: &'a [i32],
     sizes: (usize, usize),
-    check: F,
+    entry: F,
 ) -> Result<()>
-    requires { F.IsAlwaysCallable check }
+    requires { F.IsAlwaysCallable entry }
 {
     let (scratch, starts) = sizes;
     let mut scratch = vec![in rt.alloc(); 7u8; scratch]?;
     let mut starts = vec![in rt.alloc(); 7u32; starts]?;
-    match check(&mut scratch, &mut starts) {
+    match entry(
+        &tables.prefix,
+        &tables.clauses,
+        steps,
+        &mut scratch,
+        &mut starts,
+    ) {
         Ok(accepted) => print!(rt; "accepted {} {}", accepted.empty.0, accepted.steps)?,
         Err(r) => print!(rt; "{}", Refused(r))?,
     }
@@ -34,9 +42,7 @@ pub fn large(
     sizes: (usize, usize),
 ) -> Result<()> {
     print!(rt; "proof, {name}: ")?;
-    judged(rt, sizes, |scratch, starts| {
-        check_proof(&tables.prefix, &tables.clauses, steps, scratch, starts)
-    })
+    judged(rt, tables, steps, sizes, check_proof)
 }
 
 // A proof by the entry that asks for 640 bytes; how many it is lent is told.
@@ -48,7 +54,5 @@ pub fn small(
     sizes: (usize, usize),
 ) -> Result<()> {
     print!(rt; "small proof, scratch {}, {name}: ", sizes.0)?;
-    judged(rt, sizes, |scratch, starts| {
-        check_proof_small(&tables.prefix, &tables.clauses, steps, scratch, starts)
-    })
+    judged(rt, tables, steps, sizes, check_proof_small)
 }

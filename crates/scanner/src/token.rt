@@ -195,7 +195,8 @@ fn skip_blanks(text: &[u8], from: Position) -> Position
 }
 
 // The first token from a position on, with its own and the one from which to go on. The position is handed over in parts, which stay in
-// registers from token to token.
+// registers from token to token. Text and position are no struct of the callers: what is found and what is refused holds a position alone, so that one would be
+// put together and taken apart at each token.
 pub fn next_token(text: &[u8], place: usize, line: usize, column: usize) -> Next
     requires { PositionIn text.now (position «place» «line» «column») × (length text.now ≤ text_bound) }
     ensures { result ≡ next_of text.now (tokens_at text.now «place») }

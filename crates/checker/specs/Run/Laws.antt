@@ -1,7 +1,9 @@
 -- A right step taken by the run, a wrong one, and one that comes after an empty clause; the run under way. Assumes nothing.
-use Rattle.std.specs.Prelude.{Result, Err}
+use Rattle.std.specs.Prelude.{Result, Err, Option as Optional, None, is_some}
+use Rattle.formula.specs.declared.literal.Variable.{Variable}
+use Rattle.formula.specs.declared.literal.ClauseNumber.{ClauseNumber}
 use Rattle.checker.specs.declared.step.StepTaken.{StepTaken}
-use Rattle.std.specs.Prelude.{ℕ, zero, suc, ◌+◌, ◌-◌, ◌≤◌, ◌<◌, ◌≡◌, refl, Bool, true, false, ◌&&◌, ltb, length, get_or, set, ℤ, pos, nat_abs}
+use Rattle.std.specs.Prelude.{ℕ, zero, suc, ◌+◌, ◌-◌, ◌≤◌, ◌<◌, ◌≡◌, refl, Bool, true, false, ◌&&◌, length, get_or, set, ℤ, pos, nat_abs}
 use Rattle.std.proofs.Common.{ap, ap₂, sym, ◌∙◌, add-one, length-set, drop-cons, drop-drop, get_or-set_same, get_or-set_other, Ok}
 use Rattle.std.proofs.Math.Option.{none, some}
 use mathlib.Core.List.{List, [], ◌∷◌, ◌++◌}
@@ -55,9 +57,9 @@ pub record Taken (S : Scope) (room : ℕ) (known : List Words) (steps : Words) (
   pub onward : at < next
   pub ends_is : ends ≡ is_empty (stated_by taken)
 
-module _ (S : Scope) (room : ℕ) (known : List Words) (steps : Words) (at kept : ℕ) (within : at < length steps) where
+module _ (S : Scope) (room : ℕ) (known : List Words) (steps : Words) (at : ℕ) (kept : Optional Variable) (within : at < length steps) where
   pub right_taken :
-      (next row : ℕ) (ends : Bool) → Ok (record { next = next; kept = row; empty = ends }) ≡ step_answer at kept (judge_read S room known (read_step (family_of steps) (drop at steps)))
+      (next : ℕ) (row : Optional Variable) (ends : Bool) → Ok (record { next = next; kept = row; empty = ends }) ≡ step_answer at kept (judge_read S room known (read_step (family_of steps) (drop at steps)))
       → Taken S room known steps at next ends
   right_taken next row ends h = go (judge_read S room known (read_step (family_of steps) (drop at steps))) refl h
     where
@@ -138,11 +140,11 @@ module _ (strict : Bool) (prefix clauses steps : List ℤ) (inputs : ℕ) (offse
       rw taken_stored (lawful_all_words InRange F (stored inputs clauses steps offsets numbered) all taken.taken l)
 
   pub taken_empty :
-      (empty : ℕ) → empty ≡ empty_number (first_empty 1 (stored inputs clauses steps offsets numbered))
-      → empty_after empty ends (numbered + 1) ≡ empty_number (first_empty 1 (stored inputs clauses steps (set offsets numbered at) (numbered + 1)))
-  taken_empty empty e =
+      (empty : Optional ClauseNumber) → empty ≡ empty_number (first_empty 1 (stored inputs clauses steps offsets numbered)) → (number : ClauseNumber) → number.0 ≡ numbered + 1
+      → empty_after empty ends number ≡ empty_number (first_empty 1 (stored inputs clauses steps (set offsets numbered at) (numbered + 1)))
+  taken_empty empty e number n =
       rw (taken_stored, e, taken.ends_is)
-      (sym (empty_after_lem (stored inputs clauses steps offsets numbered) (stated_by taken.taken) (numbered + 1) (let l = stored_length inputs clauses steps offsets numbered in omega arith)))
+      (sym (empty_after_lem (stored inputs clauses steps offsets numbered) (stated_by taken.taken) number (let l = stored_length inputs clauses steps offsets numbered in omega arith)))
 
   pub taken_reached : at ≡ step_place steps (numbered - inputs) → next ≡ step_place steps (numbered + 1 - inputs)
   taken_reached e =
@@ -164,7 +166,7 @@ module _ (strict : Bool) (prefix clauses steps : List ℤ) (inputs : ℕ) (offse
           (record { place = reached; step = taken.taken; was_read = taken.was_read; states = sym taken.statement })
 
 -- The run under way: what is left to run comes to the same as the whole; `room` is the length of the offsets.
-pub record Going (strict : Bool) (prefix clauses steps : List ℤ) (inputs room : ℕ) (scratch offsets : List ℕ) (numbered at kept empty : ℕ) : Type 0 where
+pub record Going (strict : Bool) (prefix clauses steps : List ℤ) (inputs room : ℕ) (scratch offsets : List ℕ) (numbered at : ℕ) (kept : Optional Variable) (empty : Optional ClauseNumber) : Type 0 where
   pub whole :
       run (ending strict plain_rules) (family_of steps) (scope_of prefix clauses) room (clauses_of clauses) zero steps
       ≡ run (ending strict plain_rules) (family_of steps) (scope_of prefix clauses) room (stored inputs clauses steps offsets numbered) zero (drop at steps)
@@ -179,9 +181,9 @@ pub record Going (strict : Bool) (prefix clauses steps : List ℤ) (inputs room 
 
 module _ (strict : Bool) (prefix clauses steps : List ℤ) (inputs : ℕ) (scratch offsets : List ℕ) where
   pub going_begins :
-      (first : ℕ) → Ready prefix scratch → Admitted prefix clauses → first ≡ empty_number (first_empty 1 (clauses_of clauses)) → inputs ≤ length offsets
+      (first : Optional ClauseNumber) → Ready prefix scratch → Admitted prefix clauses → first ≡ empty_number (first_empty 1 (clauses_of clauses)) → inputs ≤ length offsets
       → stored inputs clauses steps offsets inputs ≡ clauses_of clauses
-      → Going strict prefix clauses steps inputs (length offsets) scratch offsets inputs 0 0 first
+      → Going strict prefix clauses steps inputs (length offsets) scratch offsets inputs 0 None first
   unfolding step_place
   going_begins first r a f h e =
       record {
@@ -196,15 +198,15 @@ module _ (strict : Bool) (prefix clauses steps : List ℤ) (inputs : ℕ) (scrat
         reached = let n : inputs - inputs ≡ 0 = omega arith in rw n;
       }
 
-module _ {strict : Bool} {prefix clauses steps : List ℤ} {inputs room : ℕ} {scratch offsets : List ℕ} {numbered at kept empty : ℕ}
+module _ {strict : Bool} {prefix clauses steps : List ℤ} {inputs room : ℕ} {scratch offsets : List ℕ} {numbered at : ℕ} {kept : Optional Variable} {empty : Optional ClauseNumber}
     (g : Going strict prefix clauses steps inputs room scratch offsets numbered at kept empty) where
   -- What the code tests: whether some clause is empty.
-  some_is : (b : Bool) → (strict && ltb 0 empty) ≡ b → (strict && some_empty (stored inputs clauses steps offsets numbered)) ≡ b
-  some_is b h = ap (λ (t : Bool). strict && t) (sym (ap (ltb 0) g.first_empty_lem ∙ some_number (stored inputs clauses steps offsets numbered))) ∙ h
+  some_is : (b : Bool) → (strict && is_some empty) ≡ b → (strict && some_empty (stored inputs clauses steps offsets numbered)) ≡ b
+  some_is b h = ap (λ (t : Bool). strict && t) (sym (ap is_some g.first_empty_lem ∙ some_number (stored inputs clauses steps offsets numbered))) ∙ h
 
   -- What a right step says, and that its offset has room.
   module _
-      (within : at < length steps) {family : Family} (same : family ≡ family_of steps) {next row : ℕ} {ends : Bool}
+      (within : at < length steps) {family : Family} (same : family ≡ family_of steps) {next : ℕ} {row : Optional Variable} {ends : Bool}
       (told : Ok (record { next = next; kept = row; empty = ends }) ≡ step_answer at kept (judge_read (scope_of prefix clauses) (length offsets) (stored inputs clauses steps offsets numbered) (read_step family (drop at steps)))) where
     pub going_takes : Taken (scope_of prefix clauses) (length offsets) (stored inputs clauses steps offsets numbered) steps at next ends
     going_takes = right_taken (scope_of prefix clauses) (length offsets) (stored inputs clauses steps offsets numbered) steps at kept within next row ends (rw same at told)
@@ -214,11 +216,11 @@ module _ {strict : Bool} {prefix clauses steps : List ℤ} {inputs room : ℕ} {
 
   -- A right step's offset is kept.
   pub going_turns :
-      (next row : ℕ) (ends : Bool) (scratch' : List ℕ) → (strict && ltb 0 empty) ≡ false
+      (next : ℕ) (row : Optional Variable) (ends : Bool) (number : ClauseNumber) (scratch' : List ℕ) → number.0 ≡ numbered + 1 → (strict && is_some empty) ≡ false
       → Taken (scope_of prefix clauses) (length offsets) (stored inputs clauses steps offsets numbered) steps at next ends
       → KeptReady prefix clauses row scratch'
-      → Going strict prefix clauses steps inputs room scratch' (set offsets numbered at) (numbered + 1) next row (empty_after empty ends (numbered + 1))
-  going_turns next row ends scratch' may t r =
+      → Going strict prefix clauses steps inputs room scratch' (set offsets numbered at) (numbered + 1) next row (empty_after empty ends number)
+  going_turns next row ends number scratch' told may t r =
       let f = t.fits in
       let n = stored_length inputs clauses steps offsets numbered in
       record {
@@ -227,7 +229,7 @@ module _ {strict : Bool} {prefix clauses steps : List ℤ} {inputs room : ℕ} {
         room_is = length-set offsets numbered at ∙ g.room_is;
         past = let p = g.past in omega arith;
         fits = let e = g.room_is in omega arith;
-        first_empty_lem = taken_empty strict prefix clauses steps inputs offsets numbered at next ends t g.past empty g.first_empty_lem;
+        first_empty_lem = taken_empty strict prefix clauses steps inputs offsets numbered at next ends t g.past empty g.first_empty_lem number told;
         in_range_lem = taken_in_range strict prefix clauses steps inputs offsets numbered at next ends t g.past g.in_range_lem;
         placed = taken_placed strict prefix clauses steps inputs offsets numbered at next ends t g.past g.reached g.placed;
         reached = taken_reached strict prefix clauses steps inputs offsets numbered at next ends t g.past g.reached;
@@ -251,7 +253,7 @@ module _ {strict : Bool} {prefix clauses steps : List ℤ} {inputs room : ℕ} {
       }
 
   pub going_refused :
-      (r : Reason) (scratch' : List ℕ) → at < length steps → (strict && ltb 0 empty) ≡ false
+      (r : Reason) (scratch' : List ℕ) → at < length steps → (strict && is_some empty) ≡ false
       → Err r ≡ step_answer at kept (judge_read (scope_of prefix clauses) (length offsets) (stored inputs clauses steps offsets numbered) (read_step (family_of steps) (drop at steps)))
       → Ready prefix scratch'
       → RunDone strict prefix clauses steps inputs (Err (refusal r (numbered + 1))) scratch' offsets
@@ -260,7 +262,7 @@ module _ {strict : Bool} {prefix clauses steps : List ℤ} {inputs room : ℕ} {
 
   -- One that comes after an empty clause.
   pub going_afterwards :
-      at < length steps → (strict && ltb 0 empty) ≡ true
+      at < length steps → (strict && is_some empty) ≡ true
       → RunDone strict prefix clauses steps inputs (Err (refusal Afterword (numbered + 1))) scratch offsets
   going_afterwards h e =
       going_stops Afterword scratch (after_run (scope_of prefix clauses) (length offsets) (stored inputs clauses steps offsets numbered) steps at kept h strict (some_is true e)) g.ready.ready

@@ -1,11 +1,12 @@
 -- The parts of a step's check make up the judgement of inference/specs/Steps.antt, and each leaves the scratch ready. Assumes nothing.
-use Rattle.std.specs.Prelude.{Option as Optional}
-use Rattle.std.specs.Prelude.{Result, Ok, Err, ⊤}
+use Rattle.std.specs.Prelude.{Option as Optional, Some, None, Result, Ok, Err, ⊤}
 use Rattle.formula.specs.declared.literal.Variable.{Variable}
+use Rattle.formula.specs.Decode.{clause_at}
 use Rattle.formula.specs.Refusal.{passes}
-use Rattle.std.specs.Prelude.{ℕ, zero, suc, ◌+◌, ◌≤◌, ◌<◌, ◌≡◌, Bool, ◌&&◌, length, replicate, ℤ, pos, negsuc, neg_ℤ, nat_abs}
+use Rattle.formula.specs.Refusal.Laws.{passes_none, passes_some}
+use Rattle.std.specs.Prelude.{ℕ, zero, suc, ◌+◌, ◌≤◌, ◌<◌, ◌≡◌, Bool, ◌&&◌, leb, length, replicate, ℤ, pos, negsuc, neg_ℤ, nat_abs}
 use Rattle.std.proofs.Math.Path.{refl, ap, sym}
-use Rattle.std.proofs.Common.{◌∙◌, arith, lt-ltb, le-ltb, length-append, length-drop, take-append-drop, zero-add, take_at, drop_at, drop-drop, take-take, length-take-le}
+use Rattle.std.proofs.Common.{◌∙◌, arith, lt-ltb, le-ltb, le-leb, leb-true, length-append, length-drop, take-append-drop, zero-add, take_at, drop_at, drop-drop, take-take, length-take-le}
 use Rattle.std.proofs.Math.Bool.{true, false}
 use Rattle.std.proofs.Math.Option.{Option, none, some}
 use mathlib.Core.List.{List, [], ◌∷◌, ◌++◌}
@@ -17,22 +18,30 @@ use Rattle.qbf.specs.Formula.{existential}
 use Rattle.bits.specs.Flags.{flags}
 use Rattle.dependency.specs.Scratch.{row_at, later, small_bound, row_in}
 use Rattle.formula.specs.Prefix.{prefix_of, quantifies}
-use Rattle.formula.specs.Bounds.{variable_fit}
+use Rattle.formula.specs.Bounds.{variable_bound, in_range, variable_fit}
+use Rattle.formula.specs.Word.{word_of, variable_of}
+use Rattle.formula.specs.Word.Laws.{variable_magnitude}
+use Rattle.qbf.specs.Connectives.{and_both}
 use Rattle.formula.specs.Tables.{Admitted}
 use Rattle.formula.specs.declared.refusal.Reason.{Reason}
 use Rattle.formula.specs.declared.refusal.Reason.TheVariants.{WrongPivot, BrokenStep, NoRoom}
 use Rattle.inference.specs.Words.{Words, holds}
 use Rattle.inference.specs.declared.read.Family.{Family}
-use Rattle.inference.specs.Steps.{Scope, Step, resolution, stated_by, size_of, antecedent, resolvent, positive_existential, unresolvable, demand, judge_resolution, judge, judge_read}
+use Rattle.inference.specs.Steps.{Scope, Step, resolution, stated_by, size_of, antecedent, resolvent, positive_existential, unresolvable, demand, judge_resolution, judge, judge_read, read_step}
 use Rattle.inference.specs.Scope.{mergeable_in, scope_of}
 use Rattle.inference.specs.Empty.{is_empty}
-use Rattle.inference.specs.Read.{fields_of}
+use Rattle.inference.specs.Numbered.{stored}
+use Rattle.inference.specs.Numbered.Laws.{stored_length}
+use Rattle.inference.specs.declared.read.StepRead.{StepRead}
+use Rattle.inference.specs.Read.{fields_of, reading_of, step_of}
+use Rattle.inference.specs.Read.Laws.{reading_broken, reading_step, fields_next, stated_step, step_whole}
+use Rattle.checker.specs.declared.step.StepTaken.{StepTaken}
 use Rattle.inference.specs.Marks.{marks_in}
 use Rattle.inference.specs.Marks.Laws.{marks_cleared}
 use Rattle.inference.specs.Existentials.{existentials_of}
-use Rattle.inference.specs.Existentials.Laws.{existential_fit}
+use Rattle.inference.specs.Existentials.Laws.{existential_fit, variable_ranged}
 use Rattle.inference.specs.Result.{result_reason, JudgedClean}
-use Rattle.checker.specs.Step.{existentials_in, Clean, Ready, RowReady, KeptReady, kept_after, kept_if, resolving_reason, resolution_reason, Answers, JudgedReady, step_answer}
+use Rattle.checker.specs.Step.{existentials_in, Clean, Ready, RowReady, literal_variable, KeptReady, kept_after, kept_if, resolving_reason, resolution_reason, Answers, JudgedReady, step_answer}
 
 -- A part in the middle, cut from either end first.
 pub drop_take : {A : Type 0} (n k : ℕ) (l : List A) → drop n (take (n + k) l) ≡ take k (drop n l)
@@ -50,6 +59,10 @@ module _ (scratch bytes : List ℕ) (size : length bytes ≡ row_at) where
         marks = ap marks_in (take_at bytes (drop row_at scratch) row_at size) ∙ h.wiped;
         kept = ap (take 256) (drop_at bytes (drop row_at scratch) row_at size);
       }
+
+-- Where nothing was marked.
+pub refused_clean : (scratch : List ℕ) {reason : Reason} → Clean scratch → Answers (some reason) (Err reason) scratch scratch
+refused_clean scratch c = record { answer = refl; size = refl; marks = c.marks; kept = refl }
 
 -- The row and the existentials, by the part between the marks and the flags behind.
 module _ (scratch scratch' : List ℕ) (kept : take 256 (drop row_at scratch') ≡ take 256 (drop row_at scratch)) where
@@ -75,25 +88,41 @@ module _ (prefix : List ℤ) (scratch : List ℕ) (ready : Ready prefix scratch)
         existentials = ap flags (existentials_part scratch scratch' h.kept) ∙ ready.existentials;
       }
 
+-- The variable of a word that is a literal, as the code finds it; a word in range is one.
+pub literal_found : (w : ℤ) → variable_fit (in_range (variable_of (word_of w)) variable_bound) (variable_of (word_of w)) ≡ literal_variable w
+literal_found w = go (in_range (nat_abs w) variable_bound) refl (variable_ranged w)
+  where
+    go : (b : Bool) → in_range (nat_abs w) variable_bound ≡ b → in_range (variable_of (word_of w)) variable_bound ≡ in_range (nat_abs w) variable_bound → variable_fit (in_range (variable_of (word_of w)) variable_bound) (variable_of (word_of w)) ≡ literal_variable w
+    go true e r =
+        let within = and_both (leb 1 (nat_abs w)) (leb (nat_abs w) variable_bound) e in
+        ap (λ (n : ℕ). variable_fit (in_range n variable_bound) n) (variable_magnitude w (leb-true (nat_abs w) variable_bound within.1))
+    go false e r = rw (r, e)
+
+pub literal_within : (w : ℤ) → 1 ≤ nat_abs w → nat_abs w ≤ variable_bound → literal_variable w ≡ Some (record { 0 = nat_abs w })
+literal_within w l u = rw (le-leb 1 (nat_abs w) l, le-leb (nat_abs w) variable_bound u)
+
 -- The row that is kept: none at first, the one that was made last; its variable's own; and the same after an answer, which marks before the
 -- row alone.
 module _ (prefix clauses : List ℤ) (scratch : List ℕ) where
-  pub none_kept : Ready prefix scratch → KeptReady prefix clauses 0 scratch
-  none_kept r = record { row = λ h. absurd (omega arith); ready = r }
+  pub none_kept : Ready prefix scratch → KeptReady prefix clauses None scratch
+  none_kept r = record { row = λ v e. let z : ◌≡◌ {A = ℕ} 0 1 = cc in absurd (omega arith); ready = r }
 
-  pub row_kept : {kept : ℕ} → RowReady prefix clauses kept scratch → KeptReady prefix clauses kept scratch
-  row_kept r = record { row = λ h. r.row; ready = r.ready }
+  pub refused_ready : {kept later : Optional Variable} {reason : Reason} → KeptReady prefix clauses kept scratch → JudgedReady prefix clauses later (some reason) (Err reason) scratch
+  refused_ready k = record { answer = refl; ready = none_kept k.ready }
 
-  pub kept_row : {kept u : ℕ} → KeptReady prefix clauses kept scratch → kept ≡ u → 1 ≤ u → RowReady prefix clauses u scratch
-  kept_row k e h = record { row = rw e at (k.row (rw e h)); ready = k.ready }
+  pub row_kept : {u : Variable} → RowReady prefix clauses u.0 scratch → KeptReady prefix clauses (Some u) scratch
+  row_kept {u = u} r = record { row = λ v e. let same : u ≡ v = cc in rw (← same, r.row); ready = r.ready }
 
-  pub kept_again : {kept : ℕ} {reason : Option Reason} {r : Result ⊤ Reason} {scratch' : List ℕ} → KeptReady prefix clauses kept scratch → Answers reason r scratch scratch' → KeptReady prefix clauses (kept_if r kept) scratch'
+  pub kept_row : {kept : Optional Variable} {u : Variable} → KeptReady prefix clauses kept scratch → kept ≡ Some u → RowReady prefix clauses u.0 scratch
+  kept_row {u = u} k e = record { row = k.row u e; ready = k.ready }
+
+  pub kept_again : {kept : Optional Variable} {reason : Option Reason} {r : Result ⊤ Reason} {scratch' : List ℕ} → KeptReady prefix clauses kept scratch → Answers reason r scratch scratch' → KeptReady prefix clauses (kept_if r kept) scratch'
   unfolding row_in
   kept_again {kept = kept} {r = r} {scratch' = scratch'} k h = go r (ready_again prefix scratch k.ready h)
     where
       go : (r : Result ⊤ Reason) → Ready prefix scratch' → KeptReady prefix clauses (kept_if r kept) scratch'
-      go (Ok tt) ready = record { row = λ l. ap {B = List ℕ} (λ (bytes : List ℕ). 0 ∷ flags bytes) (row_part scratch scratch' h.kept) ∙ k.row l; ready = ready }
-      go (Err reason) ready = record { row = λ l. absurd (omega arith); ready = ready }
+      go (Ok tt) ready = record { row = λ v e. ap {B = List ℕ} (λ (bytes : List ℕ). 0 ∷ flags bytes) (row_part scratch scratch' h.kept) ∙ k.row v e; ready = ready }
+      go (Err reason) ready = record { row = λ v e. let z : ◌≡◌ {A = ℕ} 0 1 = cc in absurd (omega arith); ready = ready }
 
 -- The existentials filled in behind the row: the scratch is ready where the marks were 0, and the row stands as it was.
 module _ (prefix : List ℤ) (scratch bytes : List ℕ) (size : length scratch ≡ small_bound) (part : length bytes ≡ length (take 128 (drop later scratch))) where
@@ -151,7 +180,7 @@ module _ (prefix clauses : List ℤ) (a : Admitted prefix clauses) where
 
   -- The answer to a resolution, with the existentials in the scratch.
   pub resolution_answers :
-      (kept : ℕ) (scratch : List ℕ) → KeptReady prefix clauses kept scratch → (known : List Words) (r : Result ⊤ Reason) (scratch' : List ℕ) (f : Family) (i j e : ℤ) (L : Words)
+      (kept : Optional Variable) (scratch : List ℕ) → KeptReady prefix clauses kept scratch → (known : List Words) (r : Result ⊤ Reason) (scratch' : List ℕ) (f : Family) (i j e : ℤ) (L : Words)
       → Answers (resolution_reason f may (existentials_in scratch) e L (antecedent known i) (antecedent known j)) r scratch scratch'
       → JudgedReady prefix clauses kept (judge (scope_of prefix clauses) known (resolution f i j e L)) r scratch'
   resolution_answers kept scratch k known r scratch' f i j e L h =
@@ -161,7 +190,7 @@ module _ (prefix clauses : List ℤ) (a : Admitted prefix clauses) where
       }
 
 -- The step's answer, by what was read and judged.
-module _ (S : Scope) (room : ℕ) (known : List Words) (o : Option Step) (at kept : ℕ) where
+module _ (S : Scope) (room : ℕ) (known : List Words) (o : Option Step) (at : ℕ) (kept : Optional Variable) where
   pub step_broken : o ≡ none → Err BrokenStep ≡ step_answer at kept (judge_read S room known o)
   step_broken e = rw e
 
@@ -173,3 +202,44 @@ module _ (S : Scope) (room : ℕ) (known : List Words) (o : Option Step) (at kep
 
   pub step_wrong : (s : Step) (r : Reason) → o ≡ some s → length known < room → judge S known s ≡ some r → Err r ≡ step_answer at kept (judge_read S room known o)
   step_wrong s r e h j = rw (e, lt-ltb (length known) room h, j)
+
+taken_parts : {n m : ℕ} {k l : Optional Variable} {a b : Bool} → n ≡ m → k ≡ l → a ≡ b → ◌≡◌ {A = Result StepTaken Reason} (Ok (record { next = n; kept = k; empty = a })) (Ok (record { next = m; kept = l; empty = b }))
+taken_parts n k a = rw (n, k, a)
+
+-- The same of the step at a place in the step words, by what the code read there.
+module _ (prefix clauses steps : List ℤ) (offsets : List ℕ) (inputs numbered at : ℕ) (kept : Optional Variable) (family : Family) where
+  abbrev known : List Words
+  known = stored inputs clauses steps offsets numbered
+
+  abbrev found : Option Step
+  found = read_step family (drop at steps)
+
+  abbrev answered : Result StepTaken Reason
+  answered = step_answer at kept (judge_read (scope_of prefix clauses) (length offsets) known found)
+
+  count : length known ≡ numbered
+  count = stored_length inputs clauses steps offsets numbered
+
+  pub told_broken : None ≡ reading_of at found → Err BrokenStep ≡ answered
+  told_broken e = step_broken (scope_of prefix clauses) (length offsets) known found at kept (reading_broken at found e)
+
+  module _ (r : StepRead) (e : Some r ≡ reading_of at found) where
+    pub told_no_room : length offsets ≤ numbered → Err NoRoom ≡ answered
+    told_no_room h = let t = reading_step at found r e in step_no_room (scope_of prefix clauses) (length offsets) known found at kept t.0 t.1 (omega (arith, count, h))
+
+    module _ (within : at < length steps) (room : numbered < length offsets) {judged : Result ⊤ Reason} (h : judged ≡ passes (judge (scope_of prefix clauses) known (step_of r (clause_at steps r.statement)))) where
+      pub told_wrong : {reason : Reason} → judged ≡ Err reason → Err reason ≡ answered
+      told_wrong {reason = reason} was =
+          let t = reading_step at found r e in
+          let whole = step_whole family steps at within t.0 t.1 r t.2 in
+          step_wrong (scope_of prefix clauses) (length offsets) known found at kept t.0 reason t.1 (omega (arith, count, room)) (passes_some _ _ (sym (rw whole at h) ∙ was))
+
+      pub told_right : judged ≡ Ok tt → Ok (record { next = r.next; kept = kept_after r kept; empty = is_empty (clause_at steps r.statement) }) ≡ answered
+      told_right was =
+          let t = reading_step at found r e in
+          let whole = step_whole family steps at within t.0 t.1 r t.2 in
+          let L = clause_at steps r.statement in
+          let next = ap (λ (s : StepRead). s.next) t.2 ∙ fields_next at t.0 in
+          let same = ap (λ (s : StepRead). kept_after s kept) t.2 in
+          let empty : is_empty L ≡ is_empty (stated_by t.0) = ap is_empty (sym (stated_step r L) ∙ ap stated_by whole) in
+          taken_parts next same empty ∙ step_right (scope_of prefix clauses) (length offsets) known found at kept t.0 t.1 (omega (arith, count, room)) (passes_none _ (sym (rw whole at h) ∙ was))

@@ -2,6 +2,8 @@
 -- one or an input clause. Assumes nothing.
 use Rattle.std.specs.Prelude.{ℕ, zero, ◌≡◌, refl, Bool, true, false, List, [], ◌∷◌, ◌++◌, length}
 use Rattle.std.proofs.Common.{ap, ap₂, sym, ◌∙◌, arith, lt-ltb, le-ltb}
+use Rattle.std.specs.Prelude.{Option}
+use Rattle.formula.specs.declared.literal.ClauseNumber.{ClauseNumber}
 use Rattle.inference.specs.declared.read.Family.{Family}
 use Rattle.inference.specs.Rules.{Rules}
 use Rattle.inference.specs.Words.{Words}
@@ -42,7 +44,7 @@ run_conclusion rules family S room known ws final h =
 
 -- The verdict from the first empty clause's number, as the code keeps it.
 pub concluded_run :
-    (rules : Rules) (family : Family) (S : Scope) (room : ℕ) (start : List Words) (ws : Words) (known : List Words) (inputs numbered empty : ℕ) → length start ≡ inputs
+    (rules : Rules) (family : Family) (S : Scope) (room : ℕ) (start : List Words) (ws : Words) (known : List Words) (inputs numbered : ℕ) (empty : Option ClauseNumber) → length start ≡ inputs
     → run rules family S room start zero ws ≡ ended known
     → length known ≡ numbered
     → empty ≡ empty_number (first_empty 1 known)

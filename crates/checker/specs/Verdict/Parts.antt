@@ -1,7 +1,6 @@
 -- The check of a proof from its parts: what was lent, cleared, and the conclusion. Assumes nothing.
 use Rattle.checker.specs.Verdict.{accept}
-use Rattle.std.specs.Prelude.{ℕ, zero, suc, ◌+◌, ◌-◌, ◌≤◌, ◌≡◌, refl, List, length, replicate}
-use Rattle.std.proofs.Common.{ap, arith}
+use Rattle.std.specs.Prelude.{ℕ, ◌-◌, ◌≡◌, refl, List, length, replicate, Option, Some}
 use Rattle.formula.specs.Clear.{clear_from}
 use Rattle.formula.specs.declared.literal.ClauseNumber.{ClauseNumber}
 use Rattle.inference.specs.Empty.{number_found}
@@ -12,6 +11,5 @@ unfolding clear_from
 cleared_whole l = refl
 
 -- The conclusion from the first empty clause's number.
-pub concluded_at : (inputs numbered empty : ℕ) (n : ClauseNumber) → 1 ≤ empty → n.0 ≡ empty - 1 + 1 → accept n (numbered - inputs) ≡ concluded inputs numbered (number_found empty)
-concluded_at inputs numbered zero n h e = absurd (omega arith)
-concluded_at inputs numbered (suc k) n h e = let q : n.0 ≡ suc k = omega arith in ap (λ (m : ℕ). accept (record { 0 = m }) (numbered - inputs)) q
+pub concluded_at : (inputs numbered : ℕ) (empty : Option ClauseNumber) (n : ClauseNumber) → empty ≡ Some n → accept n (numbered - inputs) ≡ concluded inputs numbered (number_found empty)
+concluded_at inputs numbered empty n e = rw e

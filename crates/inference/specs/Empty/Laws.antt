@@ -1,62 +1,65 @@
 -- Laws of empty clauses: one more at the end, or at the front of what is left; the first one's number and back; whether some clause is empty; and
 -- where none but the last may be empty, the first empty one is the last. Assumes nothing.
-use Rattle.std.specs.Prelude.{ℕ, zero, suc, ◌+◌, ◌<◌, ◌≤◌, ◌≡◌, refl, Bool, true, false, ◌&&◌, ◌⊎◌, ltb, length, ℤ}
-use Rattle.std.proofs.Common.{ap, sym, ◌∙◌, inl, inr, arith, lt-ltb}
+use Rattle.std.specs.Prelude.{Option as Optional, Some, None, is_some}
+use Rattle.formula.specs.declared.literal.ClauseNumber.{ClauseNumber}
+use Rattle.std.specs.Prelude.{ℕ, suc, ◌+◌, ◌<◌, ◌≤◌, ◌≡◌, refl, Bool, true, false, ◌&&◌, ◌⊎◌, length, ℤ}
+use Rattle.std.proofs.Common.{ap, sym, ◌∙◌, inl, inr, arith}
 use Rattle.std.proofs.lemmas.Bool.{false≢true}
-use Rattle.std.proofs.Math.Option.{Option, some}
+use Rattle.std.proofs.Math.Option.{Option, none, some}
 use mathlib.Core.List.Memᴰ
 use mathlib.Core.List.{List, [], ◌∷◌, ◌++◌, Memᴰ}
 use Rattle.inference.specs.Words.{Words}
 use Rattle.inference.specs.Empty.{is_empty, some_empty, first_empty, number_if, last_empty, empty_number, number_found, empty_after}
 
 -- One more clause at the end.
-first_after : (n : ℕ) (known : List Words) (C : Words) → empty_number (first_empty (suc n) (known ++ (C ∷ []))) ≡ empty_after (empty_number (first_empty (suc n) known)) (is_empty C) (suc n + length known)
+first_after : (n : ℕ) (known : List Words) (C : Words) → empty_number (first_empty n (known ++ (C ∷ []))) ≡ empty_after (empty_number (first_empty n known)) (is_empty C) (record { 0 = n + length known })
 unfolding first_empty
-first_after n [] [] = let e : suc n ≡ suc n + 0 = omega arith in e
+first_after n [] [] = ap (λ (k : ℕ). empty_number (some k)) (let e : n ≡ n + 0 = omega arith in e)
 first_after n [] (x ∷ C) = refl
 first_after n ([] ∷ known) C = refl
 first_after n ((x ∷ D) ∷ known) C =
-    first_after (suc n) known C ∙ ap (empty_after (empty_number (first_empty (suc (suc n)) known)) (is_empty C)) (let e : suc (suc n) + length known ≡ suc n + suc (length known) = omega arith in e)
+    first_after (suc n) known C
+    ∙ ap (λ (k : ℕ). empty_after (empty_number (first_empty (suc n) known)) (is_empty C) (record { 0 = k })) (let e : suc n + length known ≡ n + suc (length known) = omega arith in e)
 
-pub empty_after_lem : (known : List Words) (C : Words) (numbered : ℕ) → numbered ≡ suc (length known) → empty_number (first_empty 1 (known ++ (C ∷ []))) ≡ empty_after (empty_number (first_empty 1 known)) (is_empty C) numbered
-empty_after_lem known C numbered e = first_after 0 known C ∙ ap (empty_after (empty_number (first_empty 1 known)) (is_empty C)) (let q : 1 + length known ≡ numbered = omega arith in q)
+pub empty_after_lem : (known : List Words) (C : Words) (number : ClauseNumber) → number.0 ≡ suc (length known) → empty_number (first_empty 1 (known ++ (C ∷ []))) ≡ empty_after (empty_number (first_empty 1 known)) (is_empty C) number
+empty_after_lem known C number e =
+    first_after 1 known C
+    ∙ ap (λ (k : ℕ). empty_after (empty_number (first_empty 1 known)) (is_empty C) (record { 0 = k })) (let q : 1 + length known ≡ number.0 = omega arith in q)
 
 -- One clause less at the front of what is left, `e` being what was found before.
-abbrev pub empty_then : ℕ → Option ℕ → ℕ
-empty_then zero o = empty_number o
-empty_then (suc e) o = suc e
+abbrev pub empty_then : Optional ClauseNumber → Option ℕ → Optional ClauseNumber
+empty_then None o = empty_number o
+empty_then (Some e) o = Some e
 
-pub empty_turns : (e n : ℕ) (C : Words) (Cs : List Words) → empty_then (empty_after e (is_empty C) (suc n)) (first_empty (suc (suc n)) Cs) ≡ empty_then e (first_empty (suc n) (C ∷ Cs))
+pub empty_turns : (e : Optional ClauseNumber) (n : ClauseNumber) (C : Words) (Cs : List Words) → empty_then (empty_after e (is_empty C) n) (first_empty (suc n.0) Cs) ≡ empty_then e (first_empty n.0 (C ∷ Cs))
 unfolding first_empty
-empty_turns zero n [] Cs = refl
-empty_turns zero n (x ∷ C) Cs = refl
-empty_turns (suc e) n [] Cs = refl
-empty_turns (suc e) n (x ∷ C) Cs = refl
+empty_turns None n [] Cs = refl
+empty_turns None n (x ∷ C) Cs = refl
+empty_turns (Some e) n [] Cs = refl
+empty_turns (Some e) n (x ∷ C) Cs = refl
 
-pub empty_ends : (e n : ℕ) → empty_then e (first_empty n []) ≡ e
+pub empty_ends : (e : Optional ClauseNumber) (n : ℕ) → empty_then e (first_empty n []) ≡ e
 unfolding first_empty
-empty_ends zero n = refl
-empty_ends (suc e) n = refl
+empty_ends None n = refl
+empty_ends (Some e) n = refl
 
 -- The number and back.
-found_from : (n : ℕ) (known : List Words) → number_found (empty_number (first_empty (suc n) known)) ≡ first_empty (suc n) known
-unfolding first_empty
-found_from n [] = refl
-found_from n ([] ∷ known) = refl
-found_from n ((x ∷ C) ∷ known) = found_from (suc n) known
+found_back : (o : Option ℕ) → number_found (empty_number o) ≡ o
+found_back none = refl
+found_back (some n) = refl
 
 pub number_found_lem : (known : List Words) → number_found (empty_number (first_empty 1 known)) ≡ first_empty 1 known
-number_found_lem known = found_from 0 known
+number_found_lem known = found_back (first_empty 1 known)
 
 -- Whether some clause is empty.
-some_from : (n : ℕ) (known : List Words) → ltb 0 (empty_number (first_empty (suc n) known)) ≡ some_empty known
+some_from : (n : ℕ) (known : List Words) → is_some (empty_number (first_empty n known)) ≡ some_empty known
 unfolding first_empty some_empty
 some_from n [] = refl
-some_from n ([] ∷ known) = lt-ltb 0 (suc n) (omega arith)
+some_from n ([] ∷ known) = refl
 some_from n ((x ∷ C) ∷ known) = some_from (suc n) known
 
-pub some_number : (known : List Words) → ltb 0 (empty_number (first_empty 1 known)) ≡ some_empty known
-some_number known = some_from 0 known
+pub some_number : (known : List Words) → is_some (empty_number (first_empty 1 known)) ≡ some_empty known
+some_number known = some_from 1 known
 
 -- A clause after one that is not empty.
 pub later_empty : (x : ℤ) (C : Words) (known : List Words) → Memᴰ [] ((x ∷ C) ∷ known) → Memᴰ [] known

@@ -167,31 +167,29 @@ module _ (m₀ : List ℕ) (C₀ : Words) (m : List ℕ) (told : Bool) (e : ℤ)
 abbrev pub TicksOn : List ℕ → Words → List ℕ → Words → Type 0
 TicksOn m₀ L₀ m L = (tick_all m L ≡ tick_all m₀ L₀) × (ticks m L ≡ ticks m₀ L₀)
 
-pub tick_turns : (m₀ : List ℕ) (L₀ : Words) (m m' : List ℕ) (x : ℤ) (D L : Words) → D ≡ x ∷ L → Ticked m (alone x) true m' → TicksOn m₀ L₀ m D → TicksOn m₀ L₀ m' L
-unfolding tick_all ticks
-tick_turns m₀ L₀ m m' x D L d k h = go (eqb (get_or m (slot_at x) 0) 1) refl k.told k.left (rw d at h)
-  where
-    go :
-        (b : Bool) → eqb (get_or m (slot_at x) 0) 1 ≡ b
-        → true ≡ (b && true)
-        → m' ≡ tick_if b m (set m (slot_at x) 0)
-        → (tick_if b m (tick_all (set m (slot_at x) 0) L) ≡ tick_all m₀ L₀) × ((b && ticks (set m (slot_at x) 0) L) ≡ ticks m₀ L₀)
-        → TicksOn m₀ L₀ m' L
-    go true e t l q = rw l q
-    go false e t l q = absurd (false≢true (sym t))
+-- After one more word: ticking goes on, or has stopped.
+abbrev After : List ℕ → Words → List ℕ → Words → Bool → Type 0
+After m₀ L₀ m L true = TicksOn m₀ L₀ m L
+After m₀ L₀ m L false = Ticked m₀ L₀ false m
 
-pub tick_stops : (m₀ : List ℕ) (L₀ : Words) (m m' : List ℕ) (x : ℤ) (D L : Words) → D ≡ x ∷ L → Ticked m (alone x) false m' → TicksOn m₀ L₀ m D → Ticked m₀ L₀ false m'
-unfolding tick_all ticks
-tick_stops m₀ L₀ m m' x D L d k h = go (eqb (get_or m (slot_at x) 0) 1) refl k.told k.left (rw d at h)
-  where
-    go :
-        (b : Bool) → eqb (get_or m (slot_at x) 0) 1 ≡ b
-        → false ≡ (b && true)
-        → m' ≡ tick_if b m (set m (slot_at x) 0)
-        → (tick_if b m (tick_all (set m (slot_at x) 0) L) ≡ tick_all m₀ L₀) × ((b && ticks (set m (slot_at x) 0) L) ≡ ticks m₀ L₀)
-        → Ticked m₀ L₀ false m'
-    go true e t l q = absurd (false≢true t)
-    go false e t l q = record { told = q.1; left = l ∙ q.0 }
+module _ (m₀ : List ℕ) (L₀ : Words) (m m' : List ℕ) (x : ℤ) (D L : Words) where
+  tick_on : (t : Bool) → D ≡ x ∷ L → Ticked m (alone x) t m' → TicksOn m₀ L₀ m D → After m₀ L₀ m' L t
+  unfolding tick_all ticks
+  tick_on t d k h = go (eqb (get_or m (slot_at x) 0) 1) k.told k.left (rw d at h)
+    where
+      go :
+          (b : Bool) → t ≡ (b && true)
+          → m' ≡ tick_if b m (set m (slot_at x) 0)
+          → (tick_if b m (tick_all (set m (slot_at x) 0) L) ≡ tick_all m₀ L₀) × ((b && ticks (set m (slot_at x) 0) L) ≡ ticks m₀ L₀)
+          → After m₀ L₀ m' L t
+      go true e l q = rw (e, l) q
+      go false e l q = rw e (record { told = q.1; left = l ∙ q.0 })
+
+  pub tick_turns : D ≡ x ∷ L → Ticked m (alone x) true m' → TicksOn m₀ L₀ m D → TicksOn m₀ L₀ m' L
+  tick_turns d k h = tick_on true d k h
+
+  pub tick_stops : D ≡ x ∷ L → Ticked m (alone x) false m' → TicksOn m₀ L₀ m D → Ticked m₀ L₀ false m'
+  tick_stops d k h = tick_on false d k h
 
 pub tick_ends : (m₀ : List ℕ) (L₀ : Words) (m : List ℕ) (D : Words) → D ≡ [] → TicksOn m₀ L₀ m D → Ticked m₀ L₀ true m
 unfolding tick_all ticks

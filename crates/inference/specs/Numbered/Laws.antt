@@ -24,6 +24,9 @@ use Rattle.inference.specs.Empty.{is_empty, first_empty, empty_number, empty_aft
 use Rattle.inference.specs.Empty.Laws.{empty_then, empty_turns, empty_ends}
 use Rattle.inference.specs.Numbered.{number_of, table_of, place_of, stored_at, stored, OffsetsFilled}
 
+-- A number is an input clause's, or one of a step.
+pub ruleset input_or_step = (le-leb, lt-leb)
+
 -- An element by its place.
 get_append_left : {A : Type 0} (xs ys : List A) (k : ℕ) → k < length xs → get_elem? (xs ++ ys) k ≡ get_elem? xs k
 get_append_left [] ys k h = absurd (not-suc-le-zero h)
@@ -182,6 +185,12 @@ filling_more clauses offsets n from h l =
     let e = ap length (clauses_place clauses from l) in
     omega arith
 
+-- And room for its offset.
+pub filling_room :
+    (clauses : Words) (offsets : List ℕ) (n from room : ℕ) → Filling clauses offsets n from → from < length clauses → length offsets ≡ room → length (clauses_of clauses) ≤ room
+    → n < length offsets
+filling_room clauses offsets n from room f h e r = omega (arith, filling_more clauses offsets n from f h)
+
 pub filling_turns :
     (clauses : Words) (offsets : List ℕ) (n from : ℕ) → Filling clauses offsets n from → from < length clauses → n < length offsets
     → Filling clauses (set offsets n from) (n + 1) (from + length (clause_at clauses from) + 1)
@@ -192,21 +201,21 @@ filling_turns clauses offsets n from h l k steps =
     ∙ ap (λ (Cs : List Words). stored (length (clauses_of clauses)) clauses steps offsets n ++ Cs) (sym (clauses_place clauses from l))
     ∙ h steps)
 
--- The first empty clause so far, 0 for none, and those from the place on.
-abbrev pub Finding : Words → ℕ → ℕ → ℕ → Type 0
+-- The first empty clause so far, and those from the place on.
+abbrev pub Finding : Words → ℕ → Optional ClauseNumber → ℕ → Type 0
 Finding clauses n empty from = empty_then empty (first_empty (suc n) (clauses_of (drop from clauses))) ≡ empty_number (first_empty 1 (clauses_of clauses))
 
 pub finding_turns :
-    (clauses : Words) (n empty from : ℕ) → Finding clauses n empty from → from < length clauses
-    → Finding clauses (n + 1) (empty_after empty (is_empty (clause_at clauses from)) (n + 1)) (from + length (clause_at clauses from) + 1)
-finding_turns clauses n empty from h l =
-    rw (add-one n)
-    (empty_turns empty n (clause_at clauses from) (clauses_of (drop (from + length (clause_at clauses from) + 1) clauses))
-    ∙ ap (λ (Cs : List Words). empty_then empty (first_empty (suc n) Cs)) (sym (clauses_place clauses from l))
-    ∙ h)
+    (clauses : Words) (n : ℕ) (empty : Optional ClauseNumber) (from : ℕ) (number : ClauseNumber) → number.0 ≡ n + 1 → Finding clauses n empty from → from < length clauses
+    → Finding clauses (n + 1) (empty_after empty (is_empty (clause_at clauses from)) number) (from + length (clause_at clauses from) + 1)
+finding_turns clauses n empty from number e h l =
+    rw (← e)
+    (empty_turns empty number (clause_at clauses from) (clauses_of (drop (from + length (clause_at clauses from) + 1) clauses))
+    ∙ ap (λ (Cs : List Words). empty_then empty (first_empty number.0 Cs)) (sym (clauses_place clauses from l))
+    ∙ rw (e, add-one n) h)
 
 pub filling_ends :
-    (clauses : Words) (offsets : List ℕ) (n empty from : ℕ) → Filling clauses offsets n from → Finding clauses n empty from → length clauses ≤ from
+    (clauses : Words) (offsets : List ℕ) (n : ℕ) (empty : Optional ClauseNumber) (from : ℕ) → Filling clauses offsets n from → Finding clauses n empty from → length clauses ≤ from
     → OffsetsFilled clauses empty offsets
 unfolding clauses_of
 filling_ends clauses offsets n empty from h f l =

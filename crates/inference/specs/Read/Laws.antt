@@ -16,7 +16,7 @@ use Rattle.inference.specs.declared.read.StepRead.{StepRead}
 use Rattle.inference.specs.Words.{Words, same_word, is_zero, closes}
 use Rattle.inference.specs.Words.Laws.{same_sound, zero_ends, literal_first}
 use Rattle.inference.specs.Steps.{Step, resolution, reduction, stated_by, size_of, Kind, resolves, reduces, other, kind_of, family_by, family_of, if_closed, read_fields, read_step}
-use Rattle.inference.specs.Read.{kind_read, kind_is, or_kind, any_kind, statement_from, statement_of, close_if, closed_at, fields_of, reading_of, step_by, step_of}
+use Rattle.inference.specs.Read.{kind_read, kind_is, statement_by, or_kind, any_kind, statement_from, statement_of, close_if, closed_at, fields_of, reading_of, step_by, step_of}
 
 kind_read_resolves : (k : Kind) → (Some Resolution) ≡ kind_read k → k ≡ resolves
 kind_read_resolves resolves e = refl
@@ -91,6 +91,16 @@ close_within words from n e = go (drop from words) (length-drop from words) (clo
     go [] l c = absurd (false≢true c)
     go (w ∷ ws) l c = omega (arith, l)
 
+-- So the words of a step go on to its statement.
+pub fields_within :
+    (words : Words) (at from n : ℕ) (k : StepKind) → from ≡ statement_by at k → Some n ≡ closed_at from (drop from words)
+    → (at + 3 ≤ from) × (from < length words)
+fields_within words at from n k f e = (rw f (go k), close_within words from n e)
+  where
+    go : (k : StepKind) → at + 3 ≤ statement_by at k
+    go Resolution = omega arith
+    go Reduction = omega arith
+
 -- Fields by their places.
 resolves_fields : (f : Family) (d : ℤ) (ws : Words) → read_fields f resolves ws ≡ if_closed (closes (drop 3 ws)) (resolution f (get_or ws 0 d) (get_or ws 1 d) (get_or ws 2 d) (first_clause (drop 3 ws)))
 unfolding closes
@@ -138,6 +148,15 @@ module _ (steps : Words) (at : ℕ) where
   abbrev pub Was : Family → Optional StepKind → Type 0
   Was f k = k ≡ kind_is f (get_or steps at (pos 0))
 
+  pub statement_kind : (k : StepKind) → Some k ≡ kind_read (any_kind (get_or steps at (pos 0))) → statement_by at k ≡ statement_of steps at
+  unfolding statement_of
+  statement_kind k h = go (any_kind (get_or steps at (pos 0))) k h
+    where
+      go : (K : Kind) (k : StepKind) → Some k ≡ kind_read K → statement_by at k ≡ statement_from at K
+      go resolves k h = let e : Resolution ≡ k = cc in rw (← e)
+      go reduces k h = let e : Reduction ≡ k = cc in rw (← e)
+      go other k h = let z : ◌≡◌ {A = ℕ} 0 1 = cc in absurd (omega arith)
+
   pub statement_resolves : (f : Family) → Was f (Some Resolution) → statement_of steps at ≡ at + 4
   unfolding statement_of
   statement_resolves f k = rw (any_kind_lem f (get_or steps at (pos 0)) resolves (λ e. let z : ◌≡◌ {A = ℕ} 0 1 = cc in omega arith) (kind_read_resolves (kind_of f (get_or steps at (pos 0))) k))
@@ -150,9 +169,18 @@ module _ (steps : Words) (at : ℕ) where
   unfolding statement_of
   statement_other k l = rw (kind_read_other (kind_of Ordinary (get_or steps at (pos 0))) k, kind_read_other (kind_of LongDistance (get_or steps at (pos 0))) l)
 
+  pub statement_none : None ≡ kind_read (any_kind (get_or steps at (pos 0))) → statement_of steps at ≡ at
+  unfolding statement_of
+  statement_none h = rw (kind_read_other (any_kind (get_or steps at (pos 0))) h)
+
   pub statement_past : length steps ≤ at → statement_of steps at ≡ at
   unfolding statement_of same_word
   statement_past h = rw (get_or-eq_default steps (pos 0) h)
+
+-- A reduction has no second antecedent.
+abbrev pub second_by : StepKind → ℤ → ℤ
+second_by Resolution j = j
+second_by Reduction j = pos 0
 
 module _ (f : Family) (steps : Words) (at : ℕ) (within : at < length steps) where
   field : (n : ℕ) → get_or (drop (suc at) steps) n (pos 0) ≡ get_or steps (at + suc n) (pos 0)
@@ -195,6 +223,16 @@ module _ (f : Family) (steps : Words) (at : ℕ) (within : at < length steps) wh
 
   pub reduction_broken : Was steps at f (Some Reduction) → None ≡ closed_at (at + 3) (drop (at + 3) steps) → None ≡ reading_of at (read_step f (drop at steps))
   reduction_broken k e = rw (read_kind reduces (kind_read_reduces (kind_of f (get_or steps at (pos 0))) k), close_none (at + 3) (drop (at + 3) steps) e)
+
+  pub fields_read :
+      (kind : StepKind) (next : ℕ) → Was steps at f (Some kind) → Some next ≡ closed_at (statement_by at kind) (drop (statement_by at kind) steps)
+      → Some (record { kind = kind; family = f; first = get_or steps (at + 1) (pos 0); second = second_by kind (get_or steps (at + 2) (pos 0)); pivot = get_or steps (statement_by at kind - 1) (pos 0); statement = statement_by at kind; next = next }) ≡ reading_of at (read_step f (drop at steps))
+  fields_read Resolution next k e = let p : at + 4 - 1 ≡ at + 3 = omega arith in rw p (resolution_read next k e)
+  fields_read Reduction next k e = let p : at + 3 - 1 ≡ at + 2 = omega arith in rw p (reduction_read next k e)
+
+  pub fields_broken : (kind : StepKind) → Was steps at f (Some kind) → None ≡ closed_at (statement_by at kind) (drop (statement_by at kind) steps) → None ≡ reading_of at (read_step f (drop at steps))
+  fields_broken Resolution k e = resolution_broken k e
+  fields_broken Reduction k e = reduction_broken k e
 
   pub kind_broken : Was steps at f None → None ≡ reading_of at (read_step f (drop at steps))
   kind_broken k = rw (read_kind other (kind_read_other (kind_of f (get_or steps at (pos 0))) k))
@@ -259,18 +297,25 @@ unfolding family_of
 family_first [] h = absurd (not-suc-le-zero h)
 family_first (w ∷ ws) h = refl
 
--- The family that the kind of the first word tells, read as long-distance.
+module _ (steps : Words) (within : 0 < length steps) where
+  pub family_long : (k : StepKind) → Some k ≡ kind_is LongDistance (get_or steps 0 (pos 0)) → LongDistance ≡ family_of steps
+  family_long k h = go (kind_of LongDistance (get_or steps 0 (pos 0))) h ∙ sym (family_first steps within)
+    where
+      go : (K : Kind) → Some k ≡ kind_read K → LongDistance ≡ family_by K
+      go resolves e = refl
+      go reduces e = refl
+      go other e = let z : ◌≡◌ {A = ℕ} 0 1 = cc in absurd (omega arith)
+
+  pub family_ordinary : None ≡ kind_is LongDistance (get_or steps 0 (pos 0)) → Ordinary ≡ family_of steps
+  family_ordinary h = rw (kind_read_other (kind_of LongDistance (get_or steps 0 (pos 0))) h) at (sym (family_first steps within))
+
 abbrev pub family_told : Optional StepKind → Family
 family_told (Some k) = LongDistance
 family_told None = Ordinary
 
 pub family_read : (steps : Words) → 0 < length steps → (o : Optional StepKind) → o ≡ kind_is LongDistance (get_or steps 0 (pos 0)) → family_told o ≡ family_of steps
-family_read steps h o e = rw e (go (kind_of LongDistance (get_or steps 0 (pos 0))) ∙ sym (family_first steps h))
-  where
-    go : (k : Kind) → family_told (kind_read k) ≡ family_by k
-    go resolves = refl
-    go reduces = refl
-    go other = refl
+family_read steps h (Some k) e = family_long steps h k e
+family_read steps h None e = family_ordinary steps h e
 
 pub family_none : (steps : Words) → length steps ≤ 0 → Ordinary ≡ family_of steps
 unfolding family_of

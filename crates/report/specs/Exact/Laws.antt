@@ -1,6 +1,6 @@
 -- Wish 2 from bytes to bytes: within bounds and room the line is an `accepted` line exactly when the files refute, and its four
 -- numbers are theirs; then for the room of 01's programs, where nothing is supposed but that the files are bytes. Assumes nothing.
-use Rattle.checker.specs.Verdict.{Verdict, accept}
+use Rattle.checker.specs.Verdict.{accept}
 use Prim.Native.Nat.{ℕ, suc, ◌+◌, ◌*◌, ◌-◌, ◌≤◌}
 use Rattle.std.specs.Prelude.{◌≡◌, refl, ◌↔◌, ◌⊎◌, List, length, take, get_or}
 use Rattle.std.proofs.Common.{ap, ◌∙◌, inl, inr, arith, le-leb}

@@ -33,9 +33,6 @@ module _ (scratch bytes scratch' : List ℕ) (clean : Clean scratch) (whole : le
   abbrev scratch-marked : List ℕ
   scratch-marked = bytes ++ drop 256 scratch
 
-  marked_size : length scratch-marked ≡ small_bound
-  marked_size = same_len_mid 0 256 scratch bytes (whole ∙ sym (length-take-le 256 scratch (omega (arith, clean.size)))) ∙ clean.size
-
   told_at :
       (may : ℕ → Bool) (e : ℤ) (C D : Words) (found met : Bool) → AllInRange C → Marked (marks_of scratch) (without e C) met (marks_in bytes)
       → found ≡ crosses_marks may (marks_of scratch-marked) (without (neg_ℤ e) D) → found ≡ crosses may (without e C) (without (neg_ℤ e) D)
@@ -45,15 +42,14 @@ module _ (scratch bytes scratch' : List ℕ) (clean : Clean scratch) (whole : le
       t ∙ ap (λ (k : List ℕ). crosses_marks may k (without (neg_ℤ e) D)) m ∙ shown_crosses may (marks_in bytes) (without e C) (without (neg_ℤ e) D) shown
 
   crossed_at :
-      {found : Bool} (crossed : Bool) (wiped : List ℕ) → length wiped ≡ 256 → marks_in wiped ≡ clean_marks → length scratch' ≡ length scratch-marked
+      {found : Bool} (crossed : Bool) (wiped : List ℕ) → length wiped ≡ 256 → marks_in wiped ≡ clean_marks → length scratch' ≡ small_bound
       → take 512 scratch' ≡ take 512 scratch-marked → found ≡ crossed → Crossed LongDistance crossed found scratch (wiped ++ drop 256 scratch')
   crossed_at crossed wiped full cleared size front told =
-      let size' : length scratch' ≡ small_bound = size ∙ marked_size in
       record {
         told = told;
         clean =
             record {
-              size = same_len_mid 0 256 scratch' wiped (full ∙ sym (length-take-le 256 scratch' (omega (arith, size')))) ∙ size';
+              size = same_len_mid 0 256 scratch' wiped (full ∙ sym (length-take-le 256 scratch' (omega (arith, size)))) ∙ size;
               marks = ap marks_in (take_at wiped (drop 256 scratch') 256 full) ∙ cleared;
             };
         kept =
@@ -68,7 +64,7 @@ returns-in-LongDistance c =
     let e = pos a.pivot.0 in
     let C = words_of a.left in
     let D = words_of a.right in
-    let may = mergeable_in (prefix_of a.prefix.now) a.pivot.0 in
+    let may = mergeable_in (prefix_of a.prefix.words.now) a.pivot.0 in
     let v : to_z w32 a.pivot.0 ≡ e = pivot_word a.pivot.0 c.requires.pivot_in_range in
     let l : c.literal-literal.result.0 ≡ e = c.literal-literal.ensures in
     let n : c.negated-opposite.result.0 ≡ neg_ℤ e = rw l at c.negated-opposite.ensures in
@@ -81,4 +77,4 @@ returns-in-LongDistance c =
     let t : c.unmergeable-crossed.result ≡ crosses_marks may (marks_of (bytes ++ drop 256 a.scratch.now)) (without (neg_ℤ e) D) = rw (n, f) at c.unmergeable-crossed.ensures.0 in
     let told = told_at a.scratch.now bytes c.unmergeable-crossed.new.scratch c.requires.scratch_clean whole may e C D _ _ a.left.in_range h t in
     rw c.in-LongDistance.is
-    (crossed_at a.scratch.now bytes c.unmergeable-crossed.new.scratch c.requires.scratch_clean whole _ c.wipe.new.marks full c.wipe.ensures.left c.unmergeable-crossed.auto.scratch c.unmergeable-crossed.ensures.1 told)
+    (crossed_at a.scratch.now bytes c.unmergeable-crossed.new.scratch c.requires.scratch_clean whole _ c.wipe.new.marks full c.wipe.ensures.left (search rules) c.unmergeable-crossed.ensures.1 told)

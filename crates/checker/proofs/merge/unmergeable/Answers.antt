@@ -37,25 +37,25 @@ module _ (s bytes : List ℕ) (size : length s ≡ small_bound) (part : length b
 
 pub fill_quantified-requires : goal.fill_quantified-requires
 fill_quantified-requires c =
-    record { entries = c.requires.entries; cleared = cleared_part c.args.scratch.now c.clear_tail.new.buffer c.requires.scratch_whole c.clear_tail.auto.buffer c.clear_tail.ensures }
+    cleared_part c.args.scratch.now c.clear_tail.new.buffer (search rules) c.clear_tail.auto.buffer c.clear_tail.ensures
 
 pub returns-then-crosses_by : goal.returns-then-crosses_by
 returns-then-crosses_by c =
     let s = c.args.scratch.now in
     let zeros = c.clear_tail.new.buffer in
-    let t = cleared s zeros c.requires.scratch_whole c.clear_tail.auto.buffer c.clear_tail.ensures in
+    let t = cleared s zeros (search rules) c.clear_tail.auto.buffer c.clear_tail.ensures in
     let bytes = c.fill_quantified.new.bytes in
     let s' = take merge_at t ++ (bytes ++ drop 128 (drop merge_at t)) in
-    let P = prefix_of c.args.prefix.now in
+    let P = prefix_of c.args.prefix.words.now in
     let e = c.args.pivot.0 in
     let D = without c.args.except (words_of c.args.right) in
     let x : to_z w32 (of_z w32 c.args.except) ≡ c.args.except = search rules in
-    let size : length t ≡ small_bound = filled_size s zeros c.requires.scratch_whole c.clear_tail.auto.buffer in
-    let before : take merge_at s' ≡ take merge_at s = filled_before t bytes size c.fill_quantified.auto.bytes ∙ filled_before s zeros c.requires.scratch_whole c.clear_tail.auto.buffer in
+    let size : length t ≡ small_bound = filled_size s zeros (search rules) c.clear_tail.auto.buffer in
+    let before : take merge_at s' ≡ take merge_at s = filled_before t bytes size c.fill_quantified.auto.bytes ∙ filled_before s zeros (search rules) c.clear_tail.auto.buffer in
     let told : c.crosses_by-then-crosses_by.result ≡ crosses_by (marks_of s') (universals_in s') D = rw x at c.crosses_by-then-crosses_by.ensures in
     let fs : universals_in s' ≡ quantified_flags universal (after e P) =
-    ap flags (filled_part t bytes size c.fill_quantified.auto.bytes) ∙ c.fill_quantified.ensures ∙ ap (quantified_flags universal) c.place_behind-behind.ensures in (
-      told ∙ ap₂ (λ (m fs : List ℕ). crosses_by m fs D) (marks_before s s' before) fs ∙ flags_cross P c.requires.entries.ranged e (marks_of s) D (without_in_range c.args.except _ c.args.right.in_range),
+    ap flags (filled_part t bytes size c.fill_quantified.auto.bytes) ∙ c.fill_quantified.ensures ∙ ap (quantified_flags universal) c.right_of-behind.ensures in (
+      told ∙ ap₂ (λ (m fs : List ℕ). crosses_by m fs D) (marks_before s s' before) fs ∙ flags_cross P c.args.prefix.entries.ranged e (marks_of s) D (without_in_range c.args.except _ c.args.right.in_range),
       before,
     )
 
@@ -63,11 +63,11 @@ pub returns : goal.returns
 returns c =
     let s = c.args.scratch.now in
     let zeros = c.clear_tail.new.buffer in
-    let s' = cleared s zeros c.requires.scratch_whole c.clear_tail.auto.buffer c.clear_tail.ensures in
+    let s' = cleared s zeros (search rules) c.clear_tail.auto.buffer c.clear_tail.ensures in
     let D = without c.args.except (words_of c.args.right) in
     let x : to_z w32 (of_z w32 c.args.except) ≡ c.args.except = search rules in
-    let before : take merge_at s' ≡ take merge_at s = filled_before s zeros c.requires.scratch_whole c.clear_tail.auto.buffer in
+    let before : take merge_at s' ≡ take merge_at s = filled_before s zeros (search rules) c.clear_tail.auto.buffer in
     let told : c.crosses_by.result ≡ crosses_by (marks_of s') (universals_in s') D = rw x at c.crosses_by.ensures in
     let same : crosses_by (marks_of s') (universals_in s') D ≡ crosses_by (marks_of s) (flags (replicate 128 0)) D =
-    ap₂ (λ (m fs : List ℕ). crosses_by m fs D) (marks_before s s' before) (ap flags (cleared_part s zeros c.requires.scratch_whole c.clear_tail.auto.buffer c.clear_tail.ensures)) in
-    (sym (none_met (flags (replicate 128 0)) none_flagged (mergeable_in (prefix_of c.args.prefix.now) c.args.pivot.0) (marks_of s) D (sym same ∙ sym told ∙ c.if-crosses_by.false)), before)
+    ap₂ (λ (m fs : List ℕ). crosses_by m fs D) (marks_before s s' before) (ap flags (cleared_part s zeros (search rules) c.clear_tail.auto.buffer c.clear_tail.ensures)) in
+    (sym (none_met (flags (replicate 128 0)) none_flagged (mergeable_in (prefix_of c.args.prefix.words.now) c.args.pivot.0) (marks_of s) D (sym same ∙ sym told ∙ c.if-crosses_by.false)), before)

@@ -5,11 +5,6 @@ use Rattle.formula.proofs.Theorems.Tables.Laws.{answer_admitted, answer_refused}
 use Rattle.checker.specs.Verdict.{verdict_of}
 use Rattle.checker.proofs.proof.judge_proof.Goals as goal
 
-pub judge_sized-requires : goal.judge_sized-requires
-judge_sized-requires c =
-    let a = answer_admitted c.args.prefix.now c.args.clauses.now _ _ (sym c.check_tables_in.ensures ∙ c.in_ok-counts.was) in
-    record { admitted = a.0; inputs_counted = a.2; bytes_enough = c.requires }
-
 pub returns-in_err-counts : goal.returns-in_err-counts
 unfolding verdict_of
 returns-in_err-counts c =

@@ -1,9 +1,8 @@
 -- `judge_sized`: the tests before the steps, in order. Assumes nothing.
-use Rattle.std.specs.Prelude.{◌≡◌, ◌<◌, ◌≤◌, ℕ, List, length, take}
+use Rattle.std.specs.Prelude.{◌<◌, ◌≤◌, length}
 use Rattle.std.proofs.Common.{sym, ◌∙◌, arith, le-leb}
 use Rattle.std.proofs.lemmas.Bool.{lt-leb}
 use native.Mathlib.Numerals.{add-one}
-use lib.Seq.{length-take-le}
 use Rattle.formula.specs.Decode.{clauses_of}
 use Rattle.formula.specs.Bounds.Laws.{within_bound, above_bound}
 use Rattle.formula.specs.Tables.{zeros}
@@ -12,11 +11,8 @@ use Rattle.inference.specs.Steps.{family_of}
 use Rattle.checker.specs.Verdict.{sized_verdict}
 use Rattle.inference.specs.Scope.{scope_of}
 use Rattle.checker.specs.Verdict.Sizes.{conclude_resized}
+use Rattle.std.proofs.Common.{leb-true}
 use Rattle.checker.proofs.proof.judge_sized.Goals as goal
-
--- there is room for the scratch that the steps need
-front : (scratch : List ℕ) (bytes : ℕ) → bytes ≤ length scratch → 640 ≤ bytes → length (take 640 scratch) ≡ 640
-front scratch bytes l s = length-take-le 640 scratch (omega arith)
 
 pub returns-in_default : goal.returns-in_default
 unfolding sized_verdict
@@ -33,20 +29,17 @@ unfolding sized_verdict
 returns-then-offsets-inputs c =
     let a = c.args in
     let w = (within_bound _ _ (sym c.new.ensures ∙ c.in-Some.is)).0 in
-    let few : length a.offsets.now < zeros a.clauses.now = omega (arith, c.if-offsets-inputs.true, c.requires.inputs_counted) in
-    rw (w, le-leb a.bytes (length a.scratch.now) c.if-scratch-bytes.false, lt-leb (zeros a.clauses.now) (length a.offsets.now) few, c.new-then-offsets-inputs.ensures, add-one (length a.offsets.now))
+    let few : length a.offsets.now < zeros a.tables.clauses.now = omega (arith, c.if-offsets-inputs.true, c.requires.inputs_counted) in
+    rw (w, le-leb a.bytes (length a.scratch.now) c.if-scratch-bytes.false, lt-leb (zeros a.tables.clauses.now) (length a.offsets.now) few, c.new-then-offsets-inputs.ensures, add-one (length a.offsets.now))
 
-pub slice_bounds-judge_steps-end-2 : goal.slice_bounds-judge_steps-end-2
-slice_bounds-judge_steps-end-2 c = sym (front c.args.scratch.now c.args.bytes c.if-scratch-bytes.false c.requires.bytes_enough)
-
-pub judge_steps-requires-clause-scratch_whole : goal.judge_steps-requires-clause-scratch_whole
-judge_steps-requires-clause-scratch_whole c = front c.args.scratch.now c.args.bytes c.if-scratch-bytes.false c.requires.bytes_enough
+pub judge_steps-requires-clause-steps_in_bound : goal.judge_steps-requires-clause-steps_in_bound
+judge_steps-requires-clause-steps_in_bound c = leb-true _ _ (within_bound _ _ (sym c.new.ensures ∙ c.in-Some.is)).0
 
 pub returns : goal.returns
 unfolding sized_verdict
 returns c =
     let a = c.args in
     let w = (within_bound _ _ (sym c.new.ensures ∙ c.in-Some.is)).0 in
-    let enough : zeros a.clauses.now ≤ length a.offsets.now = omega (arith, c.if-offsets-inputs.false, c.requires.inputs_counted) in
-    rw (w, le-leb a.bytes (length a.scratch.now) c.if-scratch-bytes.false, le-leb (zeros a.clauses.now) (length a.offsets.now) enough, ← c.requires.inputs_counted, conclude_resized a.bytes plain_rules (family_of a.steps.now) (scope_of a.prefix.now a.clauses.now) (length a.offsets.now) a.inputs (clauses_of a.clauses.now) a.steps.now)
+    let enough : zeros a.tables.clauses.now ≤ length a.offsets.now = omega (arith, c.if-offsets-inputs.false, c.requires.inputs_counted) in
+    rw (w, le-leb a.bytes (length a.scratch.now) c.if-scratch-bytes.false, le-leb (zeros a.tables.clauses.now) (length a.offsets.now) enough, ← c.requires.inputs_counted, conclude_resized a.bytes plain_rules (family_of a.steps.now) (scope_of a.tables.prefix.now a.tables.clauses.now) (length a.offsets.now) a.inputs (clauses_of a.tables.clauses.now) a.steps.now)
     c.judge_steps.ensures

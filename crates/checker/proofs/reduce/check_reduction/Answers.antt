@@ -1,13 +1,12 @@
 -- `check_reduction` finds the antecedent. Assumes nothing.
-use Rattle.std.proofs.Math.Option.{none, some}
-use mathlib.Core.Path.{◌≡◌, refl, sym}
+use Rattle.std.proofs.Math.Option.{none}
+use mathlib.Core.Path.{◌≡◌, sym}
 use mir.Syntax.{w32}
 use mir.Val.{to_z, of_z}
 use borrow.Author.Rules.{rules}
 use Rattle.inference.specs.Steps.{antecedent, judge_reduction}
-use Rattle.inference.specs.Clause.{words_of}
 use Rattle.inference.specs.Known.{known_in}
-use Rattle.checker.specs.Step.Laws.{none_kept}
+use Rattle.checker.specs.Step.Laws.{refused_ready}
 use Rattle.checker.proofs.reduce.check_reduction.Goals as goal
 
 pub returns-in_default : goal.returns-in_default
@@ -15,10 +14,4 @@ unfolding judge_reduction
 returns-in_default c =
     let w : to_z w32 (of_z w32 c.args.step.first) ≡ c.args.step.first = search rules in
     let e : antecedent (known_in c.args.known) c.args.step.first ≡ none = sym (rw (w, c.in_default.is) at c.find.ensures) in
-    rw e (record { answer = refl; ready = none_kept c.args.prefix.now c.args.known.clauses.now c.args.scratch.now c.requires.kept_ready.ready })
-
-pub returns : goal.returns
-returns c =
-    let w : to_z w32 (of_z w32 c.args.step.first) ≡ c.args.step.first = search rules in
-    let d : antecedent (known_in c.args.known) c.args.step.first ≡ some (words_of c.in-Some.clause) = sym (rw (w, c.in-Some.is) at c.find.ensures) in
-    rw d c.reduce_fields.ensures
+    rw e (refused_ready c.args.tables.prefix.now c.args.tables.clauses.now c.args.scratch.now c.requires)

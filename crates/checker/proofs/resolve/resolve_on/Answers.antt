@@ -1,7 +1,5 @@
 -- `resolve_on`: both clauses are searched for the pivot's literals, then the result is judged. Assumes nothing.
 use mathlib.Core.Path.{◌≡◌}
-use borrow.Author.Rules.{rules}
-use lib.ListN.{take}
 use lib.IntN.{pos, neg_ℤ}
 use mir.Syntax.{w32}
 use mir.Val.{to_z, of_z}
@@ -19,26 +17,20 @@ use Rattle.checker.specs.Merge.Laws.{cross_told, crossed_judged}
 use Rattle.inference.proofs.Signed.{pivot_word, opposite_word_fits}
 use Rattle.checker.proofs.resolve.resolve_on.Goals as goal
 
-pub judge_resolvent-requires : goal.judge_resolvent-requires
-judge_resolvent-requires c =
-    let p = c.requires in
-    let marks : c.unwrap-marks.result.now ≡ take 256 c.antecedents_cross-crossed.new.scratch = search rules in
-    record { marks_clean = rw marks c.antecedents_cross-crossed.ensures.clean.marks; pivot_in_range = p.pivot_in_range }
-
 pub returns-then-has_word-2 : goal.returns-then-has_word-2
 returns-then-has_word-2 c =
     let a = c.args in
     let e = pos a.pivot.0 in
     let C = words_of a.left in
     let D = words_of a.right in
-    let may = mergeable_in (prefix_of a.prefix.now) a.pivot.0 in
+    let may = mergeable_in (prefix_of a.prefix.words.now) a.pivot.0 in
     let v : to_z w32 a.pivot.0 ≡ e = pivot_word a.pivot.0 c.requires.pivot_in_range in
     let left : c.has_word.result ≡ holds e C = rw (c.literal-literal.ensures, v) at c.has_word.ensures in
     let n : c.negated-opposite.result.0 ≡ neg_ℤ e = rw c.literal-literal.ensures at c.negated-opposite.ensures in
     let f : to_z w32 (of_z w32 (neg_ℤ e)) ≡ neg_ℤ e = to_z-of_z (opposite_word_fits a.pivot.0 c.requires.pivot_in_range) in
     let right : c.has_word-then-has_word.result ≡ holds (neg_ℤ e) D = rw (n, f) at c.has_word-then-has_word.ensures in
-    let k = cross_told a.family may e C D c.antecedents_cross-crossed.result c.antecedents_cross-crossed.ensures.told in
-    let j : JudgedClean (result_reason (unresolvable a.family may e C D) (resolvent e C D) (clause_at a.steps.now a.statement)) c.judge_resolvent.result (marks_in c.judge_resolvent.new.marks) = rw k at c.judge_resolvent.ensures in
+    let k = cross_told a.step.family may e C D c.antecedents_cross-crossed.result c.antecedents_cross-crossed.ensures.told in
+    let j : JudgedClean (result_reason (unresolvable a.step.family may e C D) (resolvent e C D) (clause_at a.steps.now a.step.statement)) c.judge_resolvent.result (marks_in c.judge_resolvent.new.marks) = rw k at c.judge_resolvent.ensures in
     let whole = clean_whole c.judge_resolvent.new.marks j.wiped in
     rw (← left, c.if-has_word.true, ← right, c.if-has_word-2.true)
     (crossed_judged c.antecedents_cross-crossed.ensures c.requires.scratch_clean.size _ whole j)

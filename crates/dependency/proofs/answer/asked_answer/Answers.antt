@@ -23,7 +23,7 @@ pub returns-in_default : goal.returns-in_default
 returns-in_default c =
     let w = c.args.variable in
     let e : to_z w32 (of_z w32 w) ≡ w = search rules in
-    rw (c.new-other.ensures, not_asked c.args.prefix.now c.requires w (λ v k. c.in_default.not-Positive v ((rw e at c.of.ensures) ∙ k))) refl
+    rw (c.new-other.ensures, not_asked c.args.prefix.words.now c.args.prefix.entries w (λ v k. c.in_default.not-Positive v ((rw e at c.of.ensures) ∙ k))) refl
 
 pub returns-then-not-is_universal : goal.returns-then-not-is_universal
 returns-then-not-is_universal c =
@@ -31,7 +31,7 @@ returns-then-not-is_universal c =
     let w = a.variable in
     let e : to_z w32 (of_z w32 w) ≡ w = search rules in
     let k = sym (rw e at c.of.ensures) ∙ c.in-Positive.is in
-    rw (c.new-other.ensures, asked_variable (prefix_of a.prefix.now) w c.in-Positive.v k ∙ sym c.is_universal.ensures ∙ c.if-not-is_universal.true) refl
+    rw (c.new-other.ensures, asked_variable (prefix_of a.prefix.words.now) w c.in-Positive.v k ∙ sym c.is_universal.ensures ∙ c.if-not-is_universal.true) refl
 
 pub returns-in_err-room_answer : goal.returns-in_err-room_answer
 returns-in_err-room_answer c =
@@ -39,7 +39,7 @@ returns-in_err-room_answer c =
     let w = a.variable in
     let e : to_z w32 (of_z w32 w) ≡ w = search rules in
     let k = sym (rw e at c.of.ensures) ∙ c.in-Positive.is in
-    let q = asked_variable (prefix_of a.prefix.now) w c.in-Positive.v k ∙ sym c.is_universal.ensures ∙ c.if-not-is_universal.false in
+    let q = asked_variable (prefix_of a.prefix.words.now) w c.in-Positive.v k ∙ sym c.is_universal.ensures ∙ c.if-not-is_universal.false in
     let x = err_from_is_err_and c.from_residual.result c.from_residual.ensures.1 in
     rw (x.1, x.2, q, passes_some _ _ (sym c.room_answer.ensures ∙ c.in_err-room_answer.was)) refl
 
@@ -49,5 +49,5 @@ returns c =
     let w = a.variable in
     let e : to_z w32 (of_z w32 w) ≡ w = search rules in
     let k = sym (rw e at c.of.ensures) ∙ c.in-Positive.is in
-    let q = asked_variable (prefix_of a.prefix.now) w c.in-Positive.v k ∙ sym c.is_universal.ensures ∙ c.if-not-is_universal.false in
-    rw (q, passes_none _ (sym c.room_answer.ensures ∙ c.in_ok-room_answer.was)) (ap (λ (v : Variable). Ok v) (own a.prefix.now c.requires w c.in-Positive.v k q))
+    let q = asked_variable (prefix_of a.prefix.words.now) w c.in-Positive.v k ∙ sym c.is_universal.ensures ∙ c.if-not-is_universal.false in
+    rw (q, passes_none _ (sym c.room_answer.ensures ∙ c.in_ok-room_answer.was)) (ap (λ (v : Variable). Ok v) (own a.prefix.words.now a.prefix.entries w c.in-Positive.v k q))

@@ -33,8 +33,8 @@ asked_from ws v (suc n) i e =
 
 pub returns : goal.returns
 returns c =
-    let ws = c.args.prefix.now in
+    let ws = c.args.prefix.words.now in
     let v = c.args.variable.0 in
-    let n = c.entry_count.result in
+    let n = c.count.result in
     any_from_yields_List (universal_at ws v) _ _ c.any.result c.any.ensures.ran (YieldsList-from_range 0 n n (cc) (omega arith)) (λ x b q k. search (rules, tests))
     ∙ asked_from ws v n 0 (omega arith)

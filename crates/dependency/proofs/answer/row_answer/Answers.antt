@@ -9,10 +9,10 @@ use Rattle.formula.proofs.Theorems.Tables.Laws.{answer_admitted, answer_refused,
 use Rattle.dependency.specs.Answer.{row_refusal, asked_refusal, asked_for}
 use Rattle.dependency.proofs.answer.row_answer.Goals as goal
 
-pub asked_answer-requires : goal.asked_answer-requires
-asked_answer-requires c =
+pub invariant_of-entries : goal.invariant_of-entries
+invariant_of-entries c =
     let a = c.args in
-    admitted_entries a.prefix.now a.clauses.now (answer_admitted a.prefix.now a.clauses.now _ _ (sym c.check_tables_in.ensures ∙ c.in_ok-check_tables_in.was)).0
+    record { entries = admitted_entries a.prefix.now a.clauses.now (answer_admitted a.prefix.now a.clauses.now _ _ (sym c.check_tables_in.ensures ∙ c.in_ok-check_tables_in.was)).0 }
 
 pub returns-in_err-check_tables_in : goal.returns-in_err-check_tables_in
 unfolding row_refusal

@@ -29,12 +29,24 @@ allowed bytes prefix clauses variable row scratch v h =
     let w = asked_word prefix (admitted_entries prefix clauses g.admitted) variable g.asked in
     record { none_refused = n.0; grants = g; numbered = ap (λ (u : Variable). u.0) n.1; asked = rw n.1 (sym (asked_variable (prefix_of prefix) variable (record { 0 = nat_abs variable }) w) ∙ g.asked) }
 
+pub invariant_of-tables : goal.invariant_of-tables
+invariant_of-tables c =
+    let a = c.args in
+    let w : to_z w32 (of_z w32 a.variable) ≡ a.variable = search rules in
+    record { admitted = (allowed a.bytes a.prefix.now a.clauses.now a.variable (length a.row.now) (length a.scratch.now) _ (sym (rw w at c.row_answer.ensures) ∙ c.in-Ok.is)).grants.admitted }
+
+pub invariant_of-universal : goal.invariant_of-universal
+invariant_of-universal c =
+    let a = c.args in
+    let w : to_z w32 (of_z w32 a.variable) ≡ a.variable = search rules in
+    record { listed = (allowed a.bytes a.prefix.now a.clauses.now a.variable (length a.row.now) (length a.scratch.now) _ (sym (rw w at c.row_answer.ensures) ∙ c.in-Ok.is)).asked }
+
 pub write_row-requires : goal.write_row-requires
 write_row-requires c =
     let a = c.args in
     let w : to_z w32 (of_z w32 a.variable) ≡ a.variable = search rules in
     let l = allowed a.bytes a.prefix.now a.clauses.now a.variable (length a.row.now) (length a.scratch.now) _ (sym (rw w at c.row_answer.ensures) ∙ c.in-Ok.is) in
-    record { admitted = l.grants.admitted; variable_value = l.asked; in_bounds = l.grants.row_room; small_bound_in_bounds = omega (arith, l.grants.scratch_room, c.row_answer.auto.scratch, c.requires) }
+    record { row_enough = l.grants.row_room; scratch_enough = omega (arith, l.grants.scratch_room, c.row_answer.auto.scratch, c.requires) }
 
 pub returns-in-Err : goal.returns-in-Err
 unfolding clear_from

@@ -11,4 +11,4 @@ returns-then-variable-eq0 c = rw (c.if-variable-eq0.true, row_first c.args.scrat
 pub returns : goal.returns
 returns c =
     let s = c in
-    c.is_set.ensures ∙ ap (λ (n : ℕ). eqb n 1) (sym (row_flag s.args.scratch.now s.args.variable c.if-variable-eq0.false s.requires.variable_bound))
+    c.is_set.ensures ∙ ap (λ (n : ℕ). eqb n 1) (sym (row_flag s.args.scratch.now s.args.variable c.if-variable-eq0.false s.requires.in_bound))

@@ -12,7 +12,7 @@ pub loop-i-preserved : goal.loop-i-preserved
 unfolding open_entries
 loop-i-preserved c =
     let l = c.loop-i in
-    let within : l.i < entry_count c.args.prefix.now = omega arith in (
+    let within : l.i < entry_count c.args.prefix.words.now = omega arith in (
       λ s. rw (c.open_entry.ensures.marks s, add-one) (rw (entries_drop _ _ within) at (l.invariant.0 s)),
       c.open_entry.ensures.none,
     )
@@ -21,6 +21,6 @@ pub returns : goal.returns
 unfolding open_entries
 returns c =
     let l = c.loop-i in
-    let P = prefix_of c.args.prefix.now in
+    let P = prefix_of c.args.prefix.words.now in
     let past : length P ≤ l.i = omega arith in
     record { marks = λ s. rw (drop_of_length-le P past) at (l.invariant.0 s); none = l.invariant.1 }

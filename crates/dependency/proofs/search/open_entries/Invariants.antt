@@ -9,4 +9,4 @@ use Rattle.dependency.proofs.search.open_entries.Given as goal
 
 abbrev pub invariant-loop-i : goal.invariant-loop-i
 invariant-loop-i l =
-    ((s : Bool) → open_entries (drop l.i (prefix_of l.prefix)) (marks_in s l.marks) ≡ open_entries (drop l.from (prefix_of l.prefix)) (marks_in s l.initial.marks)) × NoEntries l.marks
+    ((s : Bool) → open_entries (drop l.i (prefix_of l.prefix.words.now)) (marks_in s l.marks) ≡ open_entries (drop l.from (prefix_of l.prefix.words.now)) (marks_in s l.initial.marks)) × NoEntries l.marks

@@ -20,11 +20,11 @@ use Rattle.dependency.proofs.search.open_entry.Goals as goal
 -- the entry at the place is an existential, whose variable is in range
 opened :
     (c : lts.Past-After-known_told tie.the-claims reads.Pre reads.Post tie.handed_clauses)
-    → entry_at c.args.prefix.now c.args.place ≡ entry c.in-Existential.v.0 existential
+    → entry_at c.args.prefix.words.now c.args.place ≡ entry c.in-Existential.v.0 existential
 opened c = shown_existential _ _ (sym c.entry_at.ensures ∙ c.in-Existential.is)
 
 ranged : (c : lts.Past-After-known_told tie.the-claims reads.Pre reads.Post tie.handed_clauses) → (1 ≤ c.in-Existential.v.0) × (c.in-Existential.v.0 ≤ 1024)
-ranged c = rw (opened c) at (entry_at_ranged c.args.prefix.now c.requires.fact_1 c.args.place c.requires.fact_2)
+ranged c = rw (opened c) at (entry_at_ranged c.args.prefix.words.now c.args.prefix.entries c.args.place c.requires.place_in)
 
 pub overflow_add-n : goal.overflow_add-n
 overflow_add-n c = let r = (ranged c.before).1 in omega arith
@@ -40,7 +40,7 @@ unfolding open_entry marks_in
 returns-in-Existential c =
     let v = c.in-Existential.v.0 in
     let r = ranged c.before.before in
-    let none = c.requires.fact_3 in
+    let none = c.requires.no_entries in
     let fs = flags c.args.marks.now in
     let size = length_own c.args.marks.now (search rules) in
     let e = c.put.ensures in
@@ -53,5 +53,5 @@ returns-in-Existential c =
 pub returns-in-Universal : goal.returns-in-Universal
 unfolding open_entry
 returns-in-Universal c =
-    rw (shown_universal (entry_at c.args.prefix.now c.args.place) _ (sym c.entry_at.ensures ∙ c.in-Universal.is))
-    (record { marks = λ t. refl; none = c.requires.fact_3 })
+    rw (shown_universal (entry_at c.args.prefix.words.now c.args.place) _ (sym c.entry_at.ensures ∙ c.in-Universal.is))
+    (record { marks = λ t. refl; none = c.requires.no_entries })

@@ -22,7 +22,7 @@ no_entries marks e s i h = rw e (get_or-replicate {A = ℕ} 5120 _ 0 0 (entry_wi
 
 pub open_entries-requires : goal.open_entries-requires
 open_entries-requires c =
-    record { fact_1 = c.requires; fact_2 = no_entries _ (cleared c.args.marks.now _ (search rules) c.clear_tail.ensures) }
+    no_entries _ (cleared c.args.marks.now _ (search rules) c.clear_tail.ensures)
 
 pub returns : goal.returns
 unfolding marks_in

@@ -9,7 +9,6 @@ use lib.ListN.{get_or, set, replicate}
 use Rattle.qbf.specs.Formula.{after}
 use Rattle.formula.specs.Word.{slot}
 use Rattle.formula.specs.Prefix.{prefix_of}
-use Rattle.formula.proofs.Theorems.Tables.Laws.{admitted_entries}
 use Rattle.dependency.specs.Search.{open_entries, ones}
 use Rattle.dependency.specs.Search.Laws.{source_open, searched}
 use Rattle.dependency.specs.Bits.{marks_in}
@@ -35,21 +34,16 @@ module _
     same_ones : (t : Bool) → ones (m' t) ≡ ones (m t)
     same_ones t = rw (e t) (ap ones (begun t) ∙ ones_kept (opened prefix u) (slot u t) (closed t))
 
-pub open_right-requires : goal.open_right-requires
-open_right-requires c = admitted_entries c.args.prefix.now c.args.clauses.now c.requires.admitted
-
 pub start-requires : goal.start-requires
 start-requires c =
-    let a = c.args in
-    record {
-      le_variable = c.requires.le_variable;
-      s_value = λ t. rw (c.open_right.ensures.marks t) (source_open a.prefix.now a.clauses.now c.requires.admitted a.variable.0 c.requires.le_variable t);
-    }
+    let T = c.args.tables in
+    let right = rw c.entries.ensures at c.open_right.ensures in
+    record { in_range = c.requires; unmarked = λ t. rw (right.marks t) (source_open T.prefix.now T.clauses.now T.admitted c.args.variable.0 c.requires t) }
 
 pub settle-requires : goal.settle-requires
 settle-requires c =
-    let r = c.requires in
-    let x = c.args.prefix.now in
+    let T = c.args.tables in
+    let x = T.prefix.now in
     let u = c.args.variable.0 in
     let o = c.open_right.new.marks in
     let k =
@@ -58,16 +52,16 @@ settle-requires c =
     u
     (λ (t : Bool). marks_in t o)
     (λ (t : Bool). marks_in t c.start.new.marks)
-    (source_open x c.args.clauses.now r.admitted u r.le_variable)
-    c.open_right.ensures.marks
+    (source_open x T.clauses.now T.admitted u c.requires)
+    (rw c.entries.ensures at c.open_right.ensures).marks
     c.start.ensures
     in
     omega (arith, k true, k false, c.count_open-unreached.ensures)
 
 pub returns : goal.returns
 returns c t =
-    let r = c.requires in
-    let x = c.args.prefix.now in
+    let T = c.args.tables in
+    let x = T.prefix.now in
     let u = c.args.variable.0 in
     let o = c.open_right.new.marks in
     let k =
@@ -76,9 +70,9 @@ returns c t =
     u
     (λ (s : Bool). marks_in s o)
     (λ (s : Bool). marks_in s c.start.new.marks)
-    (source_open x c.args.clauses.now r.admitted u r.le_variable)
-    c.open_right.ensures.marks
+    (source_open x T.clauses.now T.admitted u c.requires)
+    (rw c.entries.ensures at c.open_right.ensures).marks
     c.start.ensures
     t
     in
-    searched x c.args.clauses.now r.admitted u r.le_variable t (marks_in t c.settle.new.marks) (rw k at (c.settle.ensures t))
+    searched x T.clauses.now T.admitted u c.requires t (marks_in t c.settle.new.marks) (rw k at (c.settle.ensures t))

@@ -53,8 +53,8 @@ returns c =
     let one = c.put.new.bytes in
     both
     v
-    r.le_variable.0
-    r.le_variable.1
+    r.in_range.0
+    r.in_range.1
     marks
     one
     c.put-2.new.bytes
@@ -62,4 +62,4 @@ returns c =
     (search rules)
     (c.put.ensures ∙ ap (λ (i : ℕ). set (flags marks) i 1) c.entry_flag.ensures)
     (c.put-2.ensures ∙ ap (λ (i : ℕ). set (flags one) i 1) c.entry_flag-2.ensures)
-    r.s_value
+    r.unmarked

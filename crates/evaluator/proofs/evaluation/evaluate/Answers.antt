@@ -1,14 +1,9 @@
 -- `evaluate` hands on the tables' refusal, and plays what they let pass. Assumes nothing.
 use Rattle.std.proofs.Common.{sym, ◌∙◌}
 use Rattle.std.proofs.lemmas.Result.{err_from_is_err_and}
-use Rattle.formula.proofs.Theorems.Tables.Laws.{answer_admitted, answer_refused}
+use Rattle.formula.proofs.Theorems.Tables.Laws.{answer_refused}
 use Rattle.evaluator.specs.Evaluation.{evaluation_of}
 use Rattle.evaluator.proofs.evaluation.evaluate.Goals as goal
-
-pub play-requires : goal.play-requires
-play-requires c =
-    let a = c.args in
-    (answer_admitted a.prefix.now a.clauses.now _ _ (sym c.check_tables.ensures ∙ c.in_ok-check_tables.was)).0
 
 pub returns-in_err-check_tables : goal.returns-in_err-check_tables
 unfolding evaluation_of

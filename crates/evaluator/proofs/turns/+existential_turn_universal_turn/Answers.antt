@@ -10,21 +10,21 @@ use lib.ListN.{length, set, length-set}
 use Rattle.qbf.specs.Literal.{Matrix}
 use Rattle.qbf.specs.Formula.{Quantifier, existential, universal}
 use Rattle.qbf.specs.Play.{lost}
-use Rattle.formula.specs.Prefix.{prefix_of, entry_at, entry_count, later_entries}
+use Rattle.formula.specs.Prefix.{prefix_of, entry_at, entry_count, later_entries, Entries}
 use Rattle.evaluator.specs.Values.{values_of}
 use Rattle.evaluator.specs.Turns.{Due}
-use Rattle.evaluator.proofs.Position.{Opened, opened, universal_left, lost_none, hand_universal, hand_existential, Once, once_store, once_length, once_back, once_turn, Twice, twice_store, twice_back, twice_turn}
+use Rattle.evaluator.proofs.Position.{Opened, opened, universal_left, lost_none, hand_universal, hand_existential, Once, once_length, once_turn, Twice, twice_turn}
 use Rattle.evaluator.proofs.turns.+existential_turn_universal_turn.Goals as goal
 
 -- the first variable left, where the count of the variables is not 0, and where the universal side is due
 module _ {n v : ℕ} {prefix rest : List ℤ} where
-  opened_existential : {count : ℕ} → Due existential n prefix → count ≡ entry_count prefix → (count ≡ 0 → ⊥)
+  opened_existential : {count : ℕ} → Entries prefix → Due existential n prefix → count ≡ entry_count prefix → (count ≡ 0 → ⊥)
       → v ≡ (entry_at prefix 0).variable → rest ≡ later_entries prefix → Opened existential n prefix v rest
-  opened_existential d k h e f = opened existential n prefix v rest d (omega (arith, k, h)) e f
+  opened_existential r d k h e f = opened existential n prefix v rest r d (omega (arith, k, h)) e f
 
-  opened_universal : Due universal n prefix
+  opened_universal : Entries prefix → Due universal n prefix
       → v ≡ (entry_at prefix 0).variable → rest ≡ later_entries prefix → Opened universal n prefix v rest
-  opened_universal d e f = opened universal n prefix v rest d (universal_left prefix d) e f
+  opened_universal r d e f = opened universal n prefix v rest r d (universal_left prefix d) e f
 
 -- what the first call answered, and the second
 module _ {q : Quantifier} {prefix rest : List ℤ} {v : ℕ} {M : Matrix} {zero-lost : Bool} {left : List ℕ} where
@@ -38,260 +38,102 @@ module _ {q : Quantifier} {prefix rest : List ℤ} {v : ℕ} {M : Matrix} {zero-
       → Twice q prefix rest vs v M zero-lost one-lost left last
   twice w e k = record { once = w; one = e; kept = k }
 
-pub existential_turn-returns-then-entry_count-eq0-clause-value : goal.existential_turn-returns-then-entry_count-eq0-clause-value
-existential_turn-returns-then-entry_count-eq0-clause-value t c =
-    c.matrix_falsified.ensures ∙ sym (lost_none c.args.prefix.now _ _ (sym c.entry_count.ensures ∙ c.if-entry_count-eq0.true))
-
-pub existential_turn-bounds-values-e : goal.existential_turn-bounds-values-e
-existential_turn-bounds-values-e t c =
-    let o = opened_existential c.requires c.entry_count.ensures c.if-entry_count-eq0.false c.first_variable-e.ensures c.later_entries-rest.ensures in
-    o.small
-
-pub existential_turn-bounds-values-e-2 : goal.existential_turn-bounds-values-e-2
-existential_turn-bounds-values-e-2 t c =
-    let o = opened_existential c.requires c.entry_count.ensures c.if-entry_count-eq0.false c.first_variable-e.ensures c.later_entries-rest.ensures in
-    o.small
-
-pub existential_turn-universal_due-requires : goal.existential_turn-universal_due-requires
-existential_turn-universal_due-requires t c =
-    let o = opened_existential c.requires c.entry_count.ensures c.if-entry_count-eq0.false c.first_variable-e.ensures c.later_entries-rest.ensures in
-    o.entries
+pub existential_turn-returns-then-count-eq0-clause-value : goal.existential_turn-returns-then-count-eq0-clause-value
+existential_turn-returns-then-count-eq0-clause-value t c =
+    c.matrix_falsified.ensures ∙ sym (lost_none c.args.prefix.words.now _ _ (sym c.count.ensures ∙ c.if-count-eq0.true))
 
 pub existential_turn-universal_turn-requires : goal.existential_turn-universal_turn-requires
 existential_turn-universal_turn-requires t c =
-    let o = opened_existential c.requires c.entry_count.ensures c.if-entry_count-eq0.false c.first_variable-e.ensures c.later_entries-rest.ensures in
+    let o = opened_existential c.args.prefix.entries c.requires c.count.ensures c.if-count-eq0.false c.first_variable-e.ensures.value c.later-rest.ensures in
     hand_universal t _ o c.universal_due.result c.decreases (simp length-set) c.universal_due.ensures c.if-universal_due.true
-
-pub existential_turn-bounds-values-e-then-universal_turn : goal.existential_turn-bounds-values-e-then-universal_turn
-existential_turn-bounds-values-e-then-universal_turn t c =
-    let o = opened_existential c.requires c.entry_count.ensures c.if-entry_count-eq0.false c.first_variable-e.ensures c.later_entries-rest.ensures in
-    let w = once c.args.values.now o c.universal_turn.ensures.value c.universal_turn.ensures.values_unchanged in
-    once_store w
 
 pub existential_turn-universal_turn-lost-requires : goal.existential_turn-universal_turn-lost-requires
 existential_turn-universal_turn-lost-requires t c =
-    let o = opened_existential c.requires c.entry_count.ensures c.if-entry_count-eq0.false c.first_variable-e.ensures c.later_entries-rest.ensures in
+    let o = opened_existential c.args.prefix.entries c.requires c.count.ensures c.if-count-eq0.false c.first_variable-e.ensures.value c.later-rest.ensures in
     let w = once c.args.values.now o c.universal_turn.ensures.value c.universal_turn.ensures.values_unchanged in
     hand_universal t _ o c.universal_due.result c.decreases (once_length w 1) c.universal_due.ensures c.if-universal_due.true
 
-pub existential_turn-bounds-values-e-then-universal_turn-2 : goal.existential_turn-bounds-values-e-then-universal_turn-2
-existential_turn-bounds-values-e-then-universal_turn-2 t c =
-    let o = opened_existential c.requires c.entry_count.ensures c.if-entry_count-eq0.false c.first_variable-e.ensures c.later_entries-rest.ensures in
-    let w = once c.args.values.now o c.universal_turn.ensures.value c.universal_turn.ensures.values_unchanged in
-    let x = twice w c.universal_turn-lost.ensures.value c.universal_turn-lost.ensures.values_unchanged in
-    twice_store x
-
-pub existential_turn-bounds-values-e-else-universal_turn : goal.existential_turn-bounds-values-e-else-universal_turn
-existential_turn-bounds-values-e-else-universal_turn t c =
-    let o = opened_existential c.requires c.entry_count.ensures c.if-entry_count-eq0.false c.first_variable-e.ensures c.later_entries-rest.ensures in
-    let w = once c.args.values.now o c.universal_turn.ensures.value c.universal_turn.ensures.values_unchanged in
-    once_store w
-
 pub existential_turn-returns-then-universal_turn-clause-value : goal.existential_turn-returns-then-universal_turn-clause-value
 existential_turn-returns-then-universal_turn-clause-value t c =
-    let o = opened_existential c.requires c.entry_count.ensures c.if-entry_count-eq0.false c.first_variable-e.ensures c.later_entries-rest.ensures in
+    let o = opened_existential c.args.prefix.entries c.requires c.count.ensures c.if-count-eq0.false c.first_variable-e.ensures.value c.later-rest.ensures in
     let w = once c.args.values.now o c.universal_turn.ensures.value c.universal_turn.ensures.values_unchanged in
     let x = twice w c.universal_turn-lost.ensures.value c.universal_turn-lost.ensures.values_unchanged in
     sym (rw c.if-universal_turn.true at (twice_turn x))
 
-pub existential_turn-returns-then-universal_turn-clause-values_unchanged : goal.existential_turn-returns-then-universal_turn-clause-values_unchanged
-existential_turn-returns-then-universal_turn-clause-values_unchanged t c =
-    let o = opened_existential c.requires c.entry_count.ensures c.if-entry_count-eq0.false c.first_variable-e.ensures c.later_entries-rest.ensures in
-    let w = once c.args.values.now o c.universal_turn.ensures.value c.universal_turn.ensures.values_unchanged in
-    let x = twice w c.universal_turn-lost.ensures.value c.universal_turn-lost.ensures.values_unchanged in
-    twice_back x
-
 pub existential_turn-returns-else-universal_turn-clause-value : goal.existential_turn-returns-else-universal_turn-clause-value
 existential_turn-returns-else-universal_turn-clause-value t c =
-    let o = opened_existential c.requires c.entry_count.ensures c.if-entry_count-eq0.false c.first_variable-e.ensures c.later_entries-rest.ensures in
+    let o = opened_existential c.args.prefix.entries c.requires c.count.ensures c.if-count-eq0.false c.first_variable-e.ensures.value c.later-rest.ensures in
     let w = once c.args.values.now o c.universal_turn.ensures.value c.universal_turn.ensures.values_unchanged in
     sym (rw c.if-universal_turn.false at (once_turn w))
 
-pub existential_turn-returns-else-universal_turn-clause-values_unchanged : goal.existential_turn-returns-else-universal_turn-clause-values_unchanged
-existential_turn-returns-else-universal_turn-clause-values_unchanged t c =
-    let o = opened_existential c.requires c.entry_count.ensures c.if-entry_count-eq0.false c.first_variable-e.ensures c.later_entries-rest.ensures in
-    let w = once c.args.values.now o c.universal_turn.ensures.value c.universal_turn.ensures.values_unchanged in
-    once_back w
-
 pub existential_turn-existential_turn-requires : goal.existential_turn-existential_turn-requires
 existential_turn-existential_turn-requires t c =
-    let o = opened_existential c.requires c.entry_count.ensures c.if-entry_count-eq0.false c.first_variable-e.ensures c.later_entries-rest.ensures in
+    let o = opened_existential c.args.prefix.entries c.requires c.count.ensures c.if-count-eq0.false c.first_variable-e.ensures.value c.later-rest.ensures in
     hand_existential t _ o c.universal_due.result c.decreases (simp length-set) c.universal_due.ensures c.if-universal_due.false
-
-pub existential_turn-bounds-values-e-then-existential_turn : goal.existential_turn-bounds-values-e-then-existential_turn
-existential_turn-bounds-values-e-then-existential_turn t c =
-    let o = opened_existential c.requires c.entry_count.ensures c.if-entry_count-eq0.false c.first_variable-e.ensures c.later_entries-rest.ensures in
-    let w = once c.args.values.now o c.existential_turn.ensures.value c.existential_turn.ensures.values_unchanged in
-    once_store w
 
 pub existential_turn-existential_turn-lost-requires : goal.existential_turn-existential_turn-lost-requires
 existential_turn-existential_turn-lost-requires t c =
-    let o = opened_existential c.requires c.entry_count.ensures c.if-entry_count-eq0.false c.first_variable-e.ensures c.later_entries-rest.ensures in
+    let o = opened_existential c.args.prefix.entries c.requires c.count.ensures c.if-count-eq0.false c.first_variable-e.ensures.value c.later-rest.ensures in
     let w = once c.args.values.now o c.existential_turn.ensures.value c.existential_turn.ensures.values_unchanged in
     hand_existential t _ o c.universal_due.result c.decreases (once_length w 1) c.universal_due.ensures c.if-universal_due.false
 
-pub existential_turn-bounds-values-e-then-existential_turn-2 : goal.existential_turn-bounds-values-e-then-existential_turn-2
-existential_turn-bounds-values-e-then-existential_turn-2 t c =
-    let o = opened_existential c.requires c.entry_count.ensures c.if-entry_count-eq0.false c.first_variable-e.ensures c.later_entries-rest.ensures in
-    let w = once c.args.values.now o c.existential_turn.ensures.value c.existential_turn.ensures.values_unchanged in
-    let x = twice w c.existential_turn-lost.ensures.value c.existential_turn-lost.ensures.values_unchanged in
-    twice_store x
-
-pub existential_turn-bounds-values-e-else-existential_turn : goal.existential_turn-bounds-values-e-else-existential_turn
-existential_turn-bounds-values-e-else-existential_turn t c =
-    let o = opened_existential c.requires c.entry_count.ensures c.if-entry_count-eq0.false c.first_variable-e.ensures c.later_entries-rest.ensures in
-    let w = once c.args.values.now o c.existential_turn.ensures.value c.existential_turn.ensures.values_unchanged in
-    once_store w
-
 pub existential_turn-returns-then-existential_turn-clause-value : goal.existential_turn-returns-then-existential_turn-clause-value
 existential_turn-returns-then-existential_turn-clause-value t c =
-    let o = opened_existential c.requires c.entry_count.ensures c.if-entry_count-eq0.false c.first_variable-e.ensures c.later_entries-rest.ensures in
+    let o = opened_existential c.args.prefix.entries c.requires c.count.ensures c.if-count-eq0.false c.first_variable-e.ensures.value c.later-rest.ensures in
     let w = once c.args.values.now o c.existential_turn.ensures.value c.existential_turn.ensures.values_unchanged in
     let x = twice w c.existential_turn-lost.ensures.value c.existential_turn-lost.ensures.values_unchanged in
     sym (rw c.if-existential_turn.true at (twice_turn x))
 
-pub existential_turn-returns-then-existential_turn-clause-values_unchanged : goal.existential_turn-returns-then-existential_turn-clause-values_unchanged
-existential_turn-returns-then-existential_turn-clause-values_unchanged t c =
-    let o = opened_existential c.requires c.entry_count.ensures c.if-entry_count-eq0.false c.first_variable-e.ensures c.later_entries-rest.ensures in
-    let w = once c.args.values.now o c.existential_turn.ensures.value c.existential_turn.ensures.values_unchanged in
-    let x = twice w c.existential_turn-lost.ensures.value c.existential_turn-lost.ensures.values_unchanged in
-    twice_back x
-
 pub existential_turn-returns-else-existential_turn-clause-value : goal.existential_turn-returns-else-existential_turn-clause-value
 existential_turn-returns-else-existential_turn-clause-value t c =
-    let o = opened_existential c.requires c.entry_count.ensures c.if-entry_count-eq0.false c.first_variable-e.ensures c.later_entries-rest.ensures in
+    let o = opened_existential c.args.prefix.entries c.requires c.count.ensures c.if-count-eq0.false c.first_variable-e.ensures.value c.later-rest.ensures in
     let w = once c.args.values.now o c.existential_turn.ensures.value c.existential_turn.ensures.values_unchanged in
     sym (rw c.if-existential_turn.false at (once_turn w))
 
-pub existential_turn-returns-else-existential_turn-clause-values_unchanged : goal.existential_turn-returns-else-existential_turn-clause-values_unchanged
-existential_turn-returns-else-existential_turn-clause-values_unchanged t c =
-    let o = opened_existential c.requires c.entry_count.ensures c.if-entry_count-eq0.false c.first_variable-e.ensures c.later_entries-rest.ensures in
-    let w = once c.args.values.now o c.existential_turn.ensures.value c.existential_turn.ensures.values_unchanged in
-    once_back w
-
-pub universal_turn-bounds-values-u : goal.universal_turn-bounds-values-u
-universal_turn-bounds-values-u t c =
-    let o = opened_universal c.requires c.first_variable-u.ensures c.later_entries-rest.ensures in
-    o.small
-
-pub universal_turn-bounds-values-u-2 : goal.universal_turn-bounds-values-u-2
-universal_turn-bounds-values-u-2 t c =
-    let o = opened_universal c.requires c.first_variable-u.ensures c.later_entries-rest.ensures in
-    o.small
-
-pub universal_turn-universal_due-requires : goal.universal_turn-universal_due-requires
-universal_turn-universal_due-requires t c =
-    let o = opened_universal c.requires c.first_variable-u.ensures c.later_entries-rest.ensures in
-    o.entries
-
 pub universal_turn-universal_turn-requires : goal.universal_turn-universal_turn-requires
 universal_turn-universal_turn-requires t c =
-    let o = opened_universal c.requires c.first_variable-u.ensures c.later_entries-rest.ensures in
+    let o = opened_universal c.args.prefix.entries c.requires c.first_variable-u.ensures.value c.later-rest.ensures in
     hand_universal t _ o c.universal_due.result c.decreases (simp length-set) c.universal_due.ensures c.if-universal_due.true
-
-pub universal_turn-bounds-values-u-else-universal_turn : goal.universal_turn-bounds-values-u-else-universal_turn
-universal_turn-bounds-values-u-else-universal_turn t c =
-    let o = opened_universal c.requires c.first_variable-u.ensures c.later_entries-rest.ensures in
-    let w = once c.args.values.now o c.universal_turn.ensures.value c.universal_turn.ensures.values_unchanged in
-    once_store w
 
 pub universal_turn-universal_turn-lost-requires : goal.universal_turn-universal_turn-lost-requires
 universal_turn-universal_turn-lost-requires t c =
-    let o = opened_universal c.requires c.first_variable-u.ensures c.later_entries-rest.ensures in
+    let o = opened_universal c.args.prefix.entries c.requires c.first_variable-u.ensures.value c.later-rest.ensures in
     let w = once c.args.values.now o c.universal_turn.ensures.value c.universal_turn.ensures.values_unchanged in
     hand_universal t _ o c.universal_due.result c.decreases (once_length w 1) c.universal_due.ensures c.if-universal_due.true
 
-pub universal_turn-bounds-values-u-else-universal_turn-2 : goal.universal_turn-bounds-values-u-else-universal_turn-2
-universal_turn-bounds-values-u-else-universal_turn-2 t c =
-    let o = opened_universal c.requires c.first_variable-u.ensures c.later_entries-rest.ensures in
-    let w = once c.args.values.now o c.universal_turn.ensures.value c.universal_turn.ensures.values_unchanged in
-    let x = twice w c.universal_turn-lost.ensures.value c.universal_turn-lost.ensures.values_unchanged in
-    twice_store x
-
-pub universal_turn-bounds-values-u-then-universal_turn : goal.universal_turn-bounds-values-u-then-universal_turn
-universal_turn-bounds-values-u-then-universal_turn t c =
-    let o = opened_universal c.requires c.first_variable-u.ensures c.later_entries-rest.ensures in
-    let w = once c.args.values.now o c.universal_turn.ensures.value c.universal_turn.ensures.values_unchanged in
-    once_store w
-
 pub universal_turn-returns-else-universal_turn-clause-value : goal.universal_turn-returns-else-universal_turn-clause-value
 universal_turn-returns-else-universal_turn-clause-value t c =
-    let o = opened_universal c.requires c.first_variable-u.ensures c.later_entries-rest.ensures in
+    let o = opened_universal c.args.prefix.entries c.requires c.first_variable-u.ensures.value c.later-rest.ensures in
     let w = once c.args.values.now o c.universal_turn.ensures.value c.universal_turn.ensures.values_unchanged in
     let x = twice w c.universal_turn-lost.ensures.value c.universal_turn-lost.ensures.values_unchanged in
     sym (rw c.if-universal_turn.false at (twice_turn x))
 
-pub universal_turn-returns-else-universal_turn-clause-values_unchanged : goal.universal_turn-returns-else-universal_turn-clause-values_unchanged
-universal_turn-returns-else-universal_turn-clause-values_unchanged t c =
-    let o = opened_universal c.requires c.first_variable-u.ensures c.later_entries-rest.ensures in
-    let w = once c.args.values.now o c.universal_turn.ensures.value c.universal_turn.ensures.values_unchanged in
-    let x = twice w c.universal_turn-lost.ensures.value c.universal_turn-lost.ensures.values_unchanged in
-    twice_back x
-
 pub universal_turn-returns-then-universal_turn-clause-value : goal.universal_turn-returns-then-universal_turn-clause-value
 universal_turn-returns-then-universal_turn-clause-value t c =
-    let o = opened_universal c.requires c.first_variable-u.ensures c.later_entries-rest.ensures in
+    let o = opened_universal c.args.prefix.entries c.requires c.first_variable-u.ensures.value c.later-rest.ensures in
     let w = once c.args.values.now o c.universal_turn.ensures.value c.universal_turn.ensures.values_unchanged in
     sym (rw c.if-universal_turn.true at (once_turn w))
 
-pub universal_turn-returns-then-universal_turn-clause-values_unchanged : goal.universal_turn-returns-then-universal_turn-clause-values_unchanged
-universal_turn-returns-then-universal_turn-clause-values_unchanged t c =
-    let o = opened_universal c.requires c.first_variable-u.ensures c.later_entries-rest.ensures in
-    let w = once c.args.values.now o c.universal_turn.ensures.value c.universal_turn.ensures.values_unchanged in
-    once_back w
-
 pub universal_turn-existential_turn-requires : goal.universal_turn-existential_turn-requires
 universal_turn-existential_turn-requires t c =
-    let o = opened_universal c.requires c.first_variable-u.ensures c.later_entries-rest.ensures in
+    let o = opened_universal c.args.prefix.entries c.requires c.first_variable-u.ensures.value c.later-rest.ensures in
     hand_existential t _ o c.universal_due.result c.decreases (simp length-set) c.universal_due.ensures c.if-universal_due.false
-
-pub universal_turn-bounds-values-u-else-existential_turn : goal.universal_turn-bounds-values-u-else-existential_turn
-universal_turn-bounds-values-u-else-existential_turn t c =
-    let o = opened_universal c.requires c.first_variable-u.ensures c.later_entries-rest.ensures in
-    let w = once c.args.values.now o c.existential_turn.ensures.value c.existential_turn.ensures.values_unchanged in
-    once_store w
 
 pub universal_turn-existential_turn-lost-requires : goal.universal_turn-existential_turn-lost-requires
 universal_turn-existential_turn-lost-requires t c =
-    let o = opened_universal c.requires c.first_variable-u.ensures c.later_entries-rest.ensures in
+    let o = opened_universal c.args.prefix.entries c.requires c.first_variable-u.ensures.value c.later-rest.ensures in
     let w = once c.args.values.now o c.existential_turn.ensures.value c.existential_turn.ensures.values_unchanged in
     hand_existential t _ o c.universal_due.result c.decreases (once_length w 1) c.universal_due.ensures c.if-universal_due.false
 
-pub universal_turn-bounds-values-u-else-existential_turn-2 : goal.universal_turn-bounds-values-u-else-existential_turn-2
-universal_turn-bounds-values-u-else-existential_turn-2 t c =
-    let o = opened_universal c.requires c.first_variable-u.ensures c.later_entries-rest.ensures in
-    let w = once c.args.values.now o c.existential_turn.ensures.value c.existential_turn.ensures.values_unchanged in
-    let x = twice w c.existential_turn-lost.ensures.value c.existential_turn-lost.ensures.values_unchanged in
-    twice_store x
-
-pub universal_turn-bounds-values-u-then-existential_turn : goal.universal_turn-bounds-values-u-then-existential_turn
-universal_turn-bounds-values-u-then-existential_turn t c =
-    let o = opened_universal c.requires c.first_variable-u.ensures c.later_entries-rest.ensures in
-    let w = once c.args.values.now o c.existential_turn.ensures.value c.existential_turn.ensures.values_unchanged in
-    once_store w
-
 pub universal_turn-returns-else-existential_turn-clause-value : goal.universal_turn-returns-else-existential_turn-clause-value
 universal_turn-returns-else-existential_turn-clause-value t c =
-    let o = opened_universal c.requires c.first_variable-u.ensures c.later_entries-rest.ensures in
+    let o = opened_universal c.args.prefix.entries c.requires c.first_variable-u.ensures.value c.later-rest.ensures in
     let w = once c.args.values.now o c.existential_turn.ensures.value c.existential_turn.ensures.values_unchanged in
     let x = twice w c.existential_turn-lost.ensures.value c.existential_turn-lost.ensures.values_unchanged in
     sym (rw c.if-existential_turn.false at (twice_turn x))
 
-pub universal_turn-returns-else-existential_turn-clause-values_unchanged : goal.universal_turn-returns-else-existential_turn-clause-values_unchanged
-universal_turn-returns-else-existential_turn-clause-values_unchanged t c =
-    let o = opened_universal c.requires c.first_variable-u.ensures c.later_entries-rest.ensures in
-    let w = once c.args.values.now o c.existential_turn.ensures.value c.existential_turn.ensures.values_unchanged in
-    let x = twice w c.existential_turn-lost.ensures.value c.existential_turn-lost.ensures.values_unchanged in
-    twice_back x
-
 pub universal_turn-returns-then-existential_turn-clause-value : goal.universal_turn-returns-then-existential_turn-clause-value
 universal_turn-returns-then-existential_turn-clause-value t c =
-    let o = opened_universal c.requires c.first_variable-u.ensures c.later_entries-rest.ensures in
+    let o = opened_universal c.args.prefix.entries c.requires c.first_variable-u.ensures.value c.later-rest.ensures in
     let w = once c.args.values.now o c.existential_turn.ensures.value c.existential_turn.ensures.values_unchanged in
     sym (rw c.if-existential_turn.true at (once_turn w))
-
-pub universal_turn-returns-then-existential_turn-clause-values_unchanged : goal.universal_turn-returns-then-existential_turn-clause-values_unchanged
-universal_turn-returns-then-existential_turn-clause-values_unchanged t c =
-    let o = opened_universal c.requires c.first_variable-u.ensures c.later_entries-rest.ensures in
-    let w = once c.args.values.now o c.existential_turn.ensures.value c.existential_turn.ensures.values_unchanged in
-    once_back w

@@ -26,21 +26,21 @@ due_first [] h = absurd (not-suc-le-zero h)
 due_first (x ∷ P) h = refl
 
 -- the first entry, and that there is one
-abbrev shown : (c : lts.Start tie.the-claims reads.Pre reads.Post tie.handed_clauses) → Entry
-shown c = entry_at c.args.prefix.now 0
+abbrev shown : (c : lts.Start tie.the-claims reads.Pre reads.Post) → Entry
+shown c = entry_at c.args.prefix.words.now 0
 
-some_left : (c : lts.Then1 tie.the-claims reads.Pre reads.Post tie.handed_clauses) → 0 < entry_count c.args.prefix.now
-some_left c = omega (arith, c.entry_count.ensures, c.if-entry_count-gt0.true)
+some_left : (c : lts.Then1 tie.the-claims reads.Pre reads.Post) → 0 < entry_count c.args.prefix.words.now
+some_left c = omega (arith, c.count.ensures, c.if-count-gt0.true)
 
 pub returns-in-Existential : goal.returns-in-Existential
 returns-in-Existential c =
     let start = c.before.before.before.before in
-    rw (shown_existential (shown start) _ (sym c.entry_at.ensures ∙ c.in-Existential.is)) at (due_first (prefix_of start.args.prefix.now) (some_left c.before.before))
+    rw (shown_existential (shown start) _ (sym c.entry_at.ensures ∙ c.in-Existential.is)) at (due_first (prefix_of start.args.prefix.words.now) (some_left c.before.before))
 
 pub returns-in-Universal : goal.returns-in-Universal
 returns-in-Universal c =
     let start = c.before.before.before.before in
-    rw (shown_universal (shown start) _ (sym c.entry_at.ensures ∙ c.in-Universal.is)) at (due_first (prefix_of start.args.prefix.now) (some_left c.before.before))
+    rw (shown_universal (shown start) _ (sym c.entry_at.ensures ∙ c.in-Universal.is)) at (due_first (prefix_of start.args.prefix.words.now) (some_left c.before.before))
 
-pub returns-else-entry_count-gt0 : goal.returns-else-entry_count-gt0
-returns-else-entry_count-gt0 c = due_none (prefix_of c.args.prefix.now) (omega (arith, c.entry_count.ensures, c.if-entry_count-gt0.false))
+pub returns-else-count-gt0 : goal.returns-else-count-gt0
+returns-else-count-gt0 c = due_none (prefix_of c.args.prefix.words.now) (omega (arith, c.count.ensures, c.if-count-gt0.false))

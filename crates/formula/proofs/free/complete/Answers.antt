@@ -19,7 +19,7 @@ use Rattle.formula.proofs.free.complete.Goals as goal
 few : (c : lts.After-count_free tie.the-claims reads.Pre reads.Post tie.handed_clauses) → c.count_free-added.result + c.args.entries ≤ 1024
 few c =
     let s = c.before in
-    rw c.count_free-added.ensures (completed_total s.args.marks.now s.args.variables s.args.entries s.args.prefix.now s.requires.entries_in_bounds.0 s.requires.prefix_fine)
+    rw c.count_free-added.ensures (completed_total s.args.marks.now s.args.variables s.args.entries s.args.prefix.now s.requires.within.0 s.requires.prefix_fine)
 
 pub overflow_add-total : goal.overflow_add-total
 overflow_add-total c = let h = few c in search rules
@@ -43,9 +43,6 @@ small : (c : lts.After-count_free tie.the-claims reads.Pre reads.Post tie.handed
 unfolding entry_words
 small c n h = omega (arith, few c)
 
-pub entry_words-requires : goal.entry_words-requires
-entry_words-requires c = let k = counted c.before in small k k.args.entries (omega arith)
-
 pub entry_words-requires-2 : goal.entry_words-requires-2
 entry_words-requires-2 c = let k = counted c.before.before in small k k.count_free-added.result (omega arith)
 
@@ -58,7 +55,7 @@ pub put_free-requires : goal.put_free-requires
 put_free-requires c =
     let k = counted c.before.before.before.before.before.before in
     let s = k.before in (
-      s.requires.entries_in_bounds.1,
+      s.requires.within.1,
       rw (← k.count_free-added.ensures)
           (omega (arith, words_rise k.count_free-added.result (k.count_free-added.result + s.args.entries) (omega arith), room c.before.before.before.before.before.before, c.prefix-1.given)),
     )
@@ -107,7 +104,7 @@ pub slice_bounds-number_blocks-end-2 : goal.slice_bounds-number_blocks-end-2
 slice_bounds-number_blocks-end-2 c = sym (part_length c.before)
 
 pub number_blocks-requires : goal.number_blocks-requires
-number_blocks-requires c = record { entries = part_ranged c.before; prefix_bound = part_few c.before; prefix_len = part_whole c.before }
+number_blocks-requires c = record { entries = part_ranged c.before; entries_in_bound = part_few c.before; whole_entries = part_whole c.before }
 
 pub returns : goal.returns
 returns c =

@@ -20,7 +20,7 @@ use Rattle.formula.proofs.prefix.put_entry.Goals as goal
 -- the record is one of the table
 below : (c : lts.Start tie.the-claims reads.Pre reads.Post tie.handed_clauses) → 3 * c.args.entries + 2 < length c.args.prefix.now
 unfolding entry_words
-below c = omega (arith, put_within (length c.args.prefix.now) c.args.entries c.requires.entries_value)
+below c = omega (arith, put_within (length c.args.prefix.now) c.args.entries c.requires.has_room)
 
 -- the quantifier's word, read back from its bits
 number_back : (q : Quantifier) → to_z w32 (of_z w32 (pos (quantifier_number q))) ≡ pos (quantifier_number q)
@@ -58,4 +58,4 @@ pub returns : goal.returns
 unfolding put_entry entry_words
 returns c =
     let a = c.args in
-    rw (c.quantifier_word.ensures, number_back (quantifier_of a.existential), number_word a.variable.0 c.requires.variable_le_variable_bound.0, number_word a.block c.requires.variable_le_variable_bound.1)
+    rw (c.quantifier_word.ensures, number_back (quantifier_of a.existential), number_word a.variable.0 c.requires.in_bound.0, number_word a.block c.requires.in_bound.1)

@@ -4,14 +4,14 @@ use Rattle.std.proofs.Common.{◌∙◌, rules}
 use Rattle.formula.proofs.Theorems.Text.Fill.Laws.{listed_none, completed_fits, fill_completed, fill_crowded}
 use Rattle.formula.proofs.read.fill_tables.Goals as goal
 
-pub read_sets-requires-clause-variables_le_variable_bound : goal.read_sets-requires-clause-variables_le_variable_bound
-read_sets-requires-clause-variables_le_variable_bound c = (search rules, listed_none)
+pub read_sets-requires-clause-listed : goal.read_sets-requires-clause-listed
+read_sets-requires-clause-listed c = (search rules, listed_none)
 
 pub complete-requires-clause-prefix_fine : goal.complete-requires-clause-prefix_fine
 complete-requires-clause-prefix_fine c =
     let sets = rw c.in_ok-sets.was at c.read_sets.ensures in
     let clauses = rw c.in_ok-read.was at (c.read_clauses.ensures (length c.args.prefix.now) _ sets.1) in
-    completed_fits _ _ _ _ _ c.requires.variables_le_variable_bound.0 clauses.2 sets.1.fine
+    completed_fits _ _ _ _ _ c.requires.counts_in_bound.0 clauses.2 sets.1.fine
 
 pub returns-in-None : goal.returns-in-None
 returns-in-None c =
@@ -33,7 +33,7 @@ returns-in-None c =
     c.complete.new.prefix
     c.read_clauses.new.clauses
     c.read_clauses.new.marks
-    c.requires.variables_le_variable_bound.0
+    c.requires.counts_in_bound.0
     sets.2
     (search rules)
     clauses.1
@@ -58,7 +58,7 @@ returns-in-Some c =
     c.complete.new.prefix
     c.read_clauses.new.clauses
     c.read_clauses.new.marks
-    c.requires.variables_le_variable_bound.0
+    c.requires.counts_in_bound.0
     sets.2
     (search rules)
     clauses.1

@@ -11,7 +11,7 @@ use Rattle.formula.proofs.sets.read_sets.Goals as goal
 pub loop-place-init : goal.loop-place-init
 loop-place-init c =
     let args = c.args in
-    (sets_begin args.text.now args.from.place args.variables args.prefix.now args.marks.now c.requires.variables_le_variable_bound.1, c.requires.position_in.0)
+    (sets_begin args.text.now args.from.place args.variables args.prefix.now args.marks.now c.requires.listed.1, c.requires.position_in.0)
 
 pub returns-in-End : goal.returns-in-End
 returns-in-End c =

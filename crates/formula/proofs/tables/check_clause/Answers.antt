@@ -41,56 +41,56 @@ stop_variable :
 stop_variable ps ws from end v n e q p = q ∙ ap (λ (k : ℤ). variable_of (word_of k)) p ∙ ap (λ (k : ℕ). variable_of (word_of (get_or ws k (pos 0)))) e
 
 pub slice_bounds-find_clash-end : goal.slice_bounds-find_clash-end
-slice_bounds-find_clash-end c = let a = c.args in run_fits a.prefix.now a.clauses.now a.from _ (search rules) c.literals_end-end.ensures
+slice_bounds-find_clash-end c = let a = c.args in run_fits a.listed.table.now a.clauses.now a.from _ (search rules) c.literals_end-end.ensures
 
 pub find_clash-clash-requires : goal.find_clash-clash-requires
 find_clash-clash-requires c =
     let a = c.args in
-    rw (run_length a.prefix.now a.clauses.now a.from _ c.literals_end-end.ensures) (run_range (listed_in a.prefix.now) (drop a.from a.clauses.now))
+    rw (run_length a.listed.table.now a.clauses.now a.from _ c.literals_end-end.ensures) (run_range (listed_in a.listed.table.now) (drop a.from a.clauses.now))
 
 pub returns-then-clash-end : goal.returns-then-clash-end
 returns-then-clash-end c =
     let a = c.args in
-    let l = run_length a.prefix.now a.clauses.now a.from _ c.literals_end-end.ensures in
-    let f : c.find_clash-clash.result ≡ free a.prefix.now a.clauses.now a.from = rw l at c.find_clash-clash.ensures in
-    rw (c.new.ensures, f) (clause_clash (listed_in a.prefix.now) a.clauses.now a.from (omega (arith, f, l, c.if-clash-end.true)))
+    let l = run_length a.listed.table.now a.clauses.now a.from _ c.literals_end-end.ensures in
+    let f : c.find_clash-clash.result ≡ free a.listed.table.now a.clauses.now a.from = rw l at c.find_clash-clash.ensures in
+    rw (c.new.ensures, f) (clause_clash (listed_in a.listed.table.now) a.clauses.now a.from (omega (arith, f, l, c.if-clash-end.true)))
 
 pub returns-then-clauses-end : goal.returns-then-clauses-end
 returns-then-clauses-end c =
     let a = c.args in
     let e = c.literals_end-end.ensures in
-    let l = run_length a.prefix.now a.clauses.now a.from _ e in
-    let f : c.find_clash-clash.result ≡ free a.prefix.now a.clauses.now a.from = rw l at c.find_clash-clash.ensures in
+    let l = run_length a.listed.table.now a.clauses.now a.from _ e in
+    let f : c.find_clash-clash.result ≡ free a.listed.table.now a.clauses.now a.from = rw l at c.find_clash-clash.ensures in
     rw (c.new-then-clauses-end.ensures, e)
-    (clause_unfinished (listed_in a.prefix.now) a.clauses.now a.from (omega (arith, f, l, c.if-clash-end.false)) (search rules) (rw e at c.if-clauses-end.true))
+    (clause_unfinished (listed_in a.listed.table.now) a.clauses.now a.from (omega (arith, f, l, c.if-clash-end.false)) (search rules) (rw e at c.if-clauses-end.true))
 
 pub returns-then-v-lt1 : goal.returns-then-v-lt1
 returns-then-v-lt1 c =
     let a = c.args in
     let e = c.literals_end-end.ensures in
-    let l = run_length a.prefix.now a.clauses.now a.from _ e in
-    let f : c.find_clash-clash.result ≡ free a.prefix.now a.clauses.now a.from = rw l at c.find_clash-clash.ensures in
-    let v = stop_variable a.prefix.now a.clauses.now a.from _ _ _ e c.variable-v.ensures (search rules) in
+    let l = run_length a.listed.table.now a.clauses.now a.from _ e in
+    let f : c.find_clash-clash.result ≡ free a.listed.table.now a.clauses.now a.from = rw l at c.find_clash-clash.ensures in
+    let v = stop_variable a.listed.table.now a.clauses.now a.from _ _ _ e c.variable-v.ensures (search rules) in
     rw e
-    (clause_closed (listed_in a.prefix.now) a.clauses.now a.from (omega (arith, f, l, c.if-clash-end.false)) (omega (arith, e, c.if-clauses-end.false)) (variable_zero _ (rw v at c.if-v-lt1.true)))
+    (clause_closed (listed_in a.listed.table.now) a.clauses.now a.from (omega (arith, f, l, c.if-clash-end.false)) (omega (arith, e, c.if-clauses-end.false)) (variable_zero _ (rw v at c.if-v-lt1.true)))
 
 pub returns-then-v-gt-MAX : goal.returns-then-v-gt-MAX
 returns-then-v-gt-MAX c =
     let a = c.args in
     let e = c.literals_end-end.ensures in
-    let l = run_length a.prefix.now a.clauses.now a.from _ e in
-    let f : c.find_clash-clash.result ≡ free a.prefix.now a.clauses.now a.from = rw l at c.find_clash-clash.ensures in
-    let v = stop_variable a.prefix.now a.clauses.now a.from _ _ _ e c.variable-v.ensures (search rules) in
+    let l = run_length a.listed.table.now a.clauses.now a.from _ e in
+    let f : c.find_clash-clash.result ≡ free a.listed.table.now a.clauses.now a.from = rw l at c.find_clash-clash.ensures in
+    let v = stop_variable a.listed.table.now a.clauses.now a.from _ _ _ e c.variable-v.ensures (search rules) in
     rw (c.new-then-v-gt-MAX.ensures, e)
-    (clause_large (listed_in a.prefix.now) a.clauses.now a.from (omega (arith, f, l, c.if-clash-end.false)) (omega (arith, e, c.if-clauses-end.false)) (variable_above _ (rw v at c.if-v-gt-MAX.true)))
+    (clause_large (listed_in a.listed.table.now) a.clauses.now a.from (omega (arith, f, l, c.if-clash-end.false)) (omega (arith, e, c.if-clauses-end.false)) (variable_above _ (rw v at c.if-v-gt-MAX.true)))
 
 pub returns : goal.returns
 returns c =
     let a = c.args in
     let e = c.literals_end-end.ensures in
-    let l = run_length a.prefix.now a.clauses.now a.from _ e in
-    let f : c.find_clash-clash.result ≡ free a.prefix.now a.clauses.now a.from = rw l at c.find_clash-clash.ensures in
-    let v = stop_variable a.prefix.now a.clauses.now a.from _ _ _ e c.variable-v.ensures (search rules) in
+    let l = run_length a.listed.table.now a.clauses.now a.from _ e in
+    let f : c.find_clash-clash.result ≡ free a.listed.table.now a.clauses.now a.from = rw l at c.find_clash-clash.ensures in
+    let v = stop_variable a.listed.table.now a.clauses.now a.from _ _ _ e c.variable-v.ensures (search rules) in
     let w = v ∙ variable_within _ (rw v at c.if-v-gt-MAX.false) in
     rw (c.new-2.ensures, e)
-    (clause_unbound (listed_in a.prefix.now) a.clauses.now a.from (omega (arith, f, l, c.if-clash-end.false)) (omega (arith, e, c.if-clauses-end.false)) (rw w at c.if-v-lt1.false) (rw w at c.if-v-gt-MAX.false))
+    (clause_unbound (listed_in a.listed.table.now) a.clauses.now a.from (omega (arith, f, l, c.if-clash-end.false)) (omega (arith, e, c.if-clauses-end.false)) (rw w at c.if-v-lt1.false) (rw w at c.if-v-gt-MAX.false))

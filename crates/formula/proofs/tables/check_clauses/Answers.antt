@@ -12,4 +12,4 @@ returns c =
     let l = c.loop-at in
     let a = c.args in
     let h : length a.clauses.now ≤ l.at = search rules in
-    sym (ap passes (l.invariant.0 ∙ ap (clauses_refusal (listed_in a.prefix.now) l.at []) (drop_of_length-le a.clauses.now h)))
+    sym (ap passes (l.invariant.0 ∙ ap (clauses_refusal (listed_in a.listed.table.now) l.at []) (drop_of_length-le a.clauses.now h)))

@@ -7,7 +7,7 @@ use Rattle.formula.specs.Tables.{clauses_refusal, listed_in}
 use Rattle.formula.proofs.tables.check_clauses.Given as goal
 
 abbrev pub invariant-loop-at : goal.invariant-loop-at
-invariant-loop-at l = (clauses_refusal (listed_in l.prefix) 0 [] l.clauses ≡ clauses_refusal (listed_in l.prefix) l.at [] (drop l.at l.clauses)) × (l.at ≤ length l.clauses)
+invariant-loop-at l = (clauses_refusal (listed_in l.listed.table.now) 0 [] l.clauses ≡ clauses_refusal (listed_in l.listed.table.now) l.at [] (drop l.at l.clauses)) × (l.at ≤ length l.clauses)
 
 abbrev pub decreases-loop-at : goal.decreases-loop-at
 decreases-loop-at l = length l.clauses - l.at

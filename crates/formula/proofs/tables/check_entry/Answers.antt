@@ -40,13 +40,13 @@ returns-then-v-lt1 c seen m =
     let none : number ws a.at ≡ 0 = omega (arith, v, c.if-v-lt1.true) in
     record_judged ws a.at c.requires.at_in_bounds.0 seen a.last.quantifier a.last.block ∙ rw (none, c.new.ensures)
 
-pub is_listed-requires-clause-le_variable : goal.is_listed-requires-clause-le_variable
-is_listed-requires-clause-le_variable c =
+pub has-requires : goal.has-requires
+has-requires c =
     let a = c.args in
     (search rules, bounded a.prefix.now a.at _ (read _ _ _ c.ordinal-v.ensures (search rules)))
 
-pub mark-requires-clause-le_variable : goal.mark-requires-clause-le_variable
-mark-requires-clause-le_variable c =
+pub mark-requires-clause-in_range : goal.mark-requires-clause-in_range
+mark-requires-clause-in_range c =
     let a = c.args in
     (search rules, bounded a.prefix.now a.at _ (read _ _ _ c.ordinal-v.ensures (search rules)))
 
@@ -56,14 +56,14 @@ looked_for :
     → is_in (number ws at) seen ≡ r
 looked_for ws at v r seen e l m = m.says (number ws at) ∙ ap (listed_in (take at ws)) (sym e) ∙ sym l
 
-pub returns-then-is_listed : goal.returns-then-is_listed
-returns-then-is_listed c seen m =
+pub returns-then-has : goal.returns-then-has
+returns-then-has c seen m =
     let a = c.args in
     let ws = a.prefix.now in
     let v : c.ordinal-v.result ≡ number ws a.at = read _ _ _ c.ordinal-v.ensures (search rules) in
     let positive : 0 < number ws a.at = omega (arith, v, c.if-v-lt1.false) in
-    let again : is_in (number ws a.at) seen ≡ true = looked_for ws a.at _ _ seen v c.is_listed.ensures m ∙ c.if-is_listed.true in
-    record_judged ws a.at c.requires.at_in_bounds.0 seen a.last.quantifier a.last.block ∙ rw (lt-ltb 0 (number ws a.at) positive, again, c.new-then-is_listed.ensures)
+    let again : is_in (number ws a.at) seen ≡ true = looked_for ws a.at _ _ seen v c.has.ensures m ∙ c.if-has.true in
+    record_judged ws a.at c.requires.at_in_bounds.0 seen a.last.quantifier a.last.block ∙ rw (lt-ltb 0 (number ws a.at) positive, again, c.new-then-has.ensures)
 
 pub returns-then-ordinal-due : goal.returns-then-ordinal-due
 returns-then-ordinal-due c =
@@ -78,7 +78,7 @@ returns-then-ordinal-due c =
     let b : number ws (at + 2) ≡ next_block a.last.quantifier a.last.block (number ws (at + 1)) = sym r ∙ c.if-ordinal-due.true ∙ due in (
       λ seen m.
           let positive : 0 < number ws at = omega (arith, v, c.if-v-lt1.false) in
-          let new : is_in (number ws at) seen ≡ false = looked_for ws at _ _ seen v c.is_listed.ensures m ∙ c.if-is_listed.false in
+          let new : is_in (number ws at) seen ≡ false = looked_for ws at _ _ seen v c.has.ensures m ∙ c.if-has.false in
           record_judged ws at c.requires.at_in_bounds.0 seen a.last.quantifier a.last.block
           ∙ rw (lt-ltb 0 (number ws at) positive, new, known, b, eq-eqb (next_block a.last.quantifier a.last.block (number ws (at + 1))) _ refl)
           (λ i. prefix_refusal (at + 3) (number ws at ∷ seen) (sym q i) (sym due i) (drop (at + 3) ws)),
@@ -104,7 +104,7 @@ returns-then-quantifier c seen m =
     let due = rw q at c.next_block-due.ensures in
     let known = rw q at c.if-quantifier.true in
     let positive : 0 < number ws at = omega (arith, v, c.if-v-lt1.false) in
-    let new : is_in (number ws at) seen ≡ false = looked_for ws at _ _ seen v c.is_listed.ensures m ∙ c.if-is_listed.false in
+    let new : is_in (number ws at) seen ≡ false = looked_for ws at _ _ seen v c.has.ensures m ∙ c.if-has.false in
     let b : number ws (at + 2) ≡ next_block a.last.quantifier a.last.block (number ws (at + 1)) → ⊥ = λ e. c.if-ordinal-due.false (r ∙ e ∙ sym due) in
     record_judged ws at c.requires.at_in_bounds.0 seen a.last.quantifier a.last.block
     ∙ rw (lt-ltb 0 (number ws at) positive, new, known, ne_eqb (number ws (at + 2)) (next_block a.last.quantifier a.last.block (number ws (at + 1))) b, c.new-then-quantifier.ensures)
@@ -117,7 +117,7 @@ returns c seen m =
     let v : c.ordinal-v.result ≡ number ws at = read _ _ _ c.ordinal-v.ensures (search rules) in
     let q : c.ordinal-quantifier.result ≡ number ws (at + 1) = read _ _ _ c.ordinal-quantifier.ensures (search rules) in
     let positive : 0 < number ws at = omega (arith, v, c.if-v-lt1.false) in
-    let new : is_in (number ws at) seen ≡ false = looked_for ws at _ _ seen v c.is_listed.ensures m ∙ c.if-is_listed.false in
+    let new : is_in (number ws at) seen ≡ false = looked_for ws at _ _ seen v c.has.ensures m ∙ c.if-has.false in
     let unknown = rw q at c.if-quantifier.false in
     record_judged ws at c.requires.at_in_bounds.0 seen a.last.quantifier a.last.block
     ∙ rw (lt-ltb 0 (number ws at) positive, new, unknown, c.new-2.ensures)

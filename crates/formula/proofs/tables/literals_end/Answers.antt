@@ -28,7 +28,7 @@ returns-then-v-lt1 c =
     let a = c.args in
     let w = get_or a.clauses.now l.i (pos 0) in
     let v : c.variable-v.result ≡ variable_of (word_of w) = read _ _ _ c.variable-v.ensures (search rules) in
-    let e = plain_at_zero (listed_in a.prefix.now) a.clauses.now l.i (search rules) (variable_zero w (rw v at c.if-v-lt1.true)) in
+    let e = plain_at_zero (listed_in a.listed.table.now) a.clauses.now l.i (search rules) (variable_zero w (rw v at c.if-v-lt1.true)) in
     omega (arith, e, l.invariant)
 
 pub returns-then-v-gt-MAX : goal.returns-then-v-gt-MAX
@@ -37,7 +37,7 @@ returns-then-v-gt-MAX c =
     let a = c.args in
     let w = get_or a.clauses.now l.i (pos 0) in
     let v : c.variable-v.result ≡ variable_of (word_of w) = read _ _ _ c.variable-v.ensures (search rules) in
-    let e = plain_at_large (listed_in a.prefix.now) a.clauses.now l.i (search rules) (variable_above w (rw v at c.if-v-gt-MAX.true)) in
+    let e = plain_at_large (listed_in a.listed.table.now) a.clauses.now l.i (search rules) (variable_above w (rw v at c.if-v-gt-MAX.true)) in
     omega (arith, e, l.invariant)
 
 pub loop-i-preserved : goal.loop-i-preserved
@@ -46,18 +46,18 @@ loop-i-preserved c =
     let a = c.args in
     let w = get_or a.clauses.now l.i (pos 0) in
     let v : c.variable-v.result ≡ nat_abs w = magnitude w _ (read _ _ _ c.variable-v.ensures (search rules)) c.if-v-gt-MAX.false in
-    let listed = rw v at c.is_listed.ensures in
-    let e = plain_at_known (listed_in a.prefix.now) a.clauses.now l.i (search rules) (rw v at c.if-v-lt1.false) (rw v at c.if-v-gt-MAX.false) (sym listed ∙ c.if-not-is_listed.false) in
+    let listed = rw v at c.has.ensures in
+    let e = plain_at_known (listed_in a.listed.table.now) a.clauses.now l.i (search rules) (rw v at c.if-v-lt1.false) (rw v at c.if-v-gt-MAX.false) (sym listed ∙ c.if-not-has.false) in
     rw add-one (omega (arith, e, l.invariant))
 
-pub returns-then-not-is_listed : goal.returns-then-not-is_listed
-returns-then-not-is_listed c =
+pub returns-then-not-has : goal.returns-then-not-has
+returns-then-not-has c =
     let l = c.loop-i in
     let a = c.args in
     let w = get_or a.clauses.now l.i (pos 0) in
     let v : c.variable-v.result ≡ nat_abs w = magnitude w _ (read _ _ _ c.variable-v.ensures (search rules)) c.if-v-gt-MAX.false in
-    let listed = rw v at c.is_listed.ensures in
-    let e = plain_at_unknown (listed_in a.prefix.now) a.clauses.now l.i (search rules) (sym listed ∙ c.if-not-is_listed.true) in
+    let listed = rw v at c.has.ensures in
+    let e = plain_at_unknown (listed_in a.listed.table.now) a.clauses.now l.i (search rules) (sym listed ∙ c.if-not-has.true) in
     omega (arith, e, l.invariant)
 
 pub returns : goal.returns
@@ -66,6 +66,6 @@ returns c =
     let l = c.loop-i in
     let a = c.args in
     let h : length a.clauses.now ≤ l.i = omega arith in
-    let e : plain_run (listed_in a.prefix.now) (drop l.i a.clauses.now) ≡ 0 =
-    ap (plain_run (listed_in a.prefix.now)) (drop_of_length-le a.clauses.now h) in
+    let e : plain_run (listed_in a.listed.table.now) (drop l.i a.clauses.now) ≡ 0 =
+    ap (plain_run (listed_in a.listed.table.now)) (drop_of_length-le a.clauses.now h) in
     omega (arith, e, l.invariant)

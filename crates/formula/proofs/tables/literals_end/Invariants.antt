@@ -5,4 +5,4 @@ use Rattle.formula.specs.Tables.Scan.{plain_run}
 use Rattle.formula.proofs.tables.literals_end.Given as goal
 
 abbrev pub invariant-loop-i : goal.invariant-loop-i
-invariant-loop-i l = l.from + plain_run (listed_in l.prefix) (drop l.from l.clauses) ≡ l.i + plain_run (listed_in l.prefix) (drop l.i l.clauses)
+invariant-loop-i l = l.from + plain_run (listed_in l.listed.table.now) (drop l.from l.clauses) ≡ l.i + plain_run (listed_in l.listed.table.now) (drop l.i l.clauses)

@@ -11,12 +11,12 @@ pub loop-i-preserved : goal.loop-i-preserved
 loop-i-preserved c =
     let l = c.loop-i in
     let a = c.args in
-    rw add-one (omega (arith, largest_drop l.i (prefix_of a.prefix.now) (omega arith), c.max-top.ensures, c.variable_at.ensures, l.invariant))
+    rw add-one (omega (arith, largest_drop l.i (prefix_of a.prefix.words.now) (omega arith), c.max-top.ensures, c.variable_at.ensures, l.invariant))
 
 pub returns : goal.returns
 unfolding largest
 returns c =
     let l = c.loop-i in
     let a = c.args in
-    let h : entry_count a.prefix.now ≤ l.i = omega arith in
-    omega (arith, rw (drop_of_length-le (prefix_of a.prefix.now) h) at l.invariant)
+    let h : entry_count a.prefix.words.now ≤ l.i = omega arith in
+    omega (arith, rw (drop_of_length-le (prefix_of a.prefix.words.now) h) at l.invariant)

@@ -6,4 +6,4 @@ use Rattle.formula.specs.Write.{largest}
 use Rattle.formula.proofs.write.largest_variable.Given as goal
 
 abbrev pub invariant-loop-i : goal.invariant-loop-i
-invariant-loop-i l = max l.top (largest (drop l.i (prefix_of l.prefix))) ≡ largest (prefix_of l.prefix)
+invariant-loop-i l = max l.top (largest (drop l.i (prefix_of l.prefix.words.now))) ≡ largest (prefix_of l.prefix.words.now)

@@ -10,12 +10,12 @@ pub returns-in-Existential : goal.returns-in-Existential
 unfolding letter_of
 returns-in-Existential c =
     let a = c.args in
-    let e = shown_existential (entry_at a.prefix.now a.place) c.in-Existential.field-0 (sym c.entry_at.ensures ∙ c.in-Existential.is) in
+    let e = shown_existential (entry_at a.prefix.words.now a.place) c.in-Existential.field-0 (sym c.entry_at.ensures ∙ c.in-Existential.is) in
     sym (ap (λ (x : Entry). letter_of x.quantifier) e)
 
 pub returns-in-Universal : goal.returns-in-Universal
 unfolding letter_of
 returns-in-Universal c =
     let a = c.args in
-    let e = shown_universal (entry_at a.prefix.now a.place) c.in-Universal.field-0 (sym c.entry_at.ensures ∙ c.in-Universal.is) in
+    let e = shown_universal (entry_at a.prefix.words.now a.place) c.in-Universal.field-0 (sym c.entry_at.ensures ∙ c.in-Universal.is) in
     sym (ap (λ (x : Entry). letter_of x.quantifier) e)

@@ -7,15 +7,15 @@ use Rattle.formula.specs.Write.Stream.{word_text, clauses_text}
 use Rattle.formula.specs.Write.Laws.{clauses_text_drop}
 use Rattle.formula.proofs.write.write_clauses.Goals as goal
 
-pub write_word-next-requires-clause-word_bound_2 : goal.write_word-next-requires-clause-word_bound_2
-write_word-next-requires-clause-word_bound_2 c =
+pub write_word-next-requires-clause-place_fits : goal.write_word-next-requires-clause-place_fits
+write_word-next-requires-clause-place_fits c =
     let ws = c.args.clauses.now in
     let l = c.loop-word in
     let w = get_or ws l.word-index (pos 0) in
     let e : to_z w32 (of_z w32 w) ≡ w = search rules in
     rw e
     (below_first l.next (word_text w) (clauses_text (drop (suc l.word-index) ws))
-    (rw (clauses_text_drop l.word-index ws c.loop-word-test.true) at (below_remains c.requires.clauses_bound l.invariant)))
+    (rw (clauses_text_drop l.word-index ws c.loop-word-test.true) at (below_remains c.requires.place_fits l.invariant)))
 
 pub loop-word-preserved : goal.loop-word-preserved
 loop-word-preserved c =

@@ -8,4 +8,4 @@ use Rattle.formula.proofs.write.write_prefix.Given as goal
 
 abbrev pub invariant-loop-i : goal.invariant-loop-i
 invariant-loop-i l =
-    Remains l.initial.text l.at (prefix_text 0 (prefix_of l.prefix)) l.text l.next (prefix_text l.last (drop l.i (prefix_of l.prefix)))
+    Remains l.initial.text l.at (prefix_text 0 (prefix_of l.prefix.words.now)) l.text l.next (prefix_text l.last (drop l.i (prefix_of l.prefix.words.now)))

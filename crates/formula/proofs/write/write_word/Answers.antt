@@ -9,24 +9,24 @@ use Rattle.formula.proofs.write.write_word.Goals as goal
 pub write_bytes-requires : goal.write_bytes-requires
 write_bytes-requires c =
     let e : to_z w32 (of_z w32 c.args.word) ≡ c.args.word = search rules in
-    rw (text_zero c.args.word (rw e at (sym c.of.ensures ∙ c.in-Zero.is))) at c.requires.word_bound_2
+    rw (text_zero c.args.word (rw e at (sym c.of.ensures ∙ c.in-Zero.is))) at c.requires.place_fits
 
 pub write_spaced-requires : goal.write_spaced-requires
 write_spaced-requires c =
     let e : to_z w32 (of_z w32 c.args.word) ≡ c.args.word = search rules in
-    rw (text_positive c.args.word c.in-Positive.v (rw e at (sym c.of.ensures ∙ c.in-Positive.is))) at c.requires.word_bound_2
+    rw (text_positive c.args.word c.in-Positive.v (rw e at (sym c.of.ensures ∙ c.in-Positive.is))) at c.requires.place_fits
 
 pub put-next-requires : goal.put-next-requires
 put-next-requires c =
     let e : to_z w32 (of_z w32 c.args.word) ≡ c.args.word = search rules in
     below_first _ (45 ∷ []) (decimal c.in-Negative.v.0 ++ (32 ∷ []))
-    (rw (text_negative c.args.word c.in-Negative.v (rw e at (sym c.of.ensures ∙ c.in-Negative.is))) at c.requires.word_bound_2)
+    (rw (text_negative c.args.word c.in-Negative.v (rw e at (sym c.of.ensures ∙ c.in-Negative.is))) at c.requires.place_fits)
 
 pub write_spaced-requires-in-Negative : goal.write_spaced-requires-in-Negative
 write_spaced-requires-in-Negative c =
     let e : to_z w32 (of_z w32 c.args.word) ≡ c.args.word = search rules in
     below_rest (decimal c.in-Negative.v.0 ++ (32 ∷ []))
-    (rw (text_negative c.args.word c.in-Negative.v (rw e at (sym c.of.ensures ∙ c.in-Negative.is))) at c.requires.word_bound_2)
+    (rw (text_negative c.args.word c.in-Negative.v (rw e at (sym c.of.ensures ∙ c.in-Negative.is))) at c.requires.place_fits)
     c.put-next.ensures
 
 pub returns-in-Zero : goal.returns-in-Zero
@@ -37,7 +37,7 @@ returns-in-Zero c =
 pub returns-in-TooLarge : goal.returns-in-TooLarge
 returns-in-TooLarge c =
     let e : to_z w32 (of_z w32 c.args.word) ≡ c.args.word = search rules in
-    not_too_large c.args.word c.requires.word_bound (rw e at (sym c.of.ensures ∙ c.in-TooLarge.is))
+    not_too_large c.args.word c.requires.in_range (rw e at (sym c.of.ensures ∙ c.in-TooLarge.is))
 
 pub returns-in-Positive : goal.returns-in-Positive
 returns-in-Positive c =

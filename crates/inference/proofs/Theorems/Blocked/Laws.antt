@@ -2,9 +2,9 @@
 -- nothing.
 use Rattle.std.specs.Prelude.{true}
 use Rattle.std.specs.Prelude.{false}
-use Rattle.std.specs.Prelude.{ℕ, ◌<◌, ◌≤◌, ◌≡◌, Bool, ◌&&◌, eqb, length, get_or, take, drop, ℤ, nat_abs}
+use Rattle.std.specs.Prelude.{ℕ, ◌<◌, ◌≤◌, ◌≡◌, Bool, ◌&&◌, ◌+◌, eqb, length, get_or, take, drop, ℤ, nat_abs}
 use Rattle.std.proofs.Math.Path.{refl, ap, ap₂}
-use Rattle.std.proofs.Common.{sym, ◌∙◌, arith, eq-eqb, ne_eqb, length-take}
+use Rattle.std.proofs.Common.{sym, ◌∙◌, arith, eq-eqb, ne_eqb, length-take, add-one, drop-cons, drop_of_length-le}
 use Rattle.std.proofs.Math.Bool.{◌||◌}
 use mathlib.Core.List.Memᴰ
 use mathlib.Core.List.{List, [], ◌∷◌}
@@ -21,7 +21,9 @@ use Rattle.formula.specs.Word.Laws.{variable_magnitude, variable_large}
 use Rattle.formula.specs.Decode.{formula_of}
 use Rattle.formula.specs.Free.{occurs}
 use Rattle.formula.specs.Prefix.{prefix_of, with_blocks, Entries}
-use Rattle.formula.specs.Prefix.Laws.{blocks_ranged}
+use Rattle.formula.specs.Prefix.Laws.{blocks_ranged, blocks_length}
+use Rattle.formula.specs.Refusal.{no_blocker}
+use Rattle.qbf.specs.Formula.{Prefix}
 use Rattle.inference.specs.Words.{Words, AllInRange}
 use Rattle.inference.specs.Steps.{blocked, leftmost, blocker_of}
 use Rattle.inference.proofs.Theorems.Steps.Tests.{leftmost_same}
@@ -87,3 +89,10 @@ variable_is w n h e = eq-eqb n (nat_abs w) (sym e ∙ variable_near w (omega ari
 
 pub variable_other : (w : ℤ) (n : ℕ) → n ≤ 1024 → (variable_of (word_of w) ≡ n → ⊥) → eqb n (nat_abs w) ≡ false
 variable_other w n h o = ne_eqb n (nat_abs w) (λ e. o (variable_magnitude w (omega arith) ∙ sym e))
+
+-- The entries from a place on: that one first, or none.
+pub blocks_drop : (P : Prefix) (i : ℕ) → i < length P → drop i (with_blocks P) ≡ get_or (with_blocks P) i no_blocker ∷ drop (i + 1) (with_blocks P)
+blocks_drop P i h = rw (add-one i) (drop-cons (with_blocks P) i no_blocker (omega (arith, h, blocks_length 0 0 P)))
+
+pub blocks_past : (P : Prefix) (i : ℕ) → length P ≤ i → drop i (with_blocks P) ≡ []
+blocks_past P i h = drop_of_length-le (with_blocks P) (omega (arith, h, blocks_length 0 0 P))

@@ -10,5 +10,5 @@ use Rattle.inference.proofs.blocked.find_blocker.Given as goal
 
 abbrev pub invariant-loop-i : goal.invariant-loop-i
 invariant-loop-i l =
-    leftmost (blocks_by (row_in l.scratch) (clause_at l.words l.from)) (with_blocks (prefix_of l.prefix))
-    ≡ leftmost (blocks_by (row_in l.scratch) (clause_at l.words l.from)) (drop l.i (with_blocks (prefix_of l.prefix)))
+    leftmost (blocks_by (row_in l.row) (clause_at l.words l.from)) (with_blocks (prefix_of l.prefix.words.now))
+    ≡ leftmost (blocks_by (row_in l.row) (clause_at l.words l.from)) (drop l.i (with_blocks (prefix_of l.prefix.words.now)))

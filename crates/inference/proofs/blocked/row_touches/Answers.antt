@@ -11,5 +11,5 @@ use Rattle.inference.proofs.blocked.row_touches.Goals as goal
 
 pub returns : goal.returns
 returns c =
-    let row = row_in c.args.scratch.now in
+    let row = row_in c.args.row.now in
     c.any_word.ensures (λ (x : ℤ). eqb (get_or row (nat_abs x) 0) 1) (λ x b m h. search rules) ∙ touches_any row (clause_at c.args.words.now c.args.from)

@@ -8,4 +8,4 @@ use Rattle.inference.proofs.existentials.fill_quantified.Given as goal
 
 abbrev pub invariant-loop-i : goal.invariant-loop-i
 invariant-loop-i l =
-    (flags_from (quantifier_of l.existential) (flags l.flags) (drop l.i (prefix_of l.prefix)) ≡ quantified_flags (quantifier_of l.existential) (drop l.from (prefix_of l.prefix)))
+    (flags_from (quantifier_of l.existential) (flags l.flags) (drop l.i (prefix_of l.prefix.words.now)) ≡ quantified_flags (quantifier_of l.existential) (drop l.from (prefix_of l.prefix.words.now)))

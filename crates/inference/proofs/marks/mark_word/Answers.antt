@@ -1,29 +1,21 @@
 -- `mark_word` looks at the opposite's mark and stores its own. Assumes nothing.
 use Prim.Native.Nat.{ℕ}
 use mathlib.Core.Path.{◌≡◌, ap, ◌∙◌}
-use native.Mathlib.Omega.{arith}
-use borrow.Author.Rules.{rules}
 use lib.Dec.{eqb}
-use lib.ListN.{length, get_or, set}
+use lib.ListN.{get_or, set}
 use lib.IntN.{neg_ℤ}
 use mir.Syntax.{w32}
 use mir.Val.{to_z, of_z}
 use mir.Facts.{to_z-of_z}
 use Rattle.inference.specs.Marks.{slot_at, marks_in}
 use Rattle.inference.specs.Marks.Laws.{slot_bits, mark_stored, mark_left_out, mark_one}
-use Rattle.inference.proofs.Signed.{read_same, read_slot}
+use Rattle.inference.proofs.Signed.{bits_same, bits_apart, read_slot}
 use Rattle.inference.proofs.marks.mark_word.Goals as goal
 
-pub returns-then-same : goal.returns-then-same
-returns-then-same c =
+pub returns-then-except-word : goal.returns-then-except-word
+returns-then-except-word c =
     mark_left_out (marks_in c.args.marks.now) c.args.except c.args.word
-    (read_same c.args.except c.args.word c.ranges.except c.ranges.word c.same.ensures c.if-same.true)
-
-pub put-requires : goal.put-requires
-put-requires c =
-    let b = slot_bits c.args.word c.slot.result (read_slot _ c.ranges.word c.slot.ensures) c.requires in
-    let e : length c.args.marks.now ≡ 256 = search rules in
-    omega arith
+    (bits_same c.args.except c.args.word c.ranges.except c.ranges.word c.if-except-word.true)
 
 pub returns : goal.returns
 returns c =
@@ -35,8 +27,4 @@ returns c =
     let left : marks_in c.put.new.bytes ≡ set (marks_in marks) (slot_at x) 1 =
     mark_stored marks c.put.new.bytes c.slot.result 1 (slot_bits c.args.word c.slot.result at c.requires).0 c.put.ensures ∙ ap (λ (s : ℕ). set (marks_in marks) s 1) at in
     rw (met, left)
-    (mark_one (marks_in marks) c.args.except x
-    (read_same c.args.except x c.ranges.except c.ranges.word c.same.ensures c.if-same.false))
-
-pub overflow_sub-slot : goal.overflow_sub-slot
-overflow_sub-slot c = (slot_bits c.args.word c.slot.result (read_slot _ c.ranges.word c.slot.ensures) c.requires).0
+    (mark_one (marks_in marks) c.args.except x (bits_apart c.args.except x c.if-except-word.false))

@@ -1,13 +1,11 @@
 -- `tick_word` clears the mark of a word that is marked; a slot below 2 has none. Assumes nothing.
-use Rattle.std.specs.Prelude.{ℕ, ◌<◌, ◌≤◌, ◌-◌, ◌≡◌, List, Bool, false, ℤ}
+use Rattle.std.specs.Prelude.{ℕ, ◌≤◌, ◌-◌, ◌≡◌, List, Bool, false, ℤ}
 use Rattle.std.proofs.Common.{ap, sym, ◌∙◌}
-use native.Mathlib.Omega.{arith}
-use borrow.Author.Rules.{rules}
 use lib.Dec.{eqb}
-use lib.ListN.{length, get_or}
+use lib.ListN.{get_or}
 use Rattle.bits.specs.Flags.{flags}
 use Rattle.inference.specs.Marks.{slot_at, marks_in}
-use Rattle.inference.specs.Marks.Laws.{slot_at_bound, mark_read, mark_stored, mark_none, tick_one, tick_none}
+use Rattle.inference.specs.Marks.Laws.{mark_read, mark_stored, mark_none, tick_one, tick_none}
 use Rattle.inference.proofs.Signed.{read_slot}
 use Rattle.inference.proofs.marks.tick_word.Goals as goal
 
@@ -15,20 +13,6 @@ use Rattle.inference.proofs.marks.tick_word.Goals as goal
 marked_of : (marks : List ℕ) (word : ℤ) (slot : ℕ) (b : Bool) → slot ≡ slot_at word → 2 ≤ slot → b ≡ eqb (get_or (flags marks) (slot - 2) 0) 1 → b ≡ eqb (get_or (marks_in marks) (slot_at word) 0) 1
 marked_of marks word slot b s h e =
     e ∙ ap (λ (n : ℕ). eqb n 1) (mark_read marks slot h) ∙ ap (λ (k : ℕ). eqb (get_or (marks_in marks) k 0) 1) s
-
-pub is_set-requires : goal.is_set-requires
-is_set-requires c =
-    let b : c.slot-slot.result < 2050 = rw (read_slot _ c.ranges.word c.slot-slot.ensures) (slot_at_bound c.args.word) in
-    let e : length c.args.marks.now ≡ 256 = search rules in
-    let l = c.if-slot-lt2.false in
-    omega arith
-
-pub put-requires : goal.put-requires
-put-requires c =
-    let b : c.slot-slot.result < 2050 = rw (read_slot _ c.ranges.word c.slot-slot.ensures) (slot_at_bound c.args.word) in
-    let e : length c.args.marks.now ≡ 256 = search rules in
-    let l = c.if-slot-lt2.false in
-    omega arith
 
 pub returns-then-slot-lt2 : goal.returns-then-slot-lt2
 returns-then-slot-lt2 c =

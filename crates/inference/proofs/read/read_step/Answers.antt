@@ -1,84 +1,24 @@
 -- `read_step` by the kind word and the closing 0. Assumes nothing.
-use Rattle.std.specs.Prelude.{◌≡◌, ◌+◌, ℕ, ℤ, pos, get_or, Option, Some}
-use Rattle.std.proofs.Common.{ap, sym, ◌∙◌, arith, rules, to_z}
+use Rattle.std.specs.Prelude.{◌≡◌, ◌+◌, ◌-◌, pos, get_or}
+use Rattle.std.proofs.Common.{ap, sym, ◌∙◌, rules, to_z, refl}
 use mir.Syntax.{w32}
 use mir.Val.{of_z}
-use Rattle.inference.specs.declared.read.Family.{Family}
-use Rattle.inference.specs.declared.read.StepKind.{StepKind}
-use Rattle.inference.specs.Words.{Words}
 use Rattle.inference.specs.Read.{kind_is}
-use Rattle.inference.specs.Read.Laws.{close_within, resolution_read, reduction_read, resolution_broken, reduction_broken, kind_broken}
+use Rattle.inference.specs.Read.Laws.{second_by, fields_read}
 use Rattle.inference.proofs.Signed.{read_back}
 use Rattle.inference.proofs.read.read_step.Goals as goal
+use Rattle.inference.proofs.read.read_step.Goals.{in-Resolution, in-Reduction}
 
--- the kind that the first word was read as
-kind_at :
-    (steps : Words) (at : ℕ) (f : Family) (w : ℤ) (o r : Option StepKind) → w ≡ get_or steps at (pos 0) → o ≡ kind_is f w → o ≡ r
-    → r ≡ kind_is f (get_or steps at (pos 0))
-kind_at steps at f w o r e k q = sym q ∙ k ∙ ap (kind_is f) e
-
-pub returns-in_err-kind_of : goal.returns-in_err-kind_of
-returns-in_err-kind_of c =
+pub returns : goal.returns
+returns c =
     let a = c.args in
-    rw c.from_residual.ensures
-    (kind_broken a.family a.steps.now a.at c.requires (kind_at a.steps.now a.at a.family _ _ _ (read_back _ (search rules)) c.kind_of.ensures c.in_err-kind_of.was))
-
-pub returns-in_err-next-in-Resolution : goal.returns-in_err-next-in-Resolution
-returns-in_err-next-in-Resolution c =
-    let a = c.args in
-    let kind = kind_at a.steps.now a.at a.family _ _ _ (read_back _ (search rules)) c.kind_of.ensures (c.in_ok-kind_of.was ∙ ap Some c.in-Resolution.is) in
-    rw c.from_residual-in_err-next-in-Resolution.ensures
-    (resolution_broken a.family a.steps.now a.at c.requires kind (sym c.in_err-next-in-Resolution.was ∙ c.close_of.ensures))
-
-pub bounds-steps-at-in-Resolution : goal.bounds-steps-at-in-Resolution
-bounds-steps-at-in-Resolution c =
-    let h = close_within c.args.steps.now (c.args.at + 4) c.in_ok-next-in-Resolution.next (sym c.in_ok-next-in-Resolution.was ∙ c.close_of.ensures) in
-    omega arith
-
-pub bounds-steps-at-in-Resolution-2 : goal.bounds-steps-at-in-Resolution-2
-bounds-steps-at-in-Resolution-2 c =
-    let h = close_within c.args.steps.now (c.args.at + 4) c.in_ok-next-in-Resolution.next (sym c.in_ok-next-in-Resolution.was ∙ c.close_of.ensures) in
-    omega arith
-
-pub bounds-steps-at-in-Resolution-3 : goal.bounds-steps-at-in-Resolution-3
-bounds-steps-at-in-Resolution-3 c =
-    let h = close_within c.args.steps.now (c.args.at + 4) c.in_ok-next-in-Resolution.next (sym c.in_ok-next-in-Resolution.was ∙ c.close_of.ensures) in
-    omega arith
-
-pub returns-in_err-next-in-Reduction : goal.returns-in_err-next-in-Reduction
-returns-in_err-next-in-Reduction c =
-    let a = c.args in
-    let kind = kind_at a.steps.now a.at a.family _ _ _ (read_back _ (search rules)) c.kind_of.ensures (c.in_ok-kind_of.was ∙ ap Some c.in-Reduction.is) in
-    rw c.from_residual-in_err-next-in-Reduction.ensures
-    (reduction_broken a.family a.steps.now a.at c.requires kind (sym c.in_err-next-in-Reduction.was ∙ c.close_of-in-Reduction.ensures))
-
-pub bounds-steps-at-in-Reduction : goal.bounds-steps-at-in-Reduction
-bounds-steps-at-in-Reduction c =
-    let h = close_within c.args.steps.now (c.args.at + 3) c.in_ok-next-in-Reduction.next (sym c.in_ok-next-in-Reduction.was ∙ c.close_of-in-Reduction.ensures) in
-    omega arith
-
-pub bounds-steps-at-in-Reduction-2 : goal.bounds-steps-at-in-Reduction-2
-bounds-steps-at-in-Reduction-2 c =
-    let h = close_within c.args.steps.now (c.args.at + 3) c.in_ok-next-in-Reduction.next (sym c.in_ok-next-in-Reduction.was ∙ c.close_of-in-Reduction.ensures) in
-    omega arith
-
-pub returns-in_ok-next-in-Resolution : goal.returns-in_ok-next-in-Resolution
-returns-in_ok-next-in-Resolution c =
-    let a = c.args in
-    let word : ℕ → ℤ = λ n. get_or a.steps.now (a.at + n) (pos 0) in
-    let kind = kind_at a.steps.now a.at a.family _ _ _ (read_back _ (search rules)) c.kind_of.ensures (c.in_ok-kind_of.was ∙ ap Some c.in-Resolution.is) in
-    let one : to_z w32 (of_z w32 (word 1)) ≡ word 1 = search rules in
-    let two : to_z w32 (of_z w32 (word 2)) ≡ word 2 = search rules in
-    let three : to_z w32 (of_z w32 (word 3)) ≡ word 3 = search rules in
-    rw (one, two, three)
-    (resolution_read a.family a.steps.now a.at c.requires c.in_ok-next-in-Resolution.next kind (sym c.in_ok-next-in-Resolution.was ∙ c.close_of.ensures))
-
-pub returns-in_ok-next-in-Reduction : goal.returns-in_ok-next-in-Reduction
-returns-in_ok-next-in-Reduction c =
-    let a = c.args in
-    let word : ℕ → ℤ = λ n. get_or a.steps.now (a.at + n) (pos 0) in
-    let kind = kind_at a.steps.now a.at a.family _ _ _ (read_back _ (search rules)) c.kind_of.ensures (c.in_ok-kind_of.was ∙ ap Some c.in-Reduction.is) in
-    let one : to_z w32 (of_z w32 (word 1)) ≡ word 1 = search rules in
-    let two : to_z w32 (of_z w32 (word 2)) ≡ word 2 = search rules in
-    rw (one, two)
-    (reduction_read a.family a.steps.now a.at c.requires c.in_ok-next-in-Reduction.next kind (sym c.in_ok-next-in-Reduction.was ∙ c.close_of-in-Reduction.ensures))
+    let w = ap (kind_is a.family) (read_back (get_or a.steps.now a.at (pos 0)) (search rules)) in
+    let first : to_z w32 (of_z w32 (get_or a.steps.now (a.at + 1) (pos 0))) ≡ get_or a.steps.now (a.at + 1) (pos 0) = search rules in
+    let second : to_z w32 c.match-kind.second-bits ≡ second_by c.in_ok-kind.kind (get_or a.steps.now (a.at + 2) (pos 0)) =
+    elim c.match-kind.branch [
+      | in-Resolution w ↦ w.second-is ∙ rw w.in-Resolution.is (read_back _ (search rules))
+      | in-Reduction w ↦ w.second-is ∙ rw w.in-Reduction.is refl
+    ] in
+    let pivot : to_z w32 (of_z w32 (get_or a.steps.now (c.statement_by-statement.result - 1) (pos 0))) ≡ get_or a.steps.now (c.statement_by-statement.result - 1) (pos 0) = search rules in
+    rw (first, second, pivot, c.statement_by-statement.ensures)
+    (fields_read a.family a.steps.now a.at c.requires c.in_ok-kind.kind c.in_ok-next.next (sym c.in_ok-kind.was ∙ c.kind_of.ensures ∙ w) (rw c.statement_by-statement.ensures at (sym c.in_ok-next.was ∙ c.close_of.ensures)))

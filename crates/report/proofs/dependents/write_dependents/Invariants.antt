@@ -9,4 +9,4 @@ use Rattle.report.proofs.dependents.write_dependents.Given as goal
 
 abbrev pub invariant-loop-i : goal.invariant-loop-i
 invariant-loop-i l =
-    Remains l.initial.text l.at (marked (row_in l.scratch) (prefix_of l.prefix)) l.text l.next (marked (row_in l.scratch) (drop l.i (prefix_of l.prefix)))
+    Remains l.initial.text l.at (marked (row_in l.made) (prefix_of l.prefix.words.now)) l.text l.next (marked (row_in l.made) (drop l.i (prefix_of l.prefix.words.now)))

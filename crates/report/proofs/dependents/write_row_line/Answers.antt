@@ -11,15 +11,15 @@ pub write_number-next-requires : goal.write_number-next-requires
 unfolding row_line
 write_number-next-requires c =
     let s = c in
-    below_first _ (decimal s.args.variable.0) (58 ∷ (marked (row_in s.args.scratch.now) (prefix_of s.args.prefix.now) ++ (10 ∷ []))) s.requires.variable_bound
+    below_first _ (decimal s.args.variable.0) (58 ∷ (marked (row_in s.args.made.now) (prefix_of s.args.prefix.words.now) ++ (10 ∷ []))) s.requires
 
 pub put-next-requires : goal.put-next-requires
 unfolding row_line
 put-next-requires c =
     let number = c in
     let s = number.before.before.before.before in
-    let rest = marked (row_in s.args.scratch.now) (prefix_of s.args.prefix.now) ++ (10 ∷ []) in
-    below_first _ (58 ∷ []) rest (below_rest (58 ∷ rest) s.requires.variable_bound number.write_number-next.ensures)
+    let rest = marked (row_in s.args.made.now) (prefix_of s.args.prefix.words.now) ++ (10 ∷ []) in
+    below_first _ (58 ∷ []) rest (below_rest (58 ∷ rest) s.requires number.write_number-next.ensures)
 
 pub write_dependents-next-requires : goal.write_dependents-next-requires
 unfolding row_line
@@ -27,8 +27,8 @@ write_dependents-next-requires c =
     let colon = c in
     let number = colon.before.before.before.before in
     let s = number.before.before.before.before in
-    let m = marked (row_in s.args.scratch.now) (prefix_of s.args.prefix.now) in
-    record { entries = s.requires.entries; scratch_bound_in_bounds = s.requires.scratch_bound_in_bounds; prefix_bound = below_first _ m (10 ∷ []) (below_rest (m ++ (10 ∷ [])) (below_rest (58 ∷ (m ++ (10 ∷ []))) s.requires.variable_bound number.write_number-next.ensures) colon.put-next.ensures) }
+    let m = marked (row_in s.args.made.now) (prefix_of s.args.prefix.words.now) in
+    (below_first _ m (10 ∷ []) (below_rest (m ++ (10 ∷ [])) (below_rest (58 ∷ (m ++ (10 ∷ []))) s.requires number.write_number-next.ensures) colon.put-next.ensures))
 
 pub put-requires : goal.put-requires
 unfolding row_line
@@ -37,8 +37,8 @@ put-requires c =
     let colon = list.before.before.before.before in
     let number = colon.before.before.before.before in
     let s = number.before.before.before.before in
-    let m = marked (row_in s.args.scratch.now) (prefix_of s.args.prefix.now) in
-    below_rest (10 ∷ []) (below_rest (m ++ (10 ∷ [])) (below_rest (58 ∷ (m ++ (10 ∷ []))) s.requires.variable_bound number.write_number-next.ensures) colon.put-next.ensures) list.write_dependents-next.ensures
+    let m = marked (row_in s.args.made.now) (prefix_of s.args.prefix.words.now) in
+    below_rest (10 ∷ []) (below_rest (m ++ (10 ∷ [])) (below_rest (58 ∷ (m ++ (10 ∷ []))) s.requires number.write_number-next.ensures) colon.put-next.ensures) list.write_dependents-next.ensures
 
 pub returns : goal.returns
 unfolding row_line

@@ -21,4 +21,4 @@ returns c =
     let other = c in
     let s = other.before.before.before in
     rw (le-leb scratch_bound (length s.args.scratch.now) other.if-scratch-lt-SCRATCH.false)
-    (record { stores = c.write_lines.ensures; short = universal_lines_short _ _ s.requires })
+    (record { stores = c.write_lines.ensures; short = universal_lines_short _ _ s.args.tables.admitted })

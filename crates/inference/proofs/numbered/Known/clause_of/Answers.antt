@@ -1,5 +1,4 @@
 -- `clause_of`: the table and the place, by the number. Assumes nothing.
-use mathlib.Core.Path.{sym}
 use Rattle.inference.specs.Numbered.Laws.{stored_by_number, stored_in_range}
 use Rattle.inference.proofs.numbered.Known.clause_of.Goals as goal
 
@@ -13,8 +12,3 @@ invariant_of-result c =
           rw (c.table_of.ensures, c.place_of.ensures, ← stored_by_number a.inputs a.clauses.now a.steps.now a.offsets.now n p.number_positive)
           (stored_in_range a.inputs a.clauses.now a.steps.now a.offsets.now a.count n p.number_positive p.number_in_count a.in_range);
     }
-
-pub returns : goal.returns
-returns c =
-    let a = c.args.self in
-    rw (c.table_of.ensures, c.place_of.ensures) (sym (stored_by_number a.inputs a.clauses.now a.steps.now a.offsets.now c.args.number.0 c.requires.number_positive))
