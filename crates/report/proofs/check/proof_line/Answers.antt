@@ -1,16 +1,9 @@
 -- `proof_line` settles the proof file; a refusal is printed, steps are judged. Assumes nothing.
-use mathlib.Core.Path.{sym, ap}
-use lib.Seq.{length-take-le}
+use mathlib.Core.Path.{ap}
 use Rattle.report.specs.Check.{steps_line}
 use Rattle.report.specs.Settle.Laws.{proof_settled_read, proof_settled_refused}
 use Rattle.report.specs.Printing.Laws.{stores_instead}
 use Rattle.report.proofs.check.proof_line.Goals as goal
-
-pub slice_bounds-judged_line-end : goal.slice_bounds-judged_line-end
-slice_bounds-judged_line-end c = c.settle_proof.ensures.within _ c.in-Ok.is
-
-pub slice_bounds-judged_line-end-in-Ok : goal.slice_bounds-judged_line-end-in-Ok
-slice_bounds-judged_line-end-in-Ok c = sym (length-take-le _ _ (c.settle_proof.ensures.within _ c.in-Ok.is))
 
 pub returns-in-Err : goal.returns-in-Err
 unfolding steps_line
