@@ -1,5 +1,5 @@
-// The bounds on lengths and counts: one type of numbers up to a bound, with the bound as its constant and a constructor that refuses, and a name for
-// each bound. A value made by `new` is within its bound. The bound on a variable's number stands with its type, in literal.rt.
+// The bounds on lengths and counts: one type of numbers up to a bound, with a constructor that refuses, and for each bound a name and the constant.
+// A value made by `new` is within its bound. The bound on a variable's number stands with its type, in literal.rt.
 ghost use Rattle.std.specs.Prelude.{◌≡◌};
 ghost use Rattle.formula.specs.Bounds.{at_most};
 
@@ -8,14 +8,38 @@ ghost use Rattle.formula.specs.Bounds.{at_most};
 pub struct AtMost<const MAX: usize>(pub usize);
 
 impl<const MAX: usize> AtMost<MAX> {
-    pub const MAX: usize = MAX;
-
     // The number, if it is within the bound.
     pub fn new(n: usize) -> Option<AtMost<MAX>>
         ensures { result ≡ at_most MAX n }
     {
         if n <= MAX { Some(AtMost(n)) } else { None }
     }
+}
+
+// Each bound's constant stands with its instance: what a generic type's constant is, no proof is told.
+impl AtMost<1_048_576> {
+    pub const MAX: usize = 1_048_576;
+}
+
+impl AtMost<3_072> {
+    pub const MAX: usize = 3_072;
+}
+
+impl AtMost<MATRIX_WORDS> {
+    pub const MAX: usize = MATRIX_WORDS;
+}
+
+impl AtMost<8_192> {
+    pub const MAX: usize = 8_192;
+}
+
+impl AtMost<1_024> {
+    pub const MAX: usize = 1_024;
+}
+
+// A game's, of the evaluator.
+impl AtMost<16> {
+    pub const MAX: usize = 16;
 }
 
 // How many bytes a text has.
@@ -27,7 +51,7 @@ pub type PrefixLength = AtMost<3_072>;
 // How many words a clause table has.
 pub type MatrixLength = AtMost<MATRIX_WORDS>;
 
-// That bound by a name of its own: what a generic type's constant is, no proof is told.
+// That bound by a name of its own, with which the reader compares what it has used.
 pub const MATRIX_WORDS: usize = 65_536;
 
 // How many words the steps of a proof have.

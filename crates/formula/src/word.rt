@@ -48,14 +48,17 @@ impl Word {
         }
     }
 
-    // The number from 1 to 1,024 that a word is; 0 for any other word.
+    // The number from 1 to 1,024 that a word is; 0 for any other word. By its sign first, and not by `of`: a search of the prefix asks it of two words an entry.
     pub fn ordinal(word: i32) -> usize
         ensures { result ≡ ordinal word }
     {
-        match Word::of(word) {
-            Word::Positive(v) => v.0,
-            _ => 0,
+        if 0 < word {
+            return match Variable::new(word.unsigned_abs() as usize) {
+                Some(v) => v.0,
+                None => 0,
+            };
         }
+        0
     }
 
     // Whether a word is 0, which closes a clause.
