@@ -317,6 +317,11 @@ pub family_read : (steps : Words) → 0 < length steps → (o : Optional StepKin
 family_read steps h (Some k) e = family_long steps h k e
 family_read steps h None e = family_ordinary steps h e
 
+pub family_read_by : (steps : Words) → 0 < length steps → (k : Kind) → kind_read k ≡ kind_is LongDistance (get_or steps 0 (pos 0)) → family_by k ≡ family_of steps
+family_read_by steps h resolves e = family_long steps h Resolution e
+family_read_by steps h reduces e = family_long steps h Reduction e
+family_read_by steps h other e = family_ordinary steps h e
+
 pub family_none : (steps : Words) → length steps ≤ 0 → Ordinary ≡ family_of steps
 unfolding family_of
 family_none [] h = refl

@@ -58,11 +58,17 @@ text_printed {room} {formula} f p c s printed =
     }
 
 -- What `settle_formula` answered says whether the formula is read.
+pub settled_found :
+    {formula : List ℕ} {prefixRoom clauseRoom : ℕ} {prefix clauses : List ℤ} {answer found : Result Filled Refusal} → prefixRoom ≡ program_room.prefix → clauseRoom ≡ program_room.clauses
+    → FormulaSettled program_room.file formula prefixRoom clauseRoom prefix clauses answer → answer ≡ found
+    → formula_read program_room formula ≡ is_read (tables_read found prefix clauses)
+unfolding formula_read
+settled_found p c s e = rw (← p, ← c, ← e) (ap is_read s.settles)
+
 pub settled_tells :
     {formula : List ℕ} {prefixRoom clauseRoom : ℕ} {prefix clauses : List ℤ} {answer : Result Filled Refusal} → prefixRoom ≡ program_room.prefix → clauseRoom ≡ program_room.clauses
     → FormulaSettled program_room.file formula prefixRoom clauseRoom prefix clauses answer → formula_read program_room formula ≡ is_ok answer
-unfolding formula_read
-settled_tells {formula} {prefixRoom} {clauseRoom} {prefix} {clauses} {answer} p c s = rw (← p, ← c) (ap is_read s.settles ∙ told answer)
+settled_tells {formula} {prefixRoom} {clauseRoom} {prefix} {clauses} {answer} p c s = settled_found p c s refl ∙ told answer
   where
     told : (a : Result Filled Refusal) → is_read (tables_read a prefix clauses) ≡ is_ok a
     told (Ok f) = refl

@@ -2,7 +2,7 @@
 use Rattle.std.specs.Prelude.{Result, ⊤}
 use Rattle.formula.specs.declared.refusal.Reason.{Reason}
 use Rattle.std.specs.Prelude.{ℕ, ◌≡◌, ◌⊎◌, Bool, true, false, not, ◌&&◌, ◌||◌, eqb, get_or, set, ℤ, neg_ℤ}
-use Rattle.std.proofs.Common.{ap, sym, ◌∙◌, subst, inl, inr, arith}
+use Rattle.std.proofs.Common.{ap, ap₂, sym, ◌∙◌, subst, inl, inr, arith}
 use mathlib.Core.List.Memᴰ
 use mathlib.Core.List.{List, [], ◌∷◌, Memᴰ}
 use Rattle.std.proofs.lemmas.Grind.{common_steps}
@@ -12,7 +12,7 @@ use Rattle.inference.specs.Words.Laws.{without_member}
 use Rattle.inference.specs.declared.read.Family.{Family}
 use Rattle.inference.specs.declared.read.Family.TheVariants.{Ordinary, LongDistance}
 use Rattle.inference.specs.Steps.{resolvent, opposed, reduct, states}
-use Rattle.inference.specs.Marks.{slot_at, marks_in, clean, mark_all, meets, tick_if, tick_all, ticks, any_marked, Marked}
+use Rattle.inference.specs.Marks.{slot_at, marks_in, clean, mark_all, meets, tick_if, tick_all, ticks, any_marked, Marked, Ticked, Wiped}
 use Rattle.inference.specs.Marks.Laws.{mark_none, mark_append, meets_append}
 use Rattle.inference.proofs.Theorems.Marks.Judging.{clean_meets, Showing, marked_shows, unmarked_shows, shown_states}
 use Rattle.inference.specs.Result.{result_reason, unmarked_in, decided, JudgedClean}
@@ -60,6 +60,17 @@ module _ (R L : Words) (range : AllInRange R) (bytes : List ℕ) (showing : Show
       → r ≡ decided wrong (ticks (marks_in bytes) L) (any_marked (tick_all (marks_in bytes) L)) → m ≡ clean
       → JudgedClean (result_reason wrong R L) r m
   judged_result wrong e w = record { answer = e ∙ rw states_is; wiped = w }
+
+-- The same of what was ticked off and what was left, from any marks that show a result.
+module _ (R L : Words) (range : AllInRange R) (ticked left : Bool) (m₁ bytes m₃ : List ℕ) (showing : Showing m₁ R)
+    (k : Ticked m₁ L ticked (marks_in bytes)) (l : Wiped (marks_in bytes) left m₃) where
+  ticked_is : (ticked && not left) ≡ states R L
+  ticked_is =
+      ap₂ (λ (a b : Bool). a && not b) k.told (l.told ∙ ap any_marked k.left)
+      ∙ shown_states R L range m₁ showing (ap (λ (n : List ℕ). get_or n 1 0) (sym k.left) ∙ mark_none bytes 1 (omega arith))
+
+  pub judged_ticked : (wrong : Bool) (r : Result ⊤ Reason) → r ≡ decided wrong ticked left → JudgedClean (result_reason wrong R L) r m₃
+  judged_ticked wrong r e = record { answer = e ∙ rw ticked_is; wiped = l.left }
 
 -- The marks of a result, from clean ones, and what marking told.
 module _ (R : Words) (range : AllInRange R) (met : Bool) (m m₁ : List ℕ) (start : m ≡ clean) (h : Marked m R met m₁) where
