@@ -1,26 +1,24 @@
-// A list of cases: a file of lines, a case a line, whose fields are parted by bars. A line that begins with # says what the cases behind
-// it show; it and an empty line are passed over.
+// A list of cases: a text of lines, a case a line, whose fields are parted by bars. A line that begins with # says what the cases behind
+// it show; it and an empty line are passed over. The test programs hold their lists, so that they print the same wherever they are run.
 ghost use Rattle.std.specs.Prelude.{ℕ, MatchResult};
 ghost use Rattle.caselist.specs.Numbers.{IsPair};
 
 use anyhow::{Result, bail};
-use std::fs;
-use std::rt::Files;
+use std::alloc::Global;
 
 // Runs each case of a list, handed over as its fields, up to the first that fails.
-pub fn run_list<R: Files + AllocGlobal, F: FnMut(&[&str]) -> Result<()>>(
-    rt: &R,
-    file: &str,
+pub fn run_list<F: FnMut(&[&str]) -> Result<()>>(
+    alloc: Global,
+    list: &str,
     mut case: F,
 ) -> Result<()>
     requires { F.IsAlwaysCallable case }
 {
-    let list = fs::read_to_string(rt, file)?;
     for line in list.lines() {
         if line.is_empty() || line.starts_with('#') {
             continue;
         }
-        let fields: Vec<&str> = line.split('|').collect(rt.alloc())?;
+        let fields: Vec<&str> = line.split('|').collect(alloc)?;
         case(&fields)?;
     }
     Ok(())

@@ -4,7 +4,7 @@ ghost use Rattle.std.specs.List.{starts_with, position_or_len, before_first, aft
 ghost use Rattle.caselist.specs.Clear.{sevens};
 ghost use Rattle.caselist.specs.Tokens.{record_of, records_to, WritesRepeated, TokenWrites, FieldWrites};
 
-use anyhow::Result;
+use anyhow::{Result, bail};
 use std::alloc::Global;
 
 // Puts the record of a variable to the end: existential in block 1 or, in turn, existential and universal, each in a block of its own.
@@ -31,9 +31,10 @@ fn push_records(words: &mut Vec<i32>, last: i32, in_turn: bool) -> Result<()>
 fn push_times(words: &mut Vec<i32>, word: i32, times: usize) -> Result<()>
     ensures { OnOk result (words.new.items ≡ words.old.items ++ replicate times word) }
 {
-    for _ in 0..times {
-        words.push(word)?;
-    }
+    let Some(length) = words.len().checked_add(times) else {
+        bail!("no room for so many words: {times}");
+    };
+    words.resize(length, word)?;
     Ok(())
 }
 

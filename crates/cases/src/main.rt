@@ -1,10 +1,11 @@
 // Worked cases of text, tables, writing, rows and games, run through the library: the known positions of the specification that
 // have no letter, each refusal of text and of tables and those that writing, rows and games add, and the order of refusals. The cases
-// stand in the lists of data/. Each line printed names its case and gives the answer; the file stdout beside src/ holds what the
+// stand in the lists of lists/. Each line printed names its case and gives the answer; the file stdout beside src/ holds what the
 // specification says of each. What a proof and its file are refused for is in the program `refusals`.
 #![tactic(auto)]
 
 mod games;
+mod lists;
 mod rows;
 mod tables;
 mod text;
@@ -39,16 +40,14 @@ fn run_text(rt: &(impl Print + AllocGlobal), fields: &[&str]) -> Result<()> {
 fn run_case(rt: &(impl Print + AllocGlobal), fields: &[&str]) -> Result<()> {
     let alloc = rt.alloc();
     match fields {
-        ["tables", name, prefix, clauses] => tables::case(
-            rt,
-            name,
-            &Tables::parse(alloc, prefix, clauses)?,
-        ),
-        ["game", name, prefix, clauses] => games::case(
-            rt,
-            name,
-            &Tables::parse(alloc, prefix, clauses)?,
-        ),
+        ["tables", name, prefix, clauses] => {
+            tables::case(rt, name, &Tables::parse(alloc, prefix, clauses)?);
+            Ok(())
+        }
+        ["game", name, prefix, clauses] => {
+            games::case(rt, name, &Tables::parse(alloc, prefix, clauses)?);
+            Ok(())
+        }
         ["written", name, prefix, clauses, bytes] => {
             written::case(
                 rt,
@@ -79,8 +78,14 @@ fn run_case(rt: &(impl Print + AllocGlobal), fields: &[&str]) -> Result<()> {
 
 // All cases, list by list.
 fn main(rt: HostRuntime) -> Result<()> {
-    for file in ["texts", "tables", "written", "rows", "games"] {
-        run_list(&rt, file, |fields| run_case(&rt, fields))?;
+    for list in [
+        lists::texts::LIST,
+        lists::tables::LIST,
+        lists::written::LIST,
+        lists::rows::LIST,
+        lists::games::LIST,
+    ] {
+        run_list(rt.alloc(), list, |fields| run_case(&rt, fields))?;
     }
     Ok(())
 }

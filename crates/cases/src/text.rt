@@ -5,7 +5,7 @@ use caselist::words::Tables;
 use formula::read::read_formula;
 
 // Prints what reading into the tables lent answers, to the end of the line.
-pub fn reading(rt: &impl Print, text: &[u8], lent: &mut Tables) -> Result<()> {
+pub fn reading(rt: &impl Print, text: &[u8], lent: &mut Tables) {
     let prefix = lent.prefix.as_mut_slice();
     let clauses = lent.clauses.as_mut_slice();
     match read_formula(text, prefix, clauses) {
@@ -17,7 +17,8 @@ pub fn reading(rt: &impl Print, text: &[u8], lent: &mut Tables) -> Result<()> {
                 filled.clauses,
                 Words(prefix),
                 Words(clauses)
-            )?;
+            )
+            .unwrap_or(());
         }
         Err(r) => {
             println!(rt;
@@ -25,10 +26,10 @@ pub fn reading(rt: &impl Print, text: &[u8], lent: &mut Tables) -> Result<()> {
                 Refused(r),
                 unless_clear(prefix, ", table not clear"),
                 unless_clear(clauses, ", table not clear")
-            )?;
+            )
+            .unwrap_or(());
         }
     }
-    Ok(())
 }
 
 // Reads a text into tables of so many words, and gives them back.
@@ -39,8 +40,8 @@ fn read(
     (prefix, clauses): (usize, usize),
 ) -> Result<Tables> {
     let mut lent = Tables::lent(rt.alloc(), prefix, clauses)?;
-    print!(rt; "text, {name}: ")?;
-    reading(rt, text, &mut lent)?;
+    print!(rt; "text, {name}: ").unwrap_or(());
+    reading(rt, text, &mut lent);
     Ok(lent)
 }
 
@@ -67,15 +68,16 @@ pub fn left(
         "text, the tables then:{}{}",
         Words(&tables.prefix),
         Words(&tables.clauses)
-    )?;
+    )
+    .unwrap_or(());
     Ok(())
 }
 
 // A text cut at each byte.
 pub fn cuts(rt: &(impl Print + AllocGlobal), text: &[u8]) -> Result<()> {
     for n in 0..=text.len() {
-        print!(rt; "text cut at {n}: ")?;
-        reading(rt, &text[..n], &mut Tables::lent(rt.alloc(), 4, 3)?)?;
+        print!(rt; "text cut at {n}: ").unwrap_or(());
+        reading(rt, &text[..n], &mut Tables::lent(rt.alloc(), 4, 3)?);
     }
     Ok(())
 }

@@ -2,63 +2,77 @@
 // evaluator says of the formula, which it plays up to 16 variables. The file stdout holds the line that each must give.
 #![tactic(auto)]
 
-use anyhow::Result;
-use caselist::words::Tables;
 use evaluator::evaluation::evaluate;
+use files::{print_first, print_number, read_file};
 use formula::read::read_formula;
 use report::program::program_line;
-use std::fs;
+use std::alloc::AllocError;
 use std::rt::Files;
 
+// Prints bytes.
+fn say(rt: &(impl Print + Eprint), text: &[u8]) {
+    print_first(rt, text, text.len());
+}
+
 // Prints the line of the first program.
-fn check(rt: &(impl Print + AllocGlobal), formula: &[u8], proof: &[u8]) -> Result<()> {
-    let mut line = vec![in rt.alloc(); 0u8; 160]?;
+fn check(rt: &(impl Print + Eprint), formula: &[u8], proof: &[u8]) {
+    let mut line = [0u8; 160];
     let n = program_line(formula, proof, &mut line);
-    rt.write_all(&line[..n])?;
-    Ok(())
+    print_first(rt, &line, n);
 }
 
 // Prints what the evaluator answers; a refusal by its number and its place.
-fn evaluated(rt: &impl Print, prefix: &[i32], clauses: &[i32]) -> Result<()> {
+fn evaluated(rt: &(impl Print + Eprint), prefix: &[i32], clauses: &[i32]) {
     match evaluate(prefix, clauses) {
-        Ok(value) => println!(rt; "{value}")?,
+        Ok(true) => say(rt, b"true\n"),
+        Ok(false) => say(rt, b"false\n"),
         Err(refusal) => {
-            let number = refusal.reason.number();
-            println!(rt; "refused {number} {}", refusal.place)?;
+            say(rt, b"refused ");
+            print_number(rt, refusal.reason.number() as usize);
+            say(rt, b" ");
+            print_number(rt, refusal.place);
+            say(rt, b"\n");
         }
     }
-    Ok(())
 }
 
 // Prints what the evaluator says of the formula, read into tables.
-fn play(rt: &(impl Print + AllocGlobal), formula: &[u8]) -> Result<()> {
-    let mut read = Tables::lent(rt.alloc(), 3_072, 16_384)?;
-    match read_formula(formula, &mut read.prefix, &mut read.clauses) {
-        Err(_) => {
-            println!(rt; "unread")?;
-            Ok(())
-        }
+fn play(rt: &(impl Print + Eprint), formula: &[u8]) {
+    let mut prefix = [0i32; 3_072];
+    let mut clauses = [0i32; 16_384];
+    match read_formula(formula, &mut prefix, &mut clauses) {
+        Err(_) => say(rt, b"unread\n"),
         Ok(filled) => evaluated(
             rt,
-            &read.prefix[..filled.prefix_used],
-            &read.clauses[..filled.clauses_used],
+            &prefix[..filled.prefix_used],
+            &clauses[..filled.clauses_used],
         ),
     }
 }
 
-// Both judges on a proof from outside, by the name of its folder.
-fn outside(rt: &(impl Files + Print + AllocGlobal), name: &str) -> Result<()> {
-    let alloc = rt.alloc();
-    let formula = fs::read(rt, format!(in alloc; "{name}/formula.qdimacs")?)?;
-    let proof = fs::read(rt, format!(in alloc; "{name}/proof.qdr")?)?;
-    print!(rt; "{name}: ")?;
-    check(rt, &formula, &proof)?;
-    print!(rt; "  evaluator: ")?;
-    play(rt, &formula)
+// Both judges on a formula and its proof.
+fn judge(rt: &(impl Print + Eprint), name: &str, formula: &[u8], proof: &[u8]) {
+    say(rt, name.as_bytes());
+    say(rt, b": ");
+    check(rt, formula, proof);
+    say(rt, b"  evaluator: ");
+    play(rt, formula);
+}
+
+// Both judges on a proof from outside, by the name of its folder. Of a file as many bytes are read as the first program takes, and one more.
+fn outside(rt: &(impl Files + Print + Eprint + AllocGlobal), name: &str) -> Result<(), AllocError> {
+    let formula_path = format!(in rt.alloc(); "{name}/formula.qdimacs")?;
+    let proof_path = format!(in rt.alloc(); "{name}/proof.qdr")?;
+    let mut formula = [0u8; 65_537];
+    let mut proof = [0u8; 65_537];
+    let n = read_file(rt, formula_path.as_bytes(), &mut formula);
+    let m = read_file(rt, proof_path.as_bytes(), &mut proof);
+    judge(rt, name, &formula[..n], &proof[..m]);
+    Ok(())
 }
 
 // All of them.
-fn main(rt: HostRuntime) -> Result<()> {
+fn main(rt: HostRuntime) -> Result<(), AllocError> {
     let names = [
         "copies-qpup-nosdcl",
         "equality100-trad-nosdcl-shifted",

@@ -12,10 +12,14 @@ pub fn case(
     (clauses, words): (usize, usize),
 ) -> Result<()> {
     let mut table = vec![in rt.alloc(); 7; words]?;
-    print!(rt; "file, {name}: ")?;
+    print!(rt; "file, {name}: ").unwrap_or(());
     match read_proof(file, u32::try_from(clauses)?, &mut table) {
-        Ok(words) => println!(rt; "read {words}, table{}", Words(&table))?,
-        Err(r) => println!(rt; "{}, table {}", Refused(r), clear_or_not(is_clear(&table)))?,
+        Ok(words) => println!(rt; "read {words}, table{}", Words(&table)).unwrap_or(()),
+        Err(r) => println!(rt;
+            "{}, table {}",
+            Refused(r),
+            clear_or_not(is_clear(&table))
+        ).unwrap_or(()),
     }
     Ok(())
 }

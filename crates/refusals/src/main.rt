@@ -1,11 +1,12 @@
 // Worked cases of what a proof file and a proof are refused for: each reason with its place, every order of reasons that the
-// specification names but that of 2 in a trailer (data/files), and the cases beside them that are read or accepted, for ordinary proofs
-// (data/steps) and long-distance ones (data/long); what comes before the steps (data/buffers); and the entries that ask for 640 bytes of
-// scratch, for a proof and for a row (data/small). Each line printed names its case, gives the answer and tells whether the buffers lent
+// specification names but that of 2 in a trailer (lists/files), and the cases beside them that are read or accepted, for ordinary proofs
+// (lists/steps) and long-distance ones (lists/long); what comes before the steps (lists/buffers); and the entries that ask for 640 bytes of
+// scratch, for a proof and for a row (lists/small). Each line printed names its case, gives the answer and tells whether the buffers lent
 // were left wholly 0, of a row that was filled the scratch; the file stdout beside src/ was worked out from the specification.
 #![tactic(auto)]
 
 mod file;
+mod lists;
 mod proof;
 mod row;
 
@@ -85,9 +86,15 @@ fn run_case(rt: &(impl Print + AllocGlobal), tables: &Tables, fields: &[&str]) -
 // All cases, list by list. A list's line of a formula gives the tables for the cases behind it.
 fn main(rt: HostRuntime) -> Result<()> {
     let alloc = rt.alloc();
-    for file in ["files", "buffers", "steps", "long", "small"] {
+    for list in [
+        lists::files::LIST,
+        lists::buffers::LIST,
+        lists::steps::LIST,
+        lists::long::LIST,
+        lists::small::LIST,
+    ] {
         let mut tables = Tables::lent(alloc, 0, 0)?;
-        run_list(&rt, file, |fields| match fields {
+        run_list(alloc, list, |fields| match fields {
             ["formula", prefix, clauses] => {
                 tables = Tables::parse(alloc, prefix, clauses)?;
                 Ok(())

@@ -25,11 +25,13 @@ fn judged<'a, F: FnOnce(&[i32], &'a [i32], &'a [i32], &mut [u8], &mut [u32]) -> 
         &mut scratch,
         &mut starts,
     ) {
-        Ok(accepted) => print!(rt; "accepted {} {}", accepted.empty.0, accepted.steps)?,
-        Err(r) => print!(rt; "{}", Refused(r))?,
+        Ok(accepted) => print!(rt; "accepted {} {}", accepted.empty.0, accepted.steps).unwrap_or(
+            (),
+        ),
+        Err(r) => print!(rt; "{}", Refused(r)).unwrap_or(()),
     }
     let clear = is_clear(&scratch) && is_clear(&starts);
-    println!(rt; ", buffers {}", clear_or_not(clear))?;
+    println!(rt; ", buffers {}", clear_or_not(clear)).unwrap_or(());
     Ok(())
 }
 
@@ -41,7 +43,7 @@ pub fn large(
     steps: &[i32],
     sizes: (usize, usize),
 ) -> Result<()> {
-    print!(rt; "proof, {name}: ")?;
+    print!(rt; "proof, {name}: ").unwrap_or(());
     judged(rt, tables, steps, sizes, check_proof)
 }
 
@@ -53,6 +55,6 @@ pub fn small(
     steps: &[i32],
     sizes: (usize, usize),
 ) -> Result<()> {
-    print!(rt; "small proof, scratch {}, {name}: ", sizes.0)?;
+    print!(rt; "small proof, scratch {}, {name}: ", sizes.0).unwrap_or(());
     judged(rt, tables, steps, sizes, check_proof_small)
 }

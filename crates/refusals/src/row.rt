@@ -12,7 +12,7 @@ pub fn small(
     variable: i32,
     (scratch, row): (usize, usize),
 ) -> Result<()> {
-    print!(rt; "small row, scratch {scratch}, {name}: ")?;
+    print!(rt; "small row, scratch {scratch}, {name}: ").unwrap_or(());
     let mut scratch = vec![in rt.alloc(); 7u8; scratch]?;
     let mut row = vec![in rt.alloc(); 7u8; row]?;
     match dependency_row_small(
@@ -27,11 +27,12 @@ pub fn small(
                 "filled{}, scratch {}",
                 Dependents(&row),
                 clear_or_not(is_clear(&scratch))
-            )?;
+            )
+            .unwrap_or(());
         }
         Err(r) => {
             let clear = is_clear(&scratch) && is_clear(&row);
-            println!(rt; "{}, buffers {}", Refused(r), clear_or_not(clear))?;
+            println!(rt; "{}, buffers {}", Refused(r), clear_or_not(clear)).unwrap_or(());
         }
     }
     Ok(())

@@ -8,17 +8,29 @@
 // completed prefix (3), and no text leaves a variable unbound (7).
 #![tactic(auto)]
 
+mod pairs;
+
 use anyhow::{Result, bail};
 use caselist::list::run_list;
+use files::print_first;
+use pairs::PAIRS;
 use programs::{check_files, dependency_file};
+use std::rt::Files;
+
+// Prints the pair's names, then the first program's line and the second program's lines.
+fn run(rt: &(impl Files + Print + Eprint), formula: &str, proof: &str) {
+    for part in [formula, ", ", proof, "\n"] {
+        print_first(rt, part.as_bytes(), part.len());
+    }
+    check_files(rt, formula.as_bytes(), proof.as_bytes());
+    dependency_file(rt, formula.as_bytes());
+}
 
 // Both programs on each pair.
 fn main(rt: HostRuntime) -> Result<()> {
-    run_list(&rt, "pairs", |fields| match fields {
+    run_list(rt.alloc(), PAIRS, |fields| match fields {
         [formula, proof] => {
-            println!(rt; "{formula}, {proof}")?;
-            check_files(&rt, formula.as_bytes(), proof.as_bytes());
-            dependency_file(&rt, formula.as_bytes());
+            run(&rt, formula, proof);
             Ok(())
         }
         _ => bail!("no pair: {fields:?}"),

@@ -1,4 +1,7 @@
-# The entries that ask for 640 bytes of scratch: tables come first whatever the length of the scratch, lengths about 640, the order behind the
+// Proofs and rows in 640 bytes of scratch. The list says what its cases show.
+
+pub const LIST: &str =
+    r"# The entries that ask for 640 bytes of scratch: tables come first whatever the length of the scratch, lengths about 640, the order behind the
 # tables, steps and rows. The first formula that is right is position e with 1,024 for its 3; its row for 1 holds both existentials.
 # formula|prefix|clauses, for what is behind it.
 # small proof|name|steps, then |scratch bytes|starts where the buffers lent have other lengths than 640 and 16.
@@ -117,3 +120,4 @@ formula|1 2 1  2 1 2  3 1 2|1 2 0 -1 2 0 -2 3 0 -2 -3 0
 small row|e, 1|1
 formula|1 2 1  2 1 2|1 2 0 -1 2 0
 small row|l, 1|1
+";

@@ -1,4 +1,7 @@
-# Proof files: each refusal of the trailer, their order, and what the table for the steps then holds.
+// Proof files that are read. The list says what its cases show.
+
+pub const LIST: &str =
+    r"# Proof files: each refusal of the trailer, their order, and what the table for the steps then holds.
 # file|name|bytes, then |clauses|words where the formula has not 4 clauses or the table lent not 4 words.
 
 # 11 for fewer bytes than a trailer has.
@@ -57,3 +60,4 @@ file|a note of five bytes|note:\x02\0\0\0\xfe\xff\xff\xff\x08\0\0\0\x04\0\0\0QDR
 file|a note and distance 0|a note\0\0\0\0\x04\0\0\0QDR1
 file|a trailer as the note|\0\0\0\0\x05\0\0\0QDR1\x07\0\0\0\x04\0\0\0\x04\0\0\0QDR1
 file|the lowest and the highest number|\0\0\0\x80\xff\xff\xff\x7f\x08\0\0\0\x04\0\0\0QDR1
+";

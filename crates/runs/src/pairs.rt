@@ -1,4 +1,6 @@
-# Pairs of a formula and a proof: formula|proof. proof/missing is no file.
+// The pairs of files that the programs are run on.
+
+pub const PAIRS: &str = r"# Pairs of a formula and a proof: formula|proof. proof/missing is no file.
 
 # Proofs that are right: with a note ahead of the steps, without steps; one of them again with a step behind its empty clause; dependents in
 # prefix order; the example without a set for its outermost variable, and all 1,024 variables without one.
@@ -100,3 +102,4 @@ formula/merging-blocked|proof/merged-blocked
 formula/merging|proof/merged-one-left
 formula/reduction|proof/after-empty-long
 formula/example|proof/example-long
+";

@@ -1,4 +1,7 @@
-# The evaluator: games won and lost, its own bound, and the refusals of tables ahead of it.
+// Games that are played. The list says what its cases show.
+
+pub const LIST: &str =
+    r"# The evaluator: games won and lost, its own bound, and the refusals of tables ahead of it.
 # game|name|prefix|clauses.
 
 # The lettered positions.
@@ -28,3 +31,4 @@ game|16 variables, one before the last|ea1..16|15 16 0
 game|17 variables|ea1..17|17 0
 game|17 times variable 1|51*1|
 game|50 words|ea1..16 17 1|
+";

@@ -1,4 +1,7 @@
-# Reading: texts that are read, with the whole of both tables, and texts that are refused.
+// Texts that are read. The list says what its cases show.
+
+pub const LIST: &str =
+    r"# Reading: texts that are read, with the whole of both tables, and texts that are refused.
 # text|name|text, then |prefix words|clause words where the tables lent have other lengths than 12 and 6.
 
 # The known positions of texts.
@@ -196,3 +199,4 @@ blank|1,048,577 bytes|1048577
 
 # A text cut at each byte.
 cuts|c\np cnf 1 1\na 1 0\n-1 0\n
+";

@@ -1,4 +1,7 @@
-# What a proof is refused for before its steps, and the starts that steps find: tables, scratch, starts, and the order of these.
+// What comes before the steps of a proof. The list says what its cases show.
+
+pub const LIST: &str =
+    r"# What a proof is refused for before its steps, and the starts that steps find: tables, scratch, starts, and the order of these.
 # formula|prefix|clauses, for the proofs behind it.
 # proof|name|steps, then |scratch bytes|starts where the buffers lent have other lengths than 8200 and 16.
 
@@ -83,3 +86,4 @@ proof|1,048,577 step words, scratch 8,199|1048577*0|8199|1
 proof|1,048,576 step words, scratch 8,199|1048576*0|8199|1
 formula||0
 proof|1,048,577 step words, behind an empty clause|1048577*0|8200|1
+";

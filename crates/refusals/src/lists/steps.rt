@@ -1,4 +1,7 @@
-# Steps that are refused, each reason with its place; steps that are wrong in two ways, for the order of reasons; steps that are right.
+// Ordinary proofs. The list says what its cases show.
+
+pub const LIST: &str =
+    r"# Steps that are refused, each reason with its place; steps that are wrong in two ways, for the order of reasons; steps that are right.
 # The example's four clauses leave the number 5 to the first step.
 # formula|prefix|clauses, for the proofs behind it.
 # proof|name|steps.
@@ -186,3 +189,4 @@ proof|an empty input clause and a lone word|9
 proof|an empty input clause and a wrong step|2 1 -1 0
 proof|an empty input clause and a broken step|2 1
 proof|the empty input clause reduced|2 2 1 0
+";

@@ -1,4 +1,7 @@
-# Dependency rows: the rows of the lettered positions, refusals and their order, buffers that are short or long.
+// Rows that are asked for. The list says what its cases show.
+
+pub const LIST: &str =
+    r"# Dependency rows: the rows of the lettered positions, refusals and their order, buffers that are short or long.
 # row|name|prefix|clauses|variable, then |scratch bytes|row bytes where the buffers lent have other lengths than 8200 and 1025.
 
 # The lettered positions.
@@ -38,3 +41,4 @@ row|1,024 bytes, asked for 2|1 2 1  2 1 2|1 2 0 -1 -2 0|2|8200|1024
 row|scratch 8,199|1 2 1  2 1 2|1 2 0 -1 -2 0|1|8199|1025
 row|no buffers|1 2 1  2 1 2|1 2 0 -1 -2 0|1|0|0
 row|1,040 bytes, scratch 9,000|1 2 1  2 1 2|1 2 0 -1 -2 0|1|9000|1040
+";

@@ -1,4 +1,6 @@
-# Writing: the text, read back; room to the byte; the refusals of tables.
+// Tables that are written. The list says what its cases show.
+
+pub const LIST: &str = r"# Writing: the text, read back; room to the byte; the refusals of tables.
 # written|name|prefix|clauses|bytes of the text lent.
 # rewritten|name|text, whose tables are written into 64 bytes. long|name|prefix|bytes, where the text is not shown.
 
@@ -28,3 +30,4 @@ written|tables refused ahead of room|1 1 1|2 0|0
 # The longest prefix, in one block or in 1,024, written and read back.
 long|1,024 variables|e1..1024|9000
 long|1,024 variables, 1,024 blocks|ea1..1024|9000
+";

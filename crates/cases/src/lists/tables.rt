@@ -1,4 +1,6 @@
-# The check of tables: each of its refusals with its place, and the bounds.
+// Tables that are checked. The list says what its cases show.
+
+pub const LIST: &str = r"# The check of tables: each of its refusals with its place, and the bounds.
 # tables|name|prefix|clauses.
 
 # Tables that pass.
@@ -111,3 +113,4 @@ tables|repeated ahead of out of range|1 1 1|1 1 2000 0
 tables|out of range ahead of repeated|1 1 1|2000 1 1 0
 tables|last clause not closed|1 1 1  2 1 1|1 0 2
 tables|unbound ahead of not closed|1 1 1|1 2
+";

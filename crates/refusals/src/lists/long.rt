@@ -1,4 +1,7 @@
-# Steps of long-distance proofs, kinds 3 and 4 (02, P14), in the order of what refuses them: reading and families, antecedents, pivots,
+// Long-distance proofs. The list says what its cases show.
+
+pub const LIST: &str =
+    r"# Steps of long-distance proofs, kinds 3 and 4 (02, P14), in the order of what refuses them: reading and families, antecedents, pivots,
 # statements, opposed pairs across the antecedents, pairs that an antecedent holds whole, reductions of both signs, the end.
 # The example's four clauses leave the number 5 to the first step.
 # formula|prefix|clauses, for the proofs behind it.
@@ -257,3 +260,4 @@ proof|the word 4 behind an empty input clause|4
 formula|1 1 1  2 2 2|1 2 0 -1 -2 0
 proof|kind 4 behind a pair removed|3 1 2 1 -2 2 0 4 3 2 0 4 3 2 0
 proof|kind 1 behind a pair removed|3 1 2 1 -2 2 0 4 3 2 0 1 1 2 1 0
+";
