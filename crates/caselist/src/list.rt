@@ -1,5 +1,5 @@
 // A list of cases: a text of lines, a case a line, whose fields are parted by bars. A line that begins with # says what the cases behind
-// it show; it and an empty line are passed over. The test programs hold their lists, so that they print the same wherever they are run.
+// it show; it and an empty line are passed over. The test programs hold their lists, and read none from a file.
 ghost use Rattle.std.specs.Prelude.{ℕ, MatchResult};
 ghost use Rattle.caselist.specs.Numbers.{IsPair};
 

@@ -1,5 +1,5 @@
 // The words that a field writes: decimal numbers of 32 bits, parted by blanks.
-ghost use Rattle.std.specs.Prelude.{◌≡◌, ◌++◌, true, false, eqb, ltb, List, length, drop, replicate, ℤ, MatchOption, IfOk, OnOk};
+ghost use Rattle.std.specs.Prelude.{◌≡◌, ◌≤◌, ◌++◌, true, false, eqb, ltb, List, length, drop, replicate, ℤ, MatchOption, IfOk, OnOk};
 ghost use Rattle.std.specs.List.{starts_with, position_or_len, before_first, after_first};
 ghost use Rattle.caselist.specs.Clear.{sevens};
 ghost use Rattle.caselist.specs.Tokens.{record_of, records_to, WritesRepeated, TokenWrites, FieldWrites};
@@ -87,6 +87,21 @@ pub fn words(alloc: Global, field: &str) -> Result<Vec<i32>>
     Ok(words)
 }
 
+// Puts the words of a field to the start of a table that is lent, and answers how many: words that find no room are left out, and 0 stands for what is
+// no word. It asks for no memory, and so cannot fail.
+pub fn words_into(field: &str, table: &mut [i32]) -> usize
+    ensures { result ≤ length table.old }
+{
+    let mut n = 0;
+    for token in field.split_whitespace() {
+        if n < table.len() {
+            table[n] = token.parse().unwrap_or(0);
+            n += 1;
+        }
+    }
+    n
+}
+
 // The two tables of a formula.
 #[derive(Drop)]
 pub struct Tables {
@@ -130,6 +145,16 @@ mod tests {
         let tables = Tables::parse(rt.alloc(), "1 2 1", "-1 0")?;
         assert_eq!(rt; tables.prefix.as_slice(), [1, 2, 1].as_slice());
         assert_eq!(rt; tables.clauses.as_slice(), [-1, 0].as_slice());
+        Ok(())
+    }
+
+    #[test]
+    fn words_are_put(rt: HostRuntime) -> Result<(), Fail> {
+        let mut table = [7; 4];
+        assert_eq!(rt; words_into("5 -6 x", &mut table), 3);
+        assert_eq!(rt; table, [5, -6, 0, 7]);
+        assert_eq!(rt; words_into("1 2 3 4 5", &mut table), 4);
+        assert_eq!(rt; table, [1, 2, 3, 4]);
         Ok(())
     }
 

@@ -6,13 +6,13 @@ ghost use Rattle.formula.specs.Decode.{matrix_of};
 ghost use Rattle.evaluator.specs.Evaluation.{unset, evaluation_of};
 
 use crate::turns::{existential_turn, universal_due, universal_turn};
-use formula::bounds::AtMost;
+use formula::bounds::{AtMost, GAME_VARIABLES};
 use formula::prefix::Prefix;
 use formula::refusal::{Reason, Refusal};
 use formula::tables::{Tables, check_tables};
 
 // How many variables a game has that is played.
-pub type GameLength = AtMost<16>;
+pub type GameLength = AtMost<GAME_VARIABLES>;
 
 // The first position is lost: the side of the first variable begins.
 fn first_lost(prefix: Prefix, clauses: &[i32]) -> bool

@@ -16,49 +16,61 @@ impl<const MAX: usize> AtMost<MAX> {
     }
 }
 
-// Each bound's constant stands with its instance: what a generic type's constant is, no proof is told.
-impl AtMost<1_048_576> {
-    pub const MAX: usize = 1_048_576;
+// Each bound: its number, the name of its instance, and the instance's constant, which is not the generic type's, since of that no proof is told what it is.
+
+// How many bytes a text has.
+pub const TEXT_BYTES: usize = 1_048_576;
+
+pub type TextLength = AtMost<TEXT_BYTES>;
+
+impl AtMost<TEXT_BYTES> {
+    pub const MAX: usize = TEXT_BYTES;
 }
 
-impl AtMost<3_072> {
-    pub const MAX: usize = 3_072;
+// How many words a prefix has, three an entry.
+pub const PREFIX_WORDS: usize = 3_072;
+
+pub type PrefixLength = AtMost<PREFIX_WORDS>;
+
+impl AtMost<PREFIX_WORDS> {
+    pub const MAX: usize = PREFIX_WORDS;
 }
+
+// How many words a clause table has.
+pub const MATRIX_WORDS: usize = 65_536;
+
+pub type MatrixLength = AtMost<MATRIX_WORDS>;
 
 impl AtMost<MATRIX_WORDS> {
     pub const MAX: usize = MATRIX_WORDS;
 }
 
-impl AtMost<8_192> {
-    pub const MAX: usize = 8_192;
-}
+// How many words the steps of a proof have: as many as a text has bytes, so that it is the same instance.
+pub const STEP_WORDS: usize = 1_048_576;
 
-impl AtMost<1_024> {
-    pub const MAX: usize = 1_024;
-}
-
-// A game's, of the evaluator.
-impl AtMost<16> {
-    pub const MAX: usize = 16;
-}
-
-// How many bytes a text has.
-pub type TextLength = AtMost<1_048_576>;
-
-// How many words a prefix has, three an entry.
-pub type PrefixLength = AtMost<3_072>;
-
-// How many words a clause table has.
-pub type MatrixLength = AtMost<MATRIX_WORDS>;
-
-// That bound by a name of its own, with which the reader compares what it has used.
-pub const MATRIX_WORDS: usize = 65_536;
-
-// How many words the steps of a proof have.
-pub type ProofLength = AtMost<1_048_576>;
+pub type ProofLength = AtMost<STEP_WORDS>;
 
 // How many variables a prefix lists, or a header announces.
-pub type VariableCount = AtMost<1_024>;
+pub const VARIABLE_COUNT: usize = 1_024;
+
+pub type VariableCount = AtMost<VARIABLE_COUNT>;
+
+impl AtMost<VARIABLE_COUNT> {
+    pub const MAX: usize = VARIABLE_COUNT;
+}
 
 // How many input clauses a table holds, or a header announces.
-pub type ClauseCount = AtMost<8_192>;
+pub const CLAUSE_COUNT: usize = 8_192;
+
+pub type ClauseCount = AtMost<CLAUSE_COUNT>;
+
+impl AtMost<CLAUSE_COUNT> {
+    pub const MAX: usize = CLAUSE_COUNT;
+}
+
+// How many variables a game has that the evaluator plays, which names the instance.
+pub const GAME_VARIABLES: usize = 16;
+
+impl AtMost<GAME_VARIABLES> {
+    pub const MAX: usize = GAME_VARIABLES;
+}

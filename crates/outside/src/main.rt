@@ -6,7 +6,6 @@ use evaluator::evaluation::evaluate;
 use files::{print_first, print_number, read_file};
 use formula::read::read_formula;
 use report::program::program_line;
-use std::alloc::AllocError;
 use std::rt::Files;
 
 // Prints bytes.
@@ -59,45 +58,125 @@ fn judge(rt: &(impl Print + Eprint), name: &str, formula: &[u8], proof: &[u8]) {
     play(rt, formula);
 }
 
-// Both judges on a proof from outside, by the name of its folder. Of a file as many bytes are read as the first program takes, and one more.
-fn outside(rt: &(impl Files + Print + Eprint + AllocGlobal), name: &str) -> Result<(), AllocError> {
-    let formula_path = format!(in rt.alloc(); "{name}/formula.qdimacs")?;
-    let proof_path = format!(in rt.alloc(); "{name}/proof.qdr")?;
+// Both judges on a proof from outside, by its name and the paths of its two files. Of a file as many bytes are read as the first program takes, and one more.
+fn outside(rt: &(impl Files + Print + Eprint), name: &str, formula_path: &str, proof_path: &str) {
     let mut formula = [0u8; 65_537];
     let mut proof = [0u8; 65_537];
     let n = read_file(rt, formula_path.as_bytes(), &mut formula);
     let m = read_file(rt, proof_path.as_bytes(), &mut proof);
     judge(rt, name, &formula[..n], &proof[..m]);
-    Ok(())
 }
 
-// All of them.
-fn main(rt: HostRuntime) -> Result<(), AllocError> {
-    let names = [
-        "copies-qpup-nosdcl",
-        "equality100-trad-nosdcl-shifted",
-        "equality150-trad-nosdcl-shifted",
-        "equality16-trad-nosdcl-shifted",
-        "equality2-qpup-nosdcl-shifted",
-        "equality2-trad-nosdcl-shifted",
-        "equality3-trad-nosdcl",
-        "game-qpup",
-        "game-trad",
-        "kbkf1-qpup-nosdcl",
-        "kbkf5-trad",
-        "kbkf6-trad-nosdcl",
-        "kbkf6-trad-shifted",
-        "mixed-trad-nosdcl-shifted",
-        "parity3-trad-shifted",
-        "parity4-qpup-nosdcl",
-        "rand2qbf-qpup-nosdcl-shifted",
-        "rand3qbf-qpup-nosdcl",
-        "rand3qbf-qpup-shifted",
-        "rand3qbf-trad-shifted",
-        "rand3qbf-trad-shifted-b",
+// All of them: the paths stand whole, so that nothing asks for memory.
+fn main(rt: HostRuntime) {
+    let proofs = [
+        (
+            "copies-qpup-nosdcl",
+            "copies-qpup-nosdcl/formula.qdimacs",
+            "copies-qpup-nosdcl/proof.qdr",
+        ),
+        (
+            "equality100-trad-nosdcl-shifted",
+            "equality100-trad-nosdcl-shifted/formula.qdimacs",
+            "equality100-trad-nosdcl-shifted/proof.qdr",
+        ),
+        (
+            "equality150-trad-nosdcl-shifted",
+            "equality150-trad-nosdcl-shifted/formula.qdimacs",
+            "equality150-trad-nosdcl-shifted/proof.qdr",
+        ),
+        (
+            "equality16-trad-nosdcl-shifted",
+            "equality16-trad-nosdcl-shifted/formula.qdimacs",
+            "equality16-trad-nosdcl-shifted/proof.qdr",
+        ),
+        (
+            "equality2-qpup-nosdcl-shifted",
+            "equality2-qpup-nosdcl-shifted/formula.qdimacs",
+            "equality2-qpup-nosdcl-shifted/proof.qdr",
+        ),
+        (
+            "equality2-trad-nosdcl-shifted",
+            "equality2-trad-nosdcl-shifted/formula.qdimacs",
+            "equality2-trad-nosdcl-shifted/proof.qdr",
+        ),
+        (
+            "equality3-trad-nosdcl",
+            "equality3-trad-nosdcl/formula.qdimacs",
+            "equality3-trad-nosdcl/proof.qdr",
+        ),
+        (
+            "game-qpup",
+            "game-qpup/formula.qdimacs",
+            "game-qpup/proof.qdr",
+        ),
+        (
+            "game-trad",
+            "game-trad/formula.qdimacs",
+            "game-trad/proof.qdr",
+        ),
+        (
+            "kbkf1-qpup-nosdcl",
+            "kbkf1-qpup-nosdcl/formula.qdimacs",
+            "kbkf1-qpup-nosdcl/proof.qdr",
+        ),
+        (
+            "kbkf5-trad",
+            "kbkf5-trad/formula.qdimacs",
+            "kbkf5-trad/proof.qdr",
+        ),
+        (
+            "kbkf6-trad-nosdcl",
+            "kbkf6-trad-nosdcl/formula.qdimacs",
+            "kbkf6-trad-nosdcl/proof.qdr",
+        ),
+        (
+            "kbkf6-trad-shifted",
+            "kbkf6-trad-shifted/formula.qdimacs",
+            "kbkf6-trad-shifted/proof.qdr",
+        ),
+        (
+            "mixed-trad-nosdcl-shifted",
+            "mixed-trad-nosdcl-shifted/formula.qdimacs",
+            "mixed-trad-nosdcl-shifted/proof.qdr",
+        ),
+        (
+            "parity3-trad-shifted",
+            "parity3-trad-shifted/formula.qdimacs",
+            "parity3-trad-shifted/proof.qdr",
+        ),
+        (
+            "parity4-qpup-nosdcl",
+            "parity4-qpup-nosdcl/formula.qdimacs",
+            "parity4-qpup-nosdcl/proof.qdr",
+        ),
+        (
+            "rand2qbf-qpup-nosdcl-shifted",
+            "rand2qbf-qpup-nosdcl-shifted/formula.qdimacs",
+            "rand2qbf-qpup-nosdcl-shifted/proof.qdr",
+        ),
+        (
+            "rand3qbf-qpup-nosdcl",
+            "rand3qbf-qpup-nosdcl/formula.qdimacs",
+            "rand3qbf-qpup-nosdcl/proof.qdr",
+        ),
+        (
+            "rand3qbf-qpup-shifted",
+            "rand3qbf-qpup-shifted/formula.qdimacs",
+            "rand3qbf-qpup-shifted/proof.qdr",
+        ),
+        (
+            "rand3qbf-trad-shifted",
+            "rand3qbf-trad-shifted/formula.qdimacs",
+            "rand3qbf-trad-shifted/proof.qdr",
+        ),
+        (
+            "rand3qbf-trad-shifted-b",
+            "rand3qbf-trad-shifted-b/formula.qdimacs",
+            "rand3qbf-trad-shifted-b/proof.qdr",
+        ),
     ];
-    for name in names {
-        outside(&rt, name)?;
+    for (name, formula, proof) in proofs {
+        outside(&rt, name, formula, proof);
     }
-    Ok(())
 }
