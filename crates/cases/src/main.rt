@@ -1,7 +1,7 @@
 // Worked cases of text, tables, writing, rows and games, run through the library: the known positions of the specification that
 // have no letter, each refusal of text and of tables and those that writing, rows and games add, and the order of refusals. The cases
 // stand in the lists of lists/. Each line printed names its case and gives the answer; the file stdout beside src/ holds what the
-// specification says of each. What a proof and its file are refused for is in the program `refusals`.
+// specification says of each. What cannot be written is passed over. What a proof and its file are refused for is in the program `refusals`.
 #![tactic(auto)]
 
 mod games;

@@ -3,6 +3,7 @@
 // (lists/steps) and long-distance ones (lists/long); what comes before the steps (lists/buffers); and the entries that ask for 640 bytes of
 // scratch, for a proof and for a row (lists/small). Each line printed names its case, gives the answer and tells whether the buffers lent
 // were left wholly 0, of a row that was filled the scratch; the file stdout beside src/ was worked out from the specification.
+// What cannot be written is passed over.
 #![tactic(auto)]
 
 mod file;
