@@ -15,11 +15,10 @@ pub fn case(
     print!(rt; "file, {name}: ").unwrap_or(());
     match read_proof(file, u32::try_from(clauses)?, &mut table) {
         Ok(words) => println!(rt; "read {words}, table{}", Words(&table)).unwrap_or(()),
-        Err(r) => println!(rt;
-            "{}, table {}",
-            Refused(r),
-            clear_or_not(is_clear(&table))
-        ).unwrap_or(()),
+        Err(r) => {
+            let left = clear_or_not(is_clear(&table));
+            println!(rt; "{}, table {left}", Refused(r)).unwrap_or(());
+        }
     }
     Ok(())
 }

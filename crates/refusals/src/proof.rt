@@ -25,9 +25,10 @@ fn judged<'a, F: FnOnce(&[i32], &'a [i32], &'a [i32], &mut [u8], &mut [u32]) -> 
         &mut scratch,
         &mut starts,
     ) {
-        Ok(accepted) => print!(rt; "accepted {} {}", accepted.empty.0, accepted.steps).unwrap_or(
-            (),
-        ),
+        Ok(accepted) => {
+            let (empty, steps) = (accepted.empty.0, accepted.steps);
+            print!(rt; "accepted {empty} {steps}").unwrap_or(());
+        }
         Err(r) => print!(rt; "{}", Refused(r)).unwrap_or(()),
     }
     let clear = is_clear(&scratch) && is_clear(&starts);
